@@ -1,0 +1,66 @@
+// What is handed back (document 01, "Numbers handed back"): an enum for each kind of answer. specs/Numbers.antt gives the
+// document's number and values for each case.
+use ir::RowNumber;
+use ir::TypeInner;
+use ir::TypeNumber;
+
+// What reading a file gives. A place is the number of a line or of a frame, from 0.
+pub enum Outcome {
+    Accepted { frames: usize },
+    Long,
+    Torn { line: u16 },
+    Short,
+    Order { frame: u16 },
+    Field { frame: u16 },
+    Index { frame: u16 },
+}
+
+// The type that a row was given: a type of the file, by number, or a value. The source's TypeResolution.
+pub enum TypeResolution {
+    Handle(TypeNumber),
+    Value(TypeInner),
+}
+
+// Why a row has no type. The source's ResolveError, without its texts.
+pub enum Refusal {
+    OutOfBoundsIndex { expr: RowNumber, index: u32 },
+    InvalidAccess { expr: RowNumber, indexed: bool },
+    InvalidSubAccess { ty: TypeNumber, indexed: bool },
+    InvalidScalar(RowNumber),
+    InvalidVector(RowNumber),
+    InvalidPointer(RowNumber),
+    InvalidImage(RowNumber),
+    FunctionReturnsVoid,
+    IncompatibleOperands,
+    FunctionArgumentNotFound(u32),
+    MissingSpecialType,
+}
+
+// A row's answer. Newer is the port's own: the reading met something that this reader does not type, at that row.
+pub enum Answer {
+    Resolved(TypeResolution),
+    Refused(Refusal),
+    Newer { row: RowNumber },
+}
+
+// What a compose is judged: the source's Ok and ComposeError, and the port's own cases for a component row that was refused
+// and for what is newer. Components count from 0 within their compose.
+pub enum Verdict {
+    Passes,
+    ComposedType,
+    ComponentCount { expected: u32, given: u32 },
+    ComponentType { index: u32 },
+    ComponentRefused { index: u32 },
+    NewerComposed,
+    NewerComponent { index: u32 },
+}
+
+// What comparing two answers gives.
+pub enum Sameness {
+    Same,
+    Different,
+    Newer,
+    Field,
+    Index,
+    NotAccepted(Outcome),
+}
