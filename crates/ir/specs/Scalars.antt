@@ -1,0 +1,39 @@
+-- The scalar's own constants (document 01, "Constants such as U32, BOOL and F32 belong to the scalar itself"; type_methods.rs).
+use Rattle.ir.specs.declared.Scalar.{Scalar}
+use Rattle.ir.specs.declared.ScalarKind.the-variants as Sk
+
+abbrev pub I16 : Scalar
+I16 = record { kind = Sk.Sint; width = 2 }
+
+abbrev pub U16 : Scalar
+U16 = record { kind = Sk.Uint; width = 2 }
+
+abbrev pub I32 : Scalar
+I32 = record { kind = Sk.Sint; width = 4 }
+
+abbrev pub U32 : Scalar
+U32 = record { kind = Sk.Uint; width = 4 }
+
+abbrev pub F16 : Scalar
+F16 = record { kind = Sk.Float; width = 2 }
+
+abbrev pub F32 : Scalar
+F32 = record { kind = Sk.Float; width = 4 }
+
+abbrev pub F64 : Scalar
+F64 = record { kind = Sk.Float; width = 8 }
+
+abbrev pub I64 : Scalar
+I64 = record { kind = Sk.Sint; width = 8 }
+
+abbrev pub U64 : Scalar
+U64 = record { kind = Sk.Uint; width = 8 }
+
+abbrev pub BOOL : Scalar
+BOOL = record { kind = Sk.Bool; width = 1 }
+
+abbrev pub ABSTRACT-INT : Scalar
+ABSTRACT-INT = record { kind = Sk.AbstractInt; width = 8 }
+
+abbrev pub ABSTRACT-FLOAT : Scalar
+ABSTRACT-FLOAT = record { kind = Sk.AbstractFloat; width = 8 }
