@@ -1,0 +1,5 @@
+pub mod Bytes
+pub mod Fields
+pub mod Layout
+pub mod Forms
+pub mod Out

@@ -1,0 +1,461 @@
+// The type, member, item, row, component or answer that a frame stands for.
+use super::Frame;
+use ir::AddressSpace;
+use ir::ArraySize;
+use ir::BinaryOperator;
+use ir::ComponentNumber;
+use ir::CooperativeRole;
+use ir::CooperativeSize;
+use ir::Expression;
+use ir::FunctionResult;
+use ir::ImageClass;
+use ir::ImageDimension;
+use ir::ImageQuery;
+use ir::Item;
+use ir::ItemKind;
+use ir::ItemNumber;
+use ir::Literal;
+use ir::MemberNumber;
+use ir::OptionBytes;
+use ir::OptionVectorSize;
+use ir::RelationalFunction;
+use ir::RowForm;
+use ir::RowKind;
+use ir::RowNumber;
+use ir::Scalar;
+use ir::ScalarKind;
+use ir::StorageAccess;
+use ir::StorageFormat;
+use ir::StructMember;
+use ir::TypeForm;
+use ir::TypeInner;
+use ir::TypeKind;
+use ir::TypeNumber;
+use ir::VectorSize;
+ghost use mathlib.Core.Path.{_≡_};
+ghost use Prim.Native.Nat.{_+_, _*_};
+ghost use Rattle.frames.specs.Bytes.{half, word};
+ghost use Rattle.frames.specs.Fields.{read, scalar, class, optionSizeOf, arraySizeOf, resultOf, convertOf};
+ghost use Rattle.frames.specs.Forms.{typeAs, itemAs, rowAs, typeOf, itemOf, rowOf, memberOf, componentOf};
+
+// A number in two bytes, the low one first.
+fn le16(a: u8, b: u8) -> u16
+    ensures { λ r. ⌜ r ≡ a + b * 256 ⌝ }
+{
+    (a as u16) + (b as u16) * 256
+}
+
+// A number in four bytes, the low one first.
+fn le32(a: u8, b: u8, c: u8, d: u8) -> u32
+    ensures { λ r. ⌜ r ≡ a + b * 256 + c * 65536 + d * 16777216 ⌝ }
+{
+    (a as u32) + (b as u32) * 256 + (c as u32) * 65536 + (d as u32) * 16777216
+}
+
+fn option_size(b: u8) -> OptionVectorSize
+    ensures { λ r. ⌜ r ≡ optionSizeOf b ⌝ }
+{
+    if b == 0 {
+        return OptionVectorSize::None;
+    }
+    let size = VectorSize::from_number(b);
+    OptionVectorSize::Some(size)
+}
+
+fn array_size(form: u8, n: u32) -> ArraySize
+    ensures { λ r. ⌜ r ≡ arraySizeOf form n ⌝ }
+{
+    match form {
+        0 => ArraySize::Constant(n),
+        1 => ArraySize::Pending(ItemNumber(n)),
+        _ => ArraySize::Dynamic,
+    }
+}
+
+fn function_result(b: u8, n: u16) -> FunctionResult
+    ensures { λ r. ⌜ r ≡ resultOf b n ⌝ }
+{
+    if b == 1 {
+        FunctionResult::Some(TypeNumber(n))
+    } else {
+        FunctionResult::None
+    }
+}
+
+fn converted(b: u8, width: u8) -> OptionBytes
+    ensures { λ r. ⌜ r ≡ convertOf b width ⌝ }
+{
+    if b == 1 {
+        OptionBytes::Some(width)
+    } else {
+        OptionBytes::None
+    }
+}
+
+impl Frame {
+    // Bytes 2 and 3: the type, row, item or member that a frame names.
+    fn named(self) -> u16
+        ensures { λ r. ⌜ r ≡ half self 2 ⌝ }
+    {
+        le16(self.b2, self.b3)
+    }
+
+    // Bytes 4 and 5: a count, or Binary's right.
+    fn second(self) -> u16
+        ensures { λ r. ⌜ r ≡ half self 4 ⌝ }
+    {
+        le16(self.b4, self.b5)
+    }
+
+    // Bytes 8 to 11: a count or an override.
+    fn third(self) -> u32
+        ensures { λ r. ⌜ r ≡ word self 8 ⌝ }
+    {
+        le32(self.b8, self.b9, self.b10, self.b11)
+    }
+
+    // Bytes 12 to 15: a stride, span, offset, index, argument or first component.
+    fn last(self) -> u32
+        ensures { λ r. ⌜ r ≡ word self 12 ⌝ }
+    {
+        le32(self.b12, self.b13, self.b14, self.b15)
+    }
+
+    // Bytes 4 and 5.
+    fn scalar(self) -> Scalar
+        ensures { λ r. ⌜ r ≡ read scalar self ⌝ }
+    {
+        let kind = ScalarKind::from_number(self.b4);
+        Scalar {
+            kind,
+            width: self.b5,
+        }
+    }
+
+    // Bytes 4 to 7.
+    fn image_class(self) -> ImageClass
+        ensures { λ r. ⌜ r ≡ read class self ⌝ }
+    {
+        let c = self.b4;
+        match c {
+            0 => {
+                let kind = ScalarKind::from_number(self.b5);
+                ImageClass::Sampled {
+                    kind,
+                    multi: self.b6 == 1,
+                }
+            }
+            1 => ImageClass::Depth {
+                multi: self.b6 == 1,
+            },
+            2 => ImageClass::External,
+            3 => {
+                let format = StorageFormat::from_number(self.b5);
+                let access = StorageAccess::from_number(self.b7);
+                ImageClass::Storage { format, access }
+            }
+            _ => ImageClass::External,
+        }
+    }
+
+    // A type: family 1, or a value of family 9.
+    pub fn type_form(self) -> TypeForm
+        ensures { λ r. ⌜ r ≡ typeOf self ⌝ }
+    {
+        type_as(TypeKind::from_number(self.b1), self)
+    }
+
+    // A member, family 2.
+    pub fn member(self) -> StructMember
+        ensures { λ r. ⌜ r ≡ memberOf self ⌝ }
+    {
+        let n = self.named();
+        let offset = self.last();
+        StructMember {
+            ty: TypeNumber(n),
+            offset,
+        }
+    }
+
+    // An item, family 3.
+    pub fn item(self) -> Item
+        ensures { λ r. ⌜ r ≡ itemOf self ⌝ }
+    {
+        item_as(ItemKind::from_number(self.b1), self)
+    }
+
+    // A row, family 4.
+    pub fn row_form(self) -> RowForm
+        ensures { λ r. ⌜ r ≡ rowOf self ⌝ }
+    {
+        row_as(RowKind::from_number(self.b1), self)
+    }
+
+    // A component, family 5.
+    pub fn component(self) -> RowNumber
+        ensures { λ r. ⌜ r ≡ componentOf self ⌝ }
+    {
+        let n = self.named();
+        RowNumber(n)
+    }
+}
+
+fn type_as(kind: TypeKind, f: Frame) -> TypeForm
+    ensures { λ r. ⌜ r ≡ typeAs kind f ⌝ }
+{
+    match kind {
+        TypeKind::Unknown => TypeForm::Unknown,
+        TypeKind::Scalar => {
+            let scalar = f.scalar();
+            TypeForm::Known(TypeInner::Scalar(scalar))
+        }
+        TypeKind::Vector => {
+            let size = VectorSize::from_number(f.b2);
+            let scalar = f.scalar();
+            TypeForm::Known(TypeInner::Vector { size, scalar })
+        }
+        TypeKind::Matrix => {
+            let columns = VectorSize::from_number(f.b2);
+            let rows = VectorSize::from_number(f.b3);
+            let scalar = f.scalar();
+            TypeForm::Known(TypeInner::Matrix {
+                columns,
+                rows,
+                scalar,
+            })
+        }
+        TypeKind::CooperativeMatrix => {
+            let columns = CooperativeSize::from_number(f.b2);
+            let rows = CooperativeSize::from_number(f.b3);
+            let scalar = f.scalar();
+            let role = CooperativeRole::from_number(f.b6);
+            TypeForm::Known(TypeInner::CooperativeMatrix {
+                columns,
+                rows,
+                scalar,
+                role,
+            })
+        }
+        TypeKind::Atomic => {
+            let scalar = f.scalar();
+            TypeForm::Known(TypeInner::Atomic(scalar))
+        }
+        TypeKind::Pointer => {
+            let n = f.named();
+            let space = AddressSpace::from_number(f.b6, f.b7);
+            TypeForm::Known(TypeInner::Pointer {
+                base: TypeNumber(n),
+                space,
+            })
+        }
+        TypeKind::ValuePointer => {
+            let size = option_size(f.b2);
+            let scalar = f.scalar();
+            let space = AddressSpace::from_number(f.b6, f.b7);
+            TypeForm::Known(TypeInner::ValuePointer {
+                size,
+                scalar,
+                space,
+            })
+        }
+        TypeKind::Array => {
+            let n = f.named();
+            let size = array_size(f.b4, f.third());
+            let stride = f.last();
+            TypeForm::Known(TypeInner::Array {
+                base: TypeNumber(n),
+                size,
+                stride,
+            })
+        }
+        TypeKind::Struct => {
+            let n = f.named();
+            let count = f.second();
+            let span = f.last();
+            TypeForm::Known(TypeInner::Struct {
+                first: MemberNumber(n),
+                count,
+                span,
+            })
+        }
+        TypeKind::Image => {
+            let dim = ImageDimension::from_number(f.b2);
+            let class = f.image_class();
+            TypeForm::Known(TypeInner::Image {
+                dim,
+                arrayed: f.b3 == 1,
+                class,
+            })
+        }
+        TypeKind::Sampler => TypeForm::Known(TypeInner::Sampler {
+            comparison: f.b2 == 1,
+        }),
+        TypeKind::AccelerationStructure => TypeForm::Known(TypeInner::AccelerationStructure {
+            vertex_return: f.b2 == 1,
+        }),
+        TypeKind::RayQuery => TypeForm::Known(TypeInner::RayQuery {
+            vertex_return: f.b2 == 1,
+        }),
+        TypeKind::BindingArray => {
+            let n = f.named();
+            let size = array_size(f.b4, f.third());
+            TypeForm::Known(TypeInner::BindingArray {
+                base: TypeNumber(n),
+                size,
+            })
+        }
+    }
+}
+
+fn item_as(kind: ItemKind, f: Frame) -> Item
+    ensures { λ r. ⌜ r ≡ itemAs kind f ⌝ }
+{
+    let n = f.named();
+    match kind {
+        ItemKind::Unknown => Item::Unknown,
+        ItemKind::Constant => Item::Constant { ty: TypeNumber(n) },
+        ItemKind::Override => Item::Override { ty: TypeNumber(n) },
+        ItemKind::GlobalVariable => {
+            let space = AddressSpace::from_number(f.b6, f.b7);
+            Item::GlobalVariable {
+                ty: TypeNumber(n),
+                space,
+            }
+        }
+        ItemKind::FunctionArgument => Item::FunctionArgument { ty: TypeNumber(n) },
+        ItemKind::LocalVariable => Item::LocalVariable { ty: TypeNumber(n) },
+        ItemKind::Function => {
+            let result = function_result(f.b4, n);
+            Item::Function { result }
+        }
+        ItemKind::RayIntersection => Item::RayIntersection { ty: TypeNumber(n) },
+        ItemKind::RayVertexReturn => Item::RayVertexReturn { ty: TypeNumber(n) },
+    }
+}
+
+fn row_as(kind: RowKind, f: Frame) -> RowForm
+    ensures { λ r. ⌜ r ≡ rowAs kind f ⌝ }
+{
+    let n = f.named();
+    match kind {
+        RowKind::Unknown => RowForm::Unknown,
+        RowKind::Literal => {
+            let literal = Literal::from_number(f.b6);
+            RowForm::Known(Expression::Literal(literal))
+        }
+        RowKind::Constant => RowForm::Known(Expression::Constant(ItemNumber(n as u32))),
+        RowKind::Override => RowForm::Known(Expression::Override(ItemNumber(n as u32))),
+        RowKind::ZeroValue => RowForm::Known(Expression::ZeroValue(TypeNumber(n))),
+        RowKind::Compose => {
+            let count = f.second();
+            let first = f.last();
+            RowForm::Known(Expression::Compose {
+                ty: TypeNumber(n),
+                count,
+                first: ComponentNumber(first),
+            })
+        }
+        RowKind::Access => RowForm::Known(Expression::Access { base: RowNumber(n) }),
+        RowKind::AccessIndex => {
+            let index = f.last();
+            RowForm::Known(Expression::AccessIndex {
+                base: RowNumber(n),
+                index,
+            })
+        }
+        RowKind::Splat => {
+            let size = VectorSize::from_number(f.b6);
+            RowForm::Known(Expression::Splat {
+                size,
+                value: RowNumber(n),
+            })
+        }
+        RowKind::Swizzle => {
+            let size = VectorSize::from_number(f.b6);
+            RowForm::Known(Expression::Swizzle {
+                size,
+                vector: RowNumber(n),
+            })
+        }
+        RowKind::FunctionArgument => {
+            let index = f.last();
+            RowForm::Known(Expression::FunctionArgument(index))
+        }
+        RowKind::GlobalVariable => RowForm::Known(Expression::GlobalVariable(ItemNumber(n as u32))),
+        RowKind::LocalVariable => RowForm::Known(Expression::LocalVariable(ItemNumber(n as u32))),
+        RowKind::Load => RowForm::Known(Expression::Load {
+            pointer: RowNumber(n),
+        }),
+        RowKind::ImageSample => RowForm::Known(Expression::ImageSample {
+            image: RowNumber(n),
+            gather: f.b6 == 1,
+        }),
+        RowKind::ImageLoad => RowForm::Known(Expression::ImageLoad {
+            image: RowNumber(n),
+        }),
+        RowKind::ImageQuery => {
+            let query = ImageQuery::from_number(f.b6);
+            RowForm::Known(Expression::ImageQuery {
+                image: RowNumber(n),
+                query,
+            })
+        }
+        RowKind::Unary => RowForm::Known(Expression::Unary { expr: RowNumber(n) }),
+        RowKind::Binary => {
+            let op = BinaryOperator::from_number(f.b6);
+            let right = f.second();
+            RowForm::Known(Expression::Binary {
+                op,
+                left: RowNumber(n),
+                right: RowNumber(right),
+            })
+        }
+        RowKind::Select => RowForm::Known(Expression::Select {
+            accept: RowNumber(n),
+        }),
+        RowKind::Derivative => RowForm::Known(Expression::Derivative { expr: RowNumber(n) }),
+        RowKind::Relational => {
+            let fun = RelationalFunction::from_number(f.b6);
+            RowForm::Known(Expression::Relational {
+                fun,
+                argument: RowNumber(n),
+            })
+        }
+        RowKind::Math => RowForm::Known(Expression::Math),
+        RowKind::As => {
+            let kind = ScalarKind::from_number(f.b6);
+            let convert = converted(f.b7, f.b8);
+            RowForm::Known(Expression::As {
+                expr: RowNumber(n),
+                kind,
+                convert,
+            })
+        }
+        RowKind::CallResult => RowForm::Known(Expression::CallResult(ItemNumber(n as u32))),
+        RowKind::AtomicResult => RowForm::Known(Expression::AtomicResult { ty: TypeNumber(n) }),
+        RowKind::WorkGroupUniformLoadResult =>
+            RowForm::Known(Expression::WorkGroupUniformLoadResult { ty: TypeNumber(n) }),
+        RowKind::ArrayLength => RowForm::Known(Expression::ArrayLength),
+        RowKind::RayQueryVertexPositions => RowForm::Known(Expression::RayQueryVertexPositions),
+        RowKind::RayQueryProceedResult => RowForm::Known(Expression::RayQueryProceedResult),
+        RowKind::RayQueryGetIntersection => RowForm::Known(Expression::RayQueryGetIntersection),
+        RowKind::SubgroupBallotResult => RowForm::Known(Expression::SubgroupBallotResult),
+        RowKind::SubgroupOperationResult => RowForm::Known(Expression::SubgroupOperationResult {
+            ty: TypeNumber(n),
+        }),
+        RowKind::CooperativeLoad => {
+            let columns = CooperativeSize::from_number(f.b6);
+            let rows = CooperativeSize::from_number(f.b7);
+            let role = CooperativeRole::from_number(f.b8);
+            RowForm::Known(Expression::CooperativeLoad {
+                columns,
+                rows,
+                role,
+                pointer: RowNumber(n),
+            })
+        }
+        RowKind::CooperativeMultiplyAdd => RowForm::Known(Expression::CooperativeMultiplyAdd {
+            c: RowNumber(n),
+        }),
+    }
+}
