@@ -16,7 +16,7 @@ use Rattle.scan.proofs.Laws.{and-first, and-second, all-each, each-all, none-al
 use Rattle.text.specs.Hex.{isDigit, digitValue}
 use Rattle.text.specs.Lines.{charAt, lineOk, lineCount, frameByte, byteOf}
 
-or-cases : (a b : Bool) → (a || b) ≡ true → (a ≡ true) ⊎ (b ≡ true)
+pub or-cases : (a b : Bool) → (a || b) ≡ true → (a ≡ true) ⊎ (b ≡ true)
 or-cases true b e = inl refl
 or-cases false b e = inr e
 
