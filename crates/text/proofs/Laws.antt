@@ -17,7 +17,7 @@ use Rattle.scan.specs.declared.Found.the-variants.{At, Nothing}
 use Rattle.scan.proofs.Laws.{by-test, LowestAt, found-at, at-found, none-all, lowest-all}
 use Rattle.scan.proofs.Fill.{length-build, getD-build}
 use Rattle.answers.specs.declared.Outcome.{Outcome}
-use Rattle.answers.specs.declared.Outcome.the-variants.{Accepted, Long, Torn, Short}
+use Rattle.answers.specs.declared.Outcome.the-variants.{Accepted, Long, Torn, Short, Order, Field, Index}
 use Rattle.text.specs.declared.AnswerRoom.{AnswerRoom}
 use Rattle.text.specs.declared.AnswerRoom.the-variants.{NotLent, Lent}
 use Rattle.text.specs.Lines.{lineOk, lineCount, frameByte, byteOf, decoded}
@@ -92,9 +92,10 @@ module _ (t : List ℕ) (f : ℕ) (room : AnswerRoom) where
 
   one-lacks : (tooShort t f room ≡ true) ↔ ((f < 16 * lineCount t) ⊎ RoomLacks room (answerBytes t))
   unfolding tooShort
-  one-lacks =
-      (λ e. ⊎-elim (λ a. inl (ltb-true _ _ a)) (λ b. inr (room-lacks room (answerBytes t) .0 b)) (or-cases (ltb f (16 * lineCount t)) _ e),
-      ⊎-elim (λ a. rw (lt-ltb f (16 * lineCount t) a)) (λ b. rw (room-lacks room (answerBytes t) .1 b) (or-true (ltb f (16 * lineCount t)))))
+  one-lacks = (
+    λ e. ⊎-elim (λ a. inl (ltb-true _ _ a)) (λ b. inr (room-lacks room (answerBytes t) .0 b)) (or-cases (ltb f (16 * lineCount t)) _ e),
+    ⊎-elim (λ a. rw (lt-ltb f (16 * lineCount t) a)) (λ b. rw (room-lacks room (answerBytes t) .1 b) (or-true (ltb f (16 * lineCount t)))),
+  )
 
   -- ---- each outcome, both ways
   -- what holds in each of the four cases holds of what reading gives
@@ -111,36 +112,46 @@ module _ (t : List ℕ) (f : ℕ) (room : AnswerRoom) where
           by-test P (tooShort t f room) (λ s. short (record { within = l; whole = w; lacks = one-lacks .0 s }))
           (λ s. accepted (record { within = l; whole = w; count = refl; frames = frames-fit s; answers = answers-fit s }))
 
+  -- two outcomes that differ are not equal
   never : {X : Type 0} → _≡_ {A = ℕ} 0 1 → X
   never z = absurd (omega arith)
 
+  -- number 1 is given exactly for a text of more than 33,792 bytes
   pub long-when : (readText t f room ≡ Long) ↔ (33792 < length t)
   unfolding readText
-  long-when =
-      (by-read (λ r. r ≡ Long → 33792 < length t) (λ l e. l) (λ k r e. never (cc)) (λ r e. never (cc)) (λ r e. never (cc)),
-      λ l. rw (lt-ltb 33792 (length t) l))
+  long-when = (
+    by-read (λ r. r ≡ Long → 33792 < length t) (λ l e. l) (λ k r e. never (cc)) (λ r e. never (cc)) (λ r e. never (cc)),
+    λ l. rw (lt-ltb 33792 (length t) l),
+  )
 
+  -- number 2 is given exactly for a text that is not too long and has a torn line, with the lowest
   pub torn-when : (k : ℕ) → (readText t f room ≡ Torn k) ↔ TornAt t k
   unfolding readText
-  torn-when k =
-      (by-read (λ r. r ≡ Torn k → TornAt t k) (λ l e. never (cc)) (λ j r e. let q : j ≡ k = cc in rw q at r) (λ r e. never (cc)) (λ r e. never (cc)),
-      λ r. rw (le-ltb 33792 (length t) (r .within), at-found (lineOk t) (lineCount t) k (r .line)))
+  torn-when k = (
+    by-read (λ r. r ≡ Torn k → TornAt t k) (λ l e. never (cc)) (λ j r e. let q : j ≡ k = cc in rw q at r) (λ r e. never (cc)) (λ r e. never (cc)),
+    λ r. rw (le-ltb 33792 (length t) (r .within), at-found (lineOk t) (lineCount t) k (r .line)),
+  )
 
+  -- number 3 is given exactly for a text of whole lines, not too long, with a buffer that is too small
   pub short-when : (readText t f room ≡ Short) ↔ TooSmall t f room
   unfolding readText
-  short-when =
-      (by-read (λ r. r ≡ Short → TooSmall t f room) (λ l e. never (cc)) (λ k r e. never (cc)) (λ r e. r) (λ r e. never (cc)),
-      λ r. rw (le-ltb 33792 (length t) (r .within), lowest-all (lineOk t) (lineCount t) (r .whole), one-lacks .1 (r .lacks)))
+  short-when = (
+    by-read (λ r. r ≡ Short → TooSmall t f room) (λ l e. never (cc)) (λ k r e. never (cc)) (λ r e. r) (λ r e. never (cc)),
+    λ r. rw (le-ltb 33792 (length t) (r .within), lowest-all (lineOk t) (lineCount t) (r .whole), one-lacks .1 (r .lacks)),
+  )
 
+  -- a text is accepted exactly where none of the three is given, and n is its number of lines
   pub accepted-when : (n : ℕ) → (readText t f room ≡ Accepted n) ↔ Readable t f room n
   unfolding readText
-  accepted-when n =
-      (by-read (λ r. r ≡ Accepted n → Readable t f room n) (λ l e. never (cc)) (λ k r e. never (cc)) (λ r e. never (cc))
-      (λ r e. let q : lineCount t ≡ n = cc in rw q at r),
-      λ r. let a : 16 * lineCount t ≤ f = rw (← r .count) (r .frames) in
-      rw (le-ltb 33792 (length t) (r .within), lowest-all (lineOk t) (lineCount t) (r .whole), both-fit a (r .answers), ← r .count))
+  accepted-when n = (
+    by-read (λ r. r ≡ Accepted n → Readable t f room n) (λ l e. never (cc)) (λ k r e. never (cc)) (λ r e. never (cc))
+        (λ r e. let q : lineCount t ≡ n = cc in rw q at r),
+    λ r. let a : 16 * lineCount t ≤ f = rw (← r .count) (r .frames) in
+        rw (le-ltb 33792 (length t) (r .within), lowest-all (lineOk t) (lineCount t) (r .whole), both-fit a (r .answers), ← r .count),
+  )
 
 -- ---- a text that is accepted, and its frames
+-- n frames are 16 n bytes
 pub length-decoded : (t : List ℕ) (n : ℕ) → length (decoded t n) ≡ 16 * n
 length-decoded t n = length-build (byteOf t) (16 * n)
 
@@ -149,15 +160,19 @@ pub decoded-at : (t : List ℕ) (n k j : ℕ) → k < n → j < 16 → getD (dec
 decoded-at t n k j l m = getD-build (byteOf t) (16 * n) (16 * k + j) (omega arith) ∙ sym (byte-of-line t k j m)
 
 module _ {t : List ℕ} {f : ℕ} {room : AnswerRoom} {n : ℕ} (r : Readable t f room n) where
+  -- it is n lines of 33 bytes
   pub length-read : length t ≡ 33 * n
   length-read = rw (r .count) (length-whole t (lowest-all (lineOk t) (lineCount t) (r .whole)))
 
+  -- it has at most 1,024 frames
   pub count-small : n ≤ 1024
   count-small = omega (arith, length-read, r .within)
 
+  -- each of its n lines is whole
   pub whole-line : (k : ℕ) → k < n → lineOk t k ≡ true
   whole-line k l = r .whole k (omega (arith, r .count))
 
+  -- its frames are made of bytes
   pub decoded-bytes : Bytes (decoded t n)
   decoded-bytes i =
       lt-of-not-le (λ big.
@@ -172,7 +187,18 @@ pub answers-by-frame : (t : List ℕ) (n k : ℕ) → k < n
 unfolding answerFrames
 answers-by-frame t n k l = rw (decoded-at t n k 0 l (omega arith), decoded-at t n k 1 l (omega arith))
 
--- ---- the frame buffer after a reading that accepted: fr before, last after
+-- ---- the frame buffer after a reading
+-- it is as it was unless the text was accepted
+pub unchanged : (t fr : List ℕ) (r : Outcome) → ((n : ℕ) → r ≡ Accepted n → ⊥) → framesRead r t fr ≡ fr
+unchanged t fr (Accepted n) h = absurd (h n refl)
+unchanged t fr Long h = refl
+unchanged t fr (Torn k) h = refl
+unchanged t fr Short h = refl
+unchanged t fr (Order k) h = refl
+unchanged t fr (Field k) h = refl
+unchanged t fr (Index k) h = refl
+
+-- where it was accepted: fr before, last after
 module _ (t fr last : List ℕ) (n : ℕ) (r : Outcome) (el : last ≡ framesRead r t fr) (er : r ≡ Accepted n) where
   is : last ≡ decoded t n ++ drop (16 * n) fr
   is = el ∙ ap (λ x. framesRead x t fr) er

@@ -1,21 +1,22 @@
 -- What a digit is, and what a whole line holds: by the tests of the definitions, and since no character past the end of a
 -- text is a line feed. Assumes nothing.
-use mathlib.Core.Path.{_≡_, refl, sym, ap, _∙_}
+use mathlib.Core.Path.{_≡_, refl, sym, _∙_}
 use mathlib.Core.Bool.{Bool, true, false, _&&_, _||_, and-false}
 use mathlib.Core.List.{List}
 use mathlib.Core.Logic.{_⊎_, inl, inr, ⊎-elim}
-use Prim.Native.Nat.{ℕ, zero, suc, _+_, _*_, _-_, _/_, _≤_, _<_}
+use Prim.Native.Nat.{ℕ, zero, suc, _+_, _*_, _≤_, _<_}
 use native.Mathlib.Nat.{lt-of-not-le}
 use native.Mathlib.Omega.{arith}
-use lib.Dec.{leb, ltb, eqb}
-use lib.ListN.{length, getD, List·getD-eq-default}
-use borrow.Author.Tests.{leb-true, ltb-true, eqb-true, le-leb, lt-ltb, le-ltb, eq-eqb}
+use lib.Dec.{leb, ltb}
+use lib.ListN.{length, List·getD-eq-default}
+use borrow.Author.Tests.{leb-true, ltb-true, eqb-true, lt-ltb, le-ltb}
 use Rattle.scan.specs.Lowest.{lowest, allBelow}
 use Rattle.scan.specs.declared.Found.the-variants.{Nothing}
 use Rattle.scan.proofs.Laws.{and-first, and-second, all-each, each-all, none-all}
 use Rattle.text.specs.Hex.{isDigit, digitValue}
-use Rattle.text.specs.Lines.{charAt, lineOk, lineCount, frameByte, byteOf}
+use Rattle.text.specs.Lines.{charAt, lineOk, lineCount, frameByte}
 
+-- one of two tests that holds
 pub or-cases : (a b : Bool) → (a || b) ≡ true → (a ≡ true) ⊎ (b ≡ true)
 or-cases true b e = inl refl
 or-cases false b e = inr e
@@ -35,10 +36,12 @@ value-small c e =
 
 -- ---- a line that is whole
 module _ (t : List ℕ) (k : ℕ) (whole : lineOk t k ≡ true) where
+  -- its first 32 characters are digits
   pub line-digit : (j : ℕ) → j < 32 → isDigit (charAt t k j) ≡ true
   unfolding lineOk
   line-digit j l = all-each (λ (j : ℕ). isDigit (charAt t k j)) 32 j (and-first _ _ whole) l
 
+  -- its last is a line feed
   pub line-feed : charAt t k 32 ≡ 10
   unfolding lineOk
   line-feed = eqb-true _ _ (and-second (allBelow (λ (j : ℕ). isDigit (charAt t k j)) 32) _ whole)
@@ -49,6 +52,7 @@ module _ (t : List ℕ) (k : ℕ) (whole : lineOk t k ≡ true) where
       let l : 33 * k + 32 < length t = lt-of-not-le (λ h. let z : 0 ≡ 10 = sym (List·getD-eq-default t 0 h) ∙ line-feed in omega arith) in
       omega arith
 
+  -- what it stands for are bytes
   pub byte-small : (j : ℕ) → j < 16 → frameByte t k j < 256
   byte-small j l =
       omega (arith, value-small (charAt t k (2 * j)) (line-digit (2 * j) (omega arith)), value-small (charAt t k (2 * j + 1)) (line-digit (2 * j + 1) (omega arith)))

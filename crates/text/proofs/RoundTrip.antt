@@ -1,7 +1,7 @@
 -- Frames that are written and read again come back, and so does a text that is read and written again: digit by digit, since
 -- a digit's value has that digit. Assumes nothing.
-use mathlib.Core.Path.{_≡_, refl, sym, ap, _∙_}
-use mathlib.Core.Bool.{Bool, true, false, cond}
+use mathlib.Core.Path.{_≡_, sym, ap, _∙_}
+use mathlib.Core.Bool.{true, cond}
 use mathlib.Core.List.{List}
 use mathlib.Core.Logic.{⊎-elim}
 use Prim.Native.Nat.{ℕ, _+_, _*_, _-_, _/_, _%_, _≤_, _<_}
@@ -16,7 +16,7 @@ use Rattle.answers.specs.declared.Outcome.the-variants.{Accepted}
 use Rattle.text.specs.declared.AnswerRoom.{AnswerRoom}
 use Rattle.text.specs.declared.AnswerRoom.the-variants.{NotLent}
 use Rattle.text.specs.Hex.{isDigit, digitValue, digitOf}
-use Rattle.text.specs.Lines.{charAt, lineOk, lineCount, frameByte, byteOf, decoded, digitAt, lineChar, charOf, textOf}
+use Rattle.text.specs.Lines.{charAt, lineOk, lineCount, frameByte, decoded, digitAt, lineChar, charOf, textOf}
 use Rattle.text.specs.Reading.{readText}
 use Rattle.text.proofs.Line.{digit-cases, value-small, line-digit, line-feed, line-whole}
 use Rattle.text.proofs.Turn.{char-of-line, high-digit, low-digit, line-end}
@@ -24,6 +24,7 @@ use Rattle.text.proofs.Laws.{Bytes, Readable, accepted-when, length-dec
 
 -- ---- a digit and its value
 module _ (v : ℕ) (small : v < 16) where
+  -- a number below 16 is written as a digit
   pub digit-is : isDigit (digitOf v) ≡ true
   unfolding digitOf
   digit-is =
@@ -32,6 +33,7 @@ module _ (v : ℕ) (small : v < 16) where
       (λ b. let l = ltb-false v 10 b in
       rw (le-leb 48 (87 + v) (omega arith), le-ltb (87 + v) 58 (omega arith), le-leb 97 (87 + v) (omega arith), lt-ltb (87 + v) 103 (omega arith)))
 
+  -- that stands for it
   pub value-of-digit : digitValue (digitOf v) ≡ v
   unfolding digitOf digitValue
   value-of-digit =
@@ -39,6 +41,7 @@ module _ (v : ℕ) (small : v < 16) where
       (λ a. let l = ltb-true v 10 a in rw (lt-ltb (48 + v) 58 (omega arith)) (omega arith))
       (λ b. let l = ltb-false v 10 b in rw (le-ltb (87 + v) 58 (omega arith)) (omega arith))
 
+-- a digit is what its value is written as
 pub digit-of-value : (c : ℕ) → isDigit c ≡ true → digitOf (digitValue c) ≡ c
 unfolding digitOf digitValue
 digit-of-value c e =
@@ -47,9 +50,11 @@ digit-of-value c e =
 
 -- ---- frames, written and read
 module _ (fr : List ℕ) (n : ℕ) where
+  -- n frames are written as 33 n characters
   pub length-text : length (textOf fr n) ≡ 33 * n
   length-text = length-build (charOf fr) (33 * n)
 
+  -- and so as n lines
   pub count-text : lineCount (textOf fr n) ≡ n
   count-text = omega (arith, length-text)
 

@@ -1,6 +1,6 @@
 -- Turns of the loops that fill a buffer line by line: a byte by its line and place, and a buffer whose front is made, taken up
 -- where an inner loop begins and left where it ends. Assumes nothing.
-use mathlib.Core.Path.{_≡_, refl, sym, ap, _∙_}
+use mathlib.Core.Path.{_≡_, sym, ap, _∙_}
 use mathlib.Core.List.{List, _++_}
 use Prim.Native.Nat.{ℕ, _+_, _*_, _/_, _%_, _<_}
 use native.Mathlib.Omega.{arith}

@@ -3,7 +3,7 @@
 ghost use mathlib.Core.Path.{_≡_};
 ghost use mathlib.Core.Bool.{true};
 ghost use mathlib.Core.List.{_++_};
-ghost use Prim.Native.Nat.{ℕ, _+_, _*_, _/_, _≤_, _<_, min};
+ghost use Prim.Native.Nat.{_+_, _*_, _/_, _≤_, _<_, min};
 ghost use lib.ListN.{length, drop};
 ghost use Rattle.scan.specs.Lowest.{lowest};
 ghost use Rattle.scan.specs.Lists.{sumBelow};
@@ -176,7 +176,7 @@ fn encode(frames: &[u8], text: &mut [u8], n: usize)
     let mut k = 0;
     'lines: while k < n {
         let mut j = 0;
-        'bytes: while j < 16 {
+        'digits: while j < 16 {
             let b = frames[16 * k + j];
             text[33 * k + 2 * j] = digit(b / 16);
             text[33 * k + 2 * j + 1] = digit(b % 16);

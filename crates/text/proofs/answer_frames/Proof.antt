@@ -23,8 +23,8 @@ answer-frames-spec =
     tie.close
     (tie.spec Inv-loop μ-loop (λ c. (search needs, sum-zero _, search needs))
     (λ c κs. let s = c .before .before .before in
-      let whole = none-all (lineOk (s .args .text .now)) _ _ (s .pre .0) (c .loop-test .taken) in
-      (whole, line-in _ _ whole))
+    let whole = none-all (lineOk (s .args .text .now)) _ _ (s .pre .0) (c .loop-test .taken) in
+    (whole, line-in _ _ whole))
     (λ c. search needs) (λ c. search needs) (λ c. search needs)
     (λ c. (search needs, sum-more _ _ (c .before .before .loop .inv .1) (c .line-answers .ensures .0), search needs))
     (λ c. let l = c .before .loop .inv in rw (← le-antisymm (l .0) (c .loop-test .left)) (l .1, l .2)))

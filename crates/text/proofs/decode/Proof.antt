@@ -2,7 +2,7 @@
 -- others are as they were. Assumes nothing.
 use mathlib.Core.Path.{_≡_, refl, _∙_}
 use mathlib.Core.List.{_++_}
-use Prim.Native.Nat.{ℕ, _+_, _*_, _-_, _≤_, _<_}
+use Prim.Native.Nat.{_+_, _*_, _-_, _≤_}
 use native.Mathlib.Nat.{le-antisymm}
 use native.Mathlib.Omega.{arith}
 use lib.ListN.{length, drop, length-set}
@@ -36,18 +36,18 @@ decode-spec =
     (tie.spec Inv-bytes μ-bytes Inv-lines μ-lines (λ c. (omega arith, build-zero _ _, refl))
     (λ c. (omega arith, begun _ _ (c .before .before .before .before .args .frames .now) _ (c .before .lines .inv .1), refl))
     (λ c κs. let s = c .before .before .before .before .before .before in
-      let whole = none-all (lineOk (s .args .text .now)) _ _ (s .pre .0) (c .before .before .lines-test .taken) in
-      (whole, line-in _ _ whole, c .bytes-test .taken))
+    let whole = none-all (lineOk (s .args .text .now)) _ _ (s .pre .0) (c .before .before .lines-test .taken) in
+    (whole, line-in _ _ whole, c .bytes-test .taken))
     (λ c. omega arith) (λ c. omega arith) (λ c. omega arith) (λ c. omega arith) (λ c. omega arith)
     (λ c. let i = c .before .before .bytes in
-      let k = c .before .before .before .before .lines .k in
-      let t = c .before .before .before .before .before .before .before .args .text .now in
-      let a : 16 * k + (i .j + 1) ≡ 16 * k + i .j + 1 = omega arith in
-      (omega arith, rw a (build-turn (byteOf t) _ (i .frames) _ _ (i .inv .1) (omega arith) (c .frame-byte .ensures ∙ byte-of-line t k (i .j) (c .before .bytes-test .taken))), simp length-set (i .inv .2)))
+    let k = c .before .before .before .before .lines .k in
+    let t = c .before .before .before .before .before .before .before .args .text .now in
+    let a : 16 * k + (i .j + 1) ≡ 16 * k + i .j + 1 = omega arith in
+    (omega arith, rw a (build-turn (byteOf t) _ (i .frames) _ _ (i .inv .1) (omega arith) (c .frame-byte .ensures ∙ byte-of-line t k (i .j) (c .before .bytes-test .taken))), simp length-set (i .inv .2)))
     (λ c. omega arith) (λ c. omega arith)
     (λ c. let i = c .before .bytes in
-      let o = c .before .before .before .lines in
-      let a : 16 * (o .k + 1) ≡ 16 * o .k + 16 = omega arith in
-      (omega arith, rw a (ended _ (o .frames) (c .before .before .before .before .before .before .args .frames .now) (16 * o .k) (o .inv .1) (i .frames) 16 (i .j) (le-antisymm (i .inv .0) (c .bytes-test .left)) (i .inv .1)), i .inv .2 ∙ o .inv .2))
+    let o = c .before .before .before .lines in
+    let a : 16 * (o .k + 1) ≡ 16 * o .k + 16 = omega arith in
+    (omega arith, rw a (ended _ (o .frames) (c .before .before .before .before .before .before .args .frames .now) (16 * o .k) (o .inv .1) (i .frames) 16 (i .j) (le-antisymm (i .inv .0) (c .bytes-test .left)) (i .inv .1)), i .inv .2 ∙ o .inv .2))
     (λ c. search needs)
     (λ c. rw (← le-antisymm (c .before .lines .inv .0) (c .lines-test .left)) (c .before .lines .inv .1)))

@@ -1,6 +1,5 @@
 -- `text::frame_byte`: the two characters are digits, since the line is whole. Assumes nothing.
 use Prim.Native.Nat.{_+_, _*_}
-use native.Mathlib.Omega.{arith}
 use borrow.Author.Needs.{needs}
 use Rattle.text.proofs.Line.{line-digit}
 use Rattle.text.proofs.frame_byte.Statement.{statement}

@@ -1,9 +1,8 @@
 -- `text::line_ok`. The invariant: whether every character passed is a digit. Assumes nothing.
 use mathlib.Core.Path.{_≡_, refl}
-use Prim.Native.Nat.{ℕ, _+_, _*_, _-_, _≤_}
+use Prim.Native.Nat.{ℕ, _-_, _≤_}
 use native.Mathlib.Nat.{le-antisymm}
 use native.Mathlib.Omega.{arith}
-use lib.ListN.{getD}
 use borrow.Author.Needs.{needs}
 use Rattle.scan.specs.Lowest.{allBelow}
 use Rattle.scan.proofs.Laws.{all-and}

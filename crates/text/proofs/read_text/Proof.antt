@@ -39,14 +39,15 @@ read-text-spec =
     tie.close
     (tie.spec returns (λ c κs. search needs) (λ c. search needs)
     (λ c. let m = c .before .before .before in
-      let t = m .before .before .before .before .args .text .now in
-      omega (arith, found-at (lineOk t) (lineCount t) _ (sym (m .first-torn .ensures) ∙ c .before .torn .given .1) .inside))
+    let t = m .before .before .before .before .args .text .now in
+    omega (arith, found-at (lineOk t) (lineCount t) _ (sym (m .first-torn .ensures) ∙ c .before .torn .given .1) .inside))
     (λ c. search needs)
     (λ c κs. (sym (c .before .before .first-torn .ensures) ∙ c .enum-told .given .1, c .before .before .before .if1 .left))
     returns-2 (λ c κs. search needs)
     (λ c κs. let n = c .before in
-      let m = n .before .before .before .before .before in
-      let s = m .before .before .before .before in
-      (rw (n .line-count .ensures) (sym (m .first-torn .ensures) ∙ n .before .before .before .enum-told .given .1),
-      omega (arith, n .line-count .ensures, frames-fit (s .args .text .now) _ (s .args .room) (sym (n .before .before .too-short .ensures) ∙ n .before .if2 .left))))
+    let m = n .before .before .before .before .before in
+    let s = m .before .before .before .before in (
+      rw (n .line-count .ensures) (sym (m .first-torn .ensures) ∙ n .before .before .before .enum-told .given .1),
+      omega (arith, n .line-count .ensures, frames-fit (s .args .text .now) _ (s .args .room) (sym (n .before .before .too-short .ensures) ∙ n .before .if2 .left)),
+    ))
     returns-3 (λ c. search needs) returns-4)

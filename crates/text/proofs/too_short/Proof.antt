@@ -24,5 +24,5 @@ too-short-spec =
     tie.close
     (tie.spec (λ c κs. search needs) (λ c. search needs) returns (λ c. search needs) (λ c. search needs)
     (λ c κs. let s = c .before .before .before .before .before .before in
-      (rw (c .before .before .before .before .line-count .ensures) (s .pre .0), omega arith))
+    (rw (c .before .before .before .before .line-count .ensures) (s .pre .0), omega arith))
     (λ c. search needs) returns-2 returns-3)
