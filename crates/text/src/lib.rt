@@ -26,12 +26,12 @@ fn is_digit(c: u8) -> bool
     ((48 <= c) & (c < 58)) | ((97 <= c) & (c < 103))
 }
 
-// What a digit stands for.
+// What a digit stands for: 48 to 57 are 0 to 9 past a multiple of 16, and 97 to 102 are 1 to 6 past one.
 fn value(c: u8) -> u8
     requires { ⌜ isDigit c ≡ true ⌝ }
     ensures { λ r. ⌜ (r ≡ digitValue c) × (r < 16) ⌝ }
 {
-    if c < 58 { c - 48 } else { c - 87 }
+    c % 16 + 9 * (c / 64)
 }
 
 // Whether line k is whole. The whole line is tested, with no way out before its end.

@@ -1,6 +1,7 @@
--- `text::value`: a digit is at least 48, and one that is not below 58 is at least 97 and below 103. Assumes nothing.
+-- `text::value`: the sum is the digit's value in each of the two ranges of digits. Assumes nothing.
 use mathlib.Core.Logic.{⊎-elim}
 use native.Mathlib.Omega.{arith}
+use borrow.Author.Needs.{needs}
 use borrow.Author.Tests.{lt-ltb, le-ltb}
 use Rattle.text.specs.Hex.{digitValue}
 use Rattle.text.proofs.Line.{digit-cases}
@@ -9,15 +10,9 @@ use Rattle.text.proofs.value.Tie as tie
 
 returns : tie.Need-returns
 unfolding digitValue
-returns c = (rw (lt-ltb _ _ (c .if1 .taken)), omega arith)
-
-returns-2 : tie.Need-returns-2
-unfolding digitValue
-returns-2 c =
-    (rw (le-ltb _ _ (c .if1 .left)), ⊎-elim (λ w. omega arith) (λ w. omega arith) (digit-cases (c .before .args .c) (c .before .pre)))
+returns c =
+    let x = c .args .c in
+    ⊎-elim (λ a. (rw (lt-ltb x 58 (a .1)) (omega arith), omega arith)) (λ b. (rw (le-ltb x 58 (omega arith)) (omega arith), omega arith)) (digit-cases x (c .pre))
 
 pub value-spec : {M : Type 1} → statement M
-value-spec =
-    tie.close
-    (tie.spec (λ c. ⊎-elim (λ w. omega arith) (λ w. omega arith) (digit-cases (c .before .args .c) (c .before .pre)))
-    (λ c. ⊎-elim (λ w. omega arith) (λ w. omega arith) (digit-cases (c .before .args .c) (c .before .pre))) returns returns-2)
+value-spec = tie.close (tie.spec (λ c. search needs) (λ c. search needs) returns)
