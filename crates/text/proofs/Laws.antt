@@ -183,9 +183,11 @@ module _ {t : List ℕ} {f : ℕ} {room : AnswerRoom} {n : ℕ} (r : Readable t 
 
 -- the answer frames that a line asks for, by its frame
 pub answers-by-frame : (t : List ℕ) (n k : ℕ) → k < n
-    → answerFrames t k ≡ cond (eqb (getD (decoded t n) (16 * k + 0) 0) 4) (cond (eqb (getD (decoded t n) (16 * k + 1) 0) 5) 2 1) 0
+    → answerFrames t k ≡ cond (eqb (getD (decoded t n) (16 * k) 0) 4) (cond (eqb (getD (decoded t n) (16 * k + 1) 0) 5) 2 1) 0
 unfolding answerFrames
-answers-by-frame t n k l = rw (decoded-at t n k 0 l (omega arith), decoded-at t n k 1 l (omega arith))
+answers-by-frame t n k l =
+    let z : 16 * k + 0 ≡ 16 * k = omega arith in
+    rw (rw z at (decoded-at t n k 0 l (omega arith)), decoded-at t n k 1 l (omega arith))
 
 -- ---- the frame buffer after a reading
 -- it is as it was unless the text was accepted
