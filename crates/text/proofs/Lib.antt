@@ -1,0 +1,4 @@
+pub mod Line
+pub mod Turn
+pub mod Laws
+pub mod RoundTrip
