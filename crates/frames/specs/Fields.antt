@@ -2,7 +2,7 @@
 -- there, and the bytes that it writes. A layout is a list of fields; every byte that no field takes is zero.
 use Prim.Native.Nat.{ℕ, zero, suc, _+_, _*_, _-_, _/_, _%_}
 use mathlib.Core.Bool.{Bool, true, false, cond, not, _&&_, _||_}
-use mathlib.Core.List.{List, [], _∷_}
+use mathlib.Core.List.{List, [], _∷_, _++_, map}
 use lib.Dec.{leb, ltb, eqb}
 use lib.ListN.{getD}
 use Rattle.ir.specs.declared.Scalar.{Scalar}
@@ -158,7 +158,7 @@ isSpace s a = ltb s 10 && cond (eqb s 4) (ltb a 8) (eqb a 0)
 
 -- a constant count is at least 1, a pending array has any override number, and a dynamic one zero
 abbrev pub isArraySize : ℕ → ℕ → Bool
-isArraySize form n = getD (not (eqb n 0) ∷ true ∷ eqb n 0 ∷ []) form false
+isArraySize form n = cond (eqb form 0) (not (eqb n 0)) (cond (eqb form 1) true (cond (eqb form 2) (eqb n 0) false))
 
 -- sampled: kind 0 to 5, multi; depth: multi; external: nothing; storage: format 0 to 40, access 0 to 7
 abbrev pub isClass : ℕ → ℕ → ℕ → ℕ → Bool
@@ -280,10 +280,6 @@ abbrev pub readAll : (l : Layout) → Frame → Vals l
 readAll free f = tt
 readAll (fields l) f = readEach l f
 
-abbrev pub every {ℓ} : {A : Type ℓ} → (A → Bool) → List A → Bool
-every p [] = true
-every p (x ∷ xs) = p x && every p xs
-
 abbrev pub taken : List Field → ℕ → Bool
 taken [] k = false
 taken (x ∷ l) k = takes x k || taken l k
@@ -292,14 +288,18 @@ taken (x ∷ l) k = takes x k || taken l k
 abbrev pub places : List ℕ
 places = 2 ∷ 3 ∷ 4 ∷ 5 ∷ 6 ∷ 7 ∷ 8 ∷ 9 ∷ 10 ∷ 11 ∷ 12 ∷ 13 ∷ 14 ∷ 15 ∷ []
 
--- every byte that no field takes is zero
-abbrev pub unusedZero : List Field → Frame → Bool
-unusedZero l f = every (λ (k : ℕ). taken l k || eqb (byte f k) 0) places
+abbrev pub allOf : List Bool → Bool
+allOf [] = true
+allOf (b ∷ bs) = b && allOf bs
+
+-- the tests of a layout: each field's bytes are within its values, and every byte that no field takes is zero
+abbrev pub tests : List Field → Frame → List Bool
+tests l f = map (λ (x : Field). fits x f) l ++ map (λ (k : ℕ). taken l k || eqb (byte f k) 0) places
 
 -- the bytes of a frame are within the values of its layout
 abbrev pub fitsAll : Layout → Frame → Bool
 fitsAll free f = true
-fitsAll (fields l) f = every (λ (x : Field). fits x f) l && unusedZero l f
+fitsAll (fields l) f = allOf (tests l f)
 
 -- the byte that a layout writes at place k
 abbrev pub writeEach : (l : List Field) → ValsOf l → ℕ → ℕ

@@ -94,28 +94,28 @@ fn converted(b: u8, width: u8) -> OptionBytes
 
 impl Frame {
     // Bytes 2 and 3: the type, row, item or member that a frame names.
-    fn named(self) -> u16
+    pub fn named(self) -> u16
         ensures { λ r. ⌜ r ≡ half self 2 ⌝ }
     {
         le16(self.b2, self.b3)
     }
 
     // Bytes 4 and 5: a count, or Binary's right.
-    fn second(self) -> u16
+    pub fn second(self) -> u16
         ensures { λ r. ⌜ r ≡ half self 4 ⌝ }
     {
         le16(self.b4, self.b5)
     }
 
     // Bytes 8 to 11: a count or an override.
-    fn third(self) -> u32
+    pub fn third(self) -> u32
         ensures { λ r. ⌜ r ≡ word self 8 ⌝ }
     {
         le32(self.b8, self.b9, self.b10, self.b11)
     }
 
     // Bytes 12 to 15: a stride, span, offset, index, argument or first component.
-    fn last(self) -> u32
+    pub fn last(self) -> u32
         ensures { λ r. ⌜ r ≡ word self 12 ⌝ }
     {
         le32(self.b12, self.b13, self.b14, self.b15)

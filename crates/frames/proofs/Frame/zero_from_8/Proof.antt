@@ -1,0 +1,11 @@
+-- `Frame::zero_from_8`: four tests, and those of the bytes after them. Assumes nothing.
+use borrow.Author.Needs.{needs}
+use Rattle.frames.proofs.Frame.zero_from_8.Statement.{statement}
+use Rattle.frames.proofs.Frame.zero_from_8.Tie as tie
+
+pub zero-from-8-spec : {M : Type 1} → statement M
+zero-from-8-spec =
+    tie.close
+    (tie.spec
+    (λ c κs. search needs)
+    (λ c. rw (c .zero-from-12 .ensures)))
