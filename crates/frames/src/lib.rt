@@ -1,6 +1,5 @@
 // A frame: sixteen bytes, one layout for each kind (specs/Layout.antt), used by what reads, checks and writes.
 
-mod fit;
 pub mod read;
 
 ghost use mathlib.Core.Path.{_≡_};

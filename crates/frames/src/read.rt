@@ -1,26 +1,14 @@
-// The type, member, item, row, component or answer that a frame stands for.
+// The type, member or component that a frame stands for.
 use super::Frame;
 use ir::AddressSpace;
 use ir::ArraySize;
-use ir::BinaryOperator;
-use ir::ComponentNumber;
 use ir::CooperativeRole;
 use ir::CooperativeSize;
-use ir::Expression;
-use ir::FunctionResult;
 use ir::ImageClass;
 use ir::ImageDimension;
-use ir::ImageQuery;
-use ir::Item;
-use ir::ItemKind;
 use ir::ItemNumber;
-use ir::Literal;
 use ir::MemberNumber;
-use ir::OptionBytes;
 use ir::OptionVectorSize;
-use ir::RelationalFunction;
-use ir::RowForm;
-use ir::RowKind;
 use ir::RowNumber;
 use ir::Scalar;
 use ir::ScalarKind;
@@ -35,8 +23,8 @@ use ir::VectorSize;
 ghost use mathlib.Core.Path.{_≡_};
 ghost use Prim.Native.Nat.{_+_, _*_};
 ghost use Rattle.frames.specs.Bytes.{half, word};
-ghost use Rattle.frames.specs.Fields.{read, scalar, class, optionSizeOf, arraySizeOf, resultOf, convertOf};
-ghost use Rattle.frames.specs.Forms.{typeAs, itemAs, rowAs, typeOf, itemOf, rowOf, memberOf, componentOf};
+ghost use Rattle.frames.specs.Fields.{read, scalar, class, optionSizeOf, arraySizeOf};
+ghost use Rattle.frames.specs.Forms.{typeAs, typeOf, memberOf, componentOf};
 
 // A number in two bytes, the low one first.
 fn le16(a: u8, b: u8) -> u16
@@ -69,26 +57,6 @@ fn array_size(form: u8, n: u32) -> ArraySize
         0 => ArraySize::Constant(n),
         1 => ArraySize::Pending(ItemNumber(n)),
         _ => ArraySize::Dynamic,
-    }
-}
-
-fn function_result(b: u8, n: u16) -> FunctionResult
-    ensures { λ r. ⌜ r ≡ resultOf b n ⌝ }
-{
-    if b == 1 {
-        FunctionResult::Some(TypeNumber(n))
-    } else {
-        FunctionResult::None
-    }
-}
-
-fn converted(b: u8, width: u8) -> OptionBytes
-    ensures { λ r. ⌜ r ≡ convertOf b width ⌝ }
-{
-    if b == 1 {
-        OptionBytes::Some(width)
-    } else {
-        OptionBytes::None
     }
 }
 
@@ -175,20 +143,6 @@ impl Frame {
             ty: TypeNumber(n),
             offset,
         }
-    }
-
-    // An item, family 3.
-    pub fn item(self) -> Item
-        ensures { λ r. ⌜ r ≡ itemOf self ⌝ }
-    {
-        item_as(ItemKind::from_number(self.b1), self)
-    }
-
-    // A row, family 4.
-    pub fn row_form(self) -> RowForm
-        ensures { λ r. ⌜ r ≡ rowOf self ⌝ }
-    {
-        row_as(RowKind::from_number(self.b1), self)
     }
 
     // A component, family 5.
@@ -304,158 +258,5 @@ fn type_as(kind: TypeKind, f: Frame) -> TypeForm
                 size,
             })
         }
-    }
-}
-
-fn item_as(kind: ItemKind, f: Frame) -> Item
-    ensures { λ r. ⌜ r ≡ itemAs kind f ⌝ }
-{
-    let n = f.named();
-    match kind {
-        ItemKind::Unknown => Item::Unknown,
-        ItemKind::Constant => Item::Constant { ty: TypeNumber(n) },
-        ItemKind::Override => Item::Override { ty: TypeNumber(n) },
-        ItemKind::GlobalVariable => {
-            let space = AddressSpace::from_number(f.b6, f.b7);
-            Item::GlobalVariable {
-                ty: TypeNumber(n),
-                space,
-            }
-        }
-        ItemKind::FunctionArgument => Item::FunctionArgument { ty: TypeNumber(n) },
-        ItemKind::LocalVariable => Item::LocalVariable { ty: TypeNumber(n) },
-        ItemKind::Function => {
-            let result = function_result(f.b4, n);
-            Item::Function { result }
-        }
-        ItemKind::RayIntersection => Item::RayIntersection { ty: TypeNumber(n) },
-        ItemKind::RayVertexReturn => Item::RayVertexReturn { ty: TypeNumber(n) },
-    }
-}
-
-fn row_as(kind: RowKind, f: Frame) -> RowForm
-    ensures { λ r. ⌜ r ≡ rowAs kind f ⌝ }
-{
-    let n = f.named();
-    match kind {
-        RowKind::Unknown => RowForm::Unknown,
-        RowKind::Literal => {
-            let literal = Literal::from_number(f.b6);
-            RowForm::Known(Expression::Literal(literal))
-        }
-        RowKind::Constant => RowForm::Known(Expression::Constant(ItemNumber(n as u32))),
-        RowKind::Override => RowForm::Known(Expression::Override(ItemNumber(n as u32))),
-        RowKind::ZeroValue => RowForm::Known(Expression::ZeroValue(TypeNumber(n))),
-        RowKind::Compose => {
-            let count = f.second();
-            let first = f.last();
-            RowForm::Known(Expression::Compose {
-                ty: TypeNumber(n),
-                count,
-                first: ComponentNumber(first),
-            })
-        }
-        RowKind::Access => RowForm::Known(Expression::Access { base: RowNumber(n) }),
-        RowKind::AccessIndex => {
-            let index = f.last();
-            RowForm::Known(Expression::AccessIndex {
-                base: RowNumber(n),
-                index,
-            })
-        }
-        RowKind::Splat => {
-            let size = VectorSize::from_number(f.b6);
-            RowForm::Known(Expression::Splat {
-                size,
-                value: RowNumber(n),
-            })
-        }
-        RowKind::Swizzle => {
-            let size = VectorSize::from_number(f.b6);
-            RowForm::Known(Expression::Swizzle {
-                size,
-                vector: RowNumber(n),
-            })
-        }
-        RowKind::FunctionArgument => {
-            let index = f.last();
-            RowForm::Known(Expression::FunctionArgument(index))
-        }
-        RowKind::GlobalVariable => RowForm::Known(Expression::GlobalVariable(ItemNumber(n as u32))),
-        RowKind::LocalVariable => RowForm::Known(Expression::LocalVariable(ItemNumber(n as u32))),
-        RowKind::Load => RowForm::Known(Expression::Load {
-            pointer: RowNumber(n),
-        }),
-        RowKind::ImageSample => RowForm::Known(Expression::ImageSample {
-            image: RowNumber(n),
-            gather: f.b6 == 1,
-        }),
-        RowKind::ImageLoad => RowForm::Known(Expression::ImageLoad {
-            image: RowNumber(n),
-        }),
-        RowKind::ImageQuery => {
-            let query = ImageQuery::from_number(f.b6);
-            RowForm::Known(Expression::ImageQuery {
-                image: RowNumber(n),
-                query,
-            })
-        }
-        RowKind::Unary => RowForm::Known(Expression::Unary { expr: RowNumber(n) }),
-        RowKind::Binary => {
-            let op = BinaryOperator::from_number(f.b6);
-            let right = f.second();
-            RowForm::Known(Expression::Binary {
-                op,
-                left: RowNumber(n),
-                right: RowNumber(right),
-            })
-        }
-        RowKind::Select => RowForm::Known(Expression::Select {
-            accept: RowNumber(n),
-        }),
-        RowKind::Derivative => RowForm::Known(Expression::Derivative { expr: RowNumber(n) }),
-        RowKind::Relational => {
-            let fun = RelationalFunction::from_number(f.b6);
-            RowForm::Known(Expression::Relational {
-                fun,
-                argument: RowNumber(n),
-            })
-        }
-        RowKind::Math => RowForm::Known(Expression::Math),
-        RowKind::As => {
-            let kind = ScalarKind::from_number(f.b6);
-            let convert = converted(f.b7, f.b8);
-            RowForm::Known(Expression::As {
-                expr: RowNumber(n),
-                kind,
-                convert,
-            })
-        }
-        RowKind::CallResult => RowForm::Known(Expression::CallResult(ItemNumber(n as u32))),
-        RowKind::AtomicResult => RowForm::Known(Expression::AtomicResult { ty: TypeNumber(n) }),
-        RowKind::WorkGroupUniformLoadResult =>
-            RowForm::Known(Expression::WorkGroupUniformLoadResult { ty: TypeNumber(n) }),
-        RowKind::ArrayLength => RowForm::Known(Expression::ArrayLength),
-        RowKind::RayQueryVertexPositions => RowForm::Known(Expression::RayQueryVertexPositions),
-        RowKind::RayQueryProceedResult => RowForm::Known(Expression::RayQueryProceedResult),
-        RowKind::RayQueryGetIntersection => RowForm::Known(Expression::RayQueryGetIntersection),
-        RowKind::SubgroupBallotResult => RowForm::Known(Expression::SubgroupBallotResult),
-        RowKind::SubgroupOperationResult => RowForm::Known(Expression::SubgroupOperationResult {
-            ty: TypeNumber(n),
-        }),
-        RowKind::CooperativeLoad => {
-            let columns = CooperativeSize::from_number(f.b6);
-            let rows = CooperativeSize::from_number(f.b7);
-            let role = CooperativeRole::from_number(f.b8);
-            RowForm::Known(Expression::CooperativeLoad {
-                columns,
-                rows,
-                role,
-                pointer: RowNumber(n),
-            })
-        }
-        RowKind::CooperativeMultiplyAdd => RowForm::Known(Expression::CooperativeMultiplyAdd {
-            c: RowNumber(n),
-        }),
     }
 }
