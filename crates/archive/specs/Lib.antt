@@ -1,0 +1,5 @@
+pub mod Order
+pub mod Starts
+pub mod Names
+pub mod Parts
+pub mod Checks

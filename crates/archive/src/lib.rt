@@ -1,0 +1,27 @@
+// Checks 4 to 6 over the frames of a file (document 01, "Numbers handed back"), and where each family begins.
+pub mod families;
+pub mod index;
+pub mod order;
+
+// The lowest frame of each family after the types, and of each kind of items; types begin the file, and `end` is past its last frame.
+pub struct Starts {
+    pub members: usize,
+    pub constants: usize,
+    pub overrides: usize,
+    pub globals: usize,
+    pub arguments: usize,
+    pub locals: usize,
+    pub functions: usize,
+    pub intersections: usize,
+    pub vertex_returns: usize,
+    pub rows: usize,
+    pub components: usize,
+    pub end: usize,
+}
+
+// The parts that a frame holds: the frames from `from` up to `to`, which name numbers below `limit`.
+pub struct Held {
+    pub from: usize,
+    pub to: usize,
+    pub limit: usize,
+}
