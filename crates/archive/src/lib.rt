@@ -1,7 +1,8 @@
 // Checks 4 to 6 over the frames of a file (document 01, "Numbers handed back"), and where each family begins.
 pub mod families;
-pub mod index;
+mod names;
 pub mod order;
+mod parts;
 
 // The lowest frame of each family after the types, and of each kind of items; types begin the file, and `end` is past its last frame.
 pub struct Starts {

@@ -1,0 +1,245 @@
+// Number 6: what each frame names.
+use super::Starts;
+use frames::Frame;
+use frames::frame_at;
+use frames::frame_count;
+use ir::ArraySize;
+use ir::Expression;
+use ir::FunctionResult;
+use ir::ImageQuery;
+use ir::Item;
+use ir::ItemNumber;
+use ir::RelationalFunction;
+use ir::RowForm;
+use ir::RowNumber;
+use ir::TypeForm;
+use ir::TypeInner;
+use ir::TypeNumber;
+use rows::item_of;
+use rows::row_form;
+use scan::Found;
+ghost use mathlib.Core.Path.{_≡_};
+ghost use mathlib.Core.Bool.{_&&_};
+ghost use Prim.Native.Nat.{_+_, _-_};
+ghost use lib.Dec.{leb, ltb};
+ghost use Rattle.scan.specs.Lowest.{lowest};
+ghost use Rattle.frames.specs.Bytes.{frameCount};
+ghost use Rattle.archive.specs.Starts.{startsOf};
+ghost use Rattle.archive.specs.Names.{isType, sizeNames, typeNames, typeFormNames, resultNames, itemNames, isEarlier, queryNames, relationalNames, rowNames, rowFormNames, namesOf, namesOk};
+
+// a - b, and 0 where b is more.
+pub(crate) fn minus(a: usize, b: usize) -> usize
+    ensures { λ r. ⌜ r ≡ a - b ⌝ }
+{
+    if a < b { 0 } else { a - b }
+}
+
+fn is_type(s: Starts, n: TypeNumber) -> bool
+    ensures { λ r. ⌜ r ≡ isType s n ⌝ }
+{
+    (n.0 as usize) < s.members
+}
+
+fn is_earlier(n: usize, m: RowNumber) -> bool
+    ensures { λ r. ⌜ r ≡ isEarlier n m ⌝ }
+{
+    (m.0 as usize) < n
+}
+
+// An item of the frames from `first` up to `last`.
+fn is_item(first: usize, last: usize, n: ItemNumber) -> bool
+    ensures { λ r. ⌜ r ≡ ltb (n .0) (last - first) ⌝ }
+{
+    (n.0 as usize) < minus(last, first)
+}
+
+// A range within the frames from `first` up to `last`.
+fn is_range(first: usize, last: usize, n: u32, count: u16) -> bool
+    ensures { λ r. ⌜ r ≡ leb (n + count) (last - first) ⌝ }
+{
+    (n as usize) + (count as usize) <= minus(last, first)
+}
+
+fn size_names(s: Starts, size: ArraySize) -> bool
+    ensures { λ r. ⌜ r ≡ sizeNames s size ⌝ }
+{
+    match size {
+        ArraySize::Constant(_) => true,
+        ArraySize::Pending(o) => is_item(s.overrides, s.globals, o),
+        ArraySize::Dynamic => true,
+    }
+}
+
+fn base_names(s: Starts, n: usize, base: TypeNumber, size: ArraySize) -> bool
+    ensures { λ r. ⌜ r ≡ (ltb (base .0) n && sizeNames s size) ⌝ }
+{
+    ((base.0 as usize) < n) & size_names(s, size)
+}
+
+fn type_names(s: Starts, n: usize, t: TypeInner) -> bool
+    ensures { λ r. ⌜ r ≡ typeNames s n t ⌝ }
+{
+    match t {
+        TypeInner::Scalar(_) => true,
+        TypeInner::Vector { size: _, scalar: _ } => true,
+        TypeInner::Matrix { columns: _, rows: _, scalar: _ } => true,
+        TypeInner::CooperativeMatrix { columns: _, rows: _, scalar: _, role: _ } => true,
+        TypeInner::Atomic(_) => true,
+        TypeInner::Pointer { base, space: _ } => (base.0 as usize) < n,
+        TypeInner::ValuePointer { size: _, scalar: _, space: _ } => true,
+        TypeInner::Array { base, size, stride: _ } => base_names(s, n, base, size),
+        TypeInner::Struct { first, count, span: _ } => is_range(s.members, s.constants, first.0 as u32, count),
+        TypeInner::Image { dim: _, arrayed: _, class: _ } => true,
+        TypeInner::Sampler { comparison: _ } => true,
+        TypeInner::AccelerationStructure { vertex_return: _ } => true,
+        TypeInner::RayQuery { vertex_return: _ } => true,
+        TypeInner::BindingArray { base, size } => base_names(s, n, base, size),
+    }
+}
+
+fn type_form_names(s: Starts, n: usize, form: TypeForm) -> bool
+    ensures { λ r. ⌜ r ≡ typeFormNames s n form ⌝ }
+{
+    match form {
+        TypeForm::Known(t) => type_names(s, n, t),
+        TypeForm::Unknown => true,
+    }
+}
+
+fn result_names(s: Starts, result: FunctionResult) -> bool
+    ensures { λ r. ⌜ r ≡ resultNames s result ⌝ }
+{
+    match result {
+        FunctionResult::None => true,
+        FunctionResult::Some(t) => is_type(s, t),
+    }
+}
+
+fn item_names(s: Starts, item: Item) -> bool
+    ensures { λ r. ⌜ r ≡ itemNames s item ⌝ }
+{
+    match item {
+        Item::Unknown => true,
+        Item::Constant { ty } => is_type(s, ty),
+        Item::Override { ty } => is_type(s, ty),
+        Item::GlobalVariable { ty, space: _ } => is_type(s, ty),
+        Item::FunctionArgument { ty } => is_type(s, ty),
+        Item::LocalVariable { ty } => is_type(s, ty),
+        Item::Function { result } => result_names(s, result),
+        Item::RayIntersection { ty } => is_type(s, ty),
+        Item::RayVertexReturn { ty } => is_type(s, ty),
+    }
+}
+
+fn query_names(n: usize, image: RowNumber, query: ImageQuery) -> bool
+    ensures { λ r. ⌜ r ≡ queryNames n image query ⌝ }
+{
+    match query {
+        ImageQuery::Size => is_earlier(n, image),
+        ImageQuery::NumLevels => true,
+        ImageQuery::NumLayers => true,
+        ImageQuery::NumSamples => true,
+    }
+}
+
+fn relational_names(n: usize, fun: RelationalFunction, argument: RowNumber) -> bool
+    ensures { λ r. ⌜ r ≡ relationalNames n fun argument ⌝ }
+{
+    match fun {
+        RelationalFunction::All => true,
+        RelationalFunction::Any => true,
+        RelationalFunction::IsNan => is_earlier(n, argument),
+        RelationalFunction::IsInf => is_earlier(n, argument),
+    }
+}
+
+fn compose_names(s: Starts, ty: TypeNumber, count: u16, first: u32) -> bool
+    ensures { λ r. ⌜ r ≡ (isType s ty && leb (first + count) (s .end - s .components)) ⌝ }
+{
+    is_type(s, ty) & is_range(s.components, s.end, first, count)
+}
+
+fn row_names(s: Starts, n: usize, e: Expression) -> bool
+    ensures { λ r. ⌜ r ≡ rowNames s n e ⌝ }
+{
+    match e {
+        Expression::Literal(_) => true,
+        Expression::Constant(i) => is_item(s.constants, s.overrides, i),
+        Expression::Override(i) => is_item(s.overrides, s.globals, i),
+        Expression::ZeroValue(t) => is_type(s, t),
+        Expression::Compose { ty, count, first } => compose_names(s, ty, count, first.0),
+        Expression::Access { base } => is_earlier(n, base),
+        Expression::AccessIndex { base, index: _ } => is_earlier(n, base),
+        Expression::Splat { size: _, value } => is_earlier(n, value),
+        Expression::Swizzle { size: _, vector } => is_earlier(n, vector),
+        Expression::FunctionArgument(_) => true,
+        Expression::GlobalVariable(i) => is_item(s.globals, s.arguments, i),
+        Expression::LocalVariable(i) => is_item(s.locals, s.functions, i),
+        Expression::Load { pointer } => is_earlier(n, pointer),
+        Expression::ImageSample { image, gather: _ } => is_earlier(n, image),
+        Expression::ImageLoad { image } => is_earlier(n, image),
+        Expression::ImageQuery { image, query } => query_names(n, image, query),
+        Expression::Unary { expr } => is_earlier(n, expr),
+        Expression::Binary { op: _, left, right } => is_earlier(n, left) & is_earlier(n, right),
+        Expression::Select { accept } => is_earlier(n, accept),
+        Expression::Derivative { expr } => is_earlier(n, expr),
+        Expression::Relational { fun, argument } => relational_names(n, fun, argument),
+        Expression::Math => true,
+        Expression::As { expr, kind: _, convert: _ } => is_earlier(n, expr),
+        Expression::CallResult(i) => is_item(s.functions, s.intersections, i),
+        Expression::AtomicResult { ty } => is_type(s, ty),
+        Expression::WorkGroupUniformLoadResult { ty } => is_type(s, ty),
+        Expression::ArrayLength => true,
+        Expression::RayQueryVertexPositions => true,
+        Expression::RayQueryProceedResult => true,
+        Expression::RayQueryGetIntersection => true,
+        Expression::SubgroupBallotResult => true,
+        Expression::SubgroupOperationResult { ty } => is_type(s, ty),
+        Expression::CooperativeLoad { columns: _, rows: _, role: _, pointer } => is_earlier(n, pointer),
+        Expression::CooperativeMultiplyAdd { c } => is_earlier(n, c),
+    }
+}
+
+fn row_form_names(s: Starts, n: usize, form: RowForm) -> bool
+    ensures { λ r. ⌜ r ≡ rowFormNames s n form ⌝ }
+{
+    match form {
+        RowForm::Known(e) => row_names(s, n, e),
+        RowForm::Unknown => true,
+    }
+}
+
+fn names_of(s: Starts, k: usize, f: Frame) -> bool
+    ensures { λ r. ⌜ r ≡ namesOf s k f ⌝ }
+{
+    let family = f.b0;
+    match family {
+        0 => true,
+        1 => type_form_names(s, k, f.type_form()),
+        2 => {
+            let m = f.member();
+            is_type(s, m.ty)
+        }
+        3 => item_names(s, item_of(f)),
+        4 => row_form_names(s, minus(k, s.rows), row_form(f)),
+        5 => is_earlier(minus(s.components, s.rows), f.component()),
+        _ => true,
+    }
+}
+
+// The lowest frame that names a number out of range or not earlier; parts are held against their owners elsewhere.
+pub(crate) fn first_misnamed(frames: &[u8], s: Starts) -> Found
+    requires { ⌜ s ≡ startsOf (now frames) ⌝ }
+    ensures { λ r. ⌜ r ≡ lowest (namesOk (now (frames .entry))) (frameCount (now (frames .entry))) ⌝ }
+{
+    let n = frame_count(frames);
+    let mut k = 0;
+    while k < n {
+        if names_of(s, k, frame_at(frames, k)) {
+            k += 1;
+        } else {
+            return Found::At(k);
+        }
+    }
+    Found::Nothing
+}
