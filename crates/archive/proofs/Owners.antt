@@ -1,20 +1,23 @@
 -- Parts of one owner: a frame outside its range passes, and one inside passes exactly when it names a low enough number; so the lowest
 -- that fails is found by looking at the range alone. Assumes nothing.
-use Prim.Native.Nat.{ℕ, _≤_, _<_}
+use Prim.Native.Nat.{ℕ, _≤_, _<_, zero-le}
 use native.Mathlib.Decide.{decLt}
 use native.Mathlib.Omega.{arith}
 use mathlib.Core.Path.{_≡_, refl, sym, ap, _∙_}
-use mathlib.Core.Bool.{true, false, and-false}
+use mathlib.Core.Bool.{Bool, true, false, and-false}
 use mathlib.Core.List.{List}
 use mathlib.Core.Logic.{_⊎_, inl, inr}
 use lib.Dec.{leb, ltb}
 use borrow.Author.Tests.{lt-ltb, le-ltb, le-leb, lt-leb}
-use Rattle.scan.specs.Lowest.{lowest}
+use Rattle.scan.specs.Lowest.{lowest, allBelow}
 use Rattle.scan.specs.declared.Found.the-variants.{Nothing}
-use Rattle.scan.proofs.Laws.{lowest-all, none-all}
-use Rattle.frames.specs.Bytes.{frameAt}
+use Rattle.scan.proofs.Laws.{by-test, lowest-all, none-all}
+use Rattle.frames.specs.declared.Frame.{Frame}
+use Rattle.frames.specs.Bytes.{frameAt, frameCount}
 use Rattle.archive.specs.declared.Held.{Held}
-use Rattle.archive.specs.Parts.{earlyIn, partNumber}
+use Rattle.archive.specs.Starts.{startsOf}
+use Rattle.archive.specs.Parts.{isStruct, isCompose, heldBy, earlyIn, partNumber}
+use Rattle.archive.proofs.Ranks.{begins}
 
 module _ (fr : List ℕ) (h : Held) where
   -- outside the range
@@ -36,3 +39,20 @@ module _ (fr : List ℕ) (h : Held) where
       go : (j : ℕ) → Dec (j < k) → earlyIn fr h j ≡ true
       go j (yes lt) = none-all (earlyIn fr h) k j none lt
       go j (no nlt) = outside j (inr (omega arith))
+
+-- with no owner looked at yet nothing fails
+pub no-owner : (ok : ℕ → ℕ → Bool) (n : ℕ) → Nothing ≡ lowest (λ (k : ℕ). allBelow (λ (o : ℕ). ok o k) 0) n
+unfolding allBelow
+no-owner ok n = sym (lowest-all (λ (k : ℕ). true) n (λ k l. refl))
+
+-- starts are within the file
+pub starts-small : (fr : List ℕ) (m : ℕ) → frameCount fr ≤ m → (startsOf fr .members ≤ m) × (startsOf fr .components ≤ m)
+unfolding startsOf
+starts-small fr m l = (omega (arith, begins fr 512 .within), omega (arith, begins fr 1280 .within))
+
+-- the parts that a frame holds lie within the file
+pub held-within : (fr : List ℕ) (o : ℕ) (f : Frame) → heldBy (startsOf fr) o f .to ≤ frameCount fr
+unfolding startsOf
+held-within fr o f =
+    by-test (λ (h : Held). h .to ≤ frameCount fr) (isStruct f) (λ _. omega (arith, begins fr 769 .within))
+    (λ _. by-test (λ (h : Held). h .to ≤ frameCount fr) (isCompose f) (λ _. omega arith) (λ _. zero-le))

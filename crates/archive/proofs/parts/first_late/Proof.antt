@@ -1,58 +1,38 @@
+-- `first_late`. The invariant: what was found is the lowest part that is late for one of the owners passed. Assumes nothing.
+use mathlib.Core.Path.{_≡_, refl, sym, ap, _∙_}
+use Prim.Native.Nat.{ℕ, _-_, _≤_}
+use native.Mathlib.Nat.{le-antisymm}
+use borrow.Author.Needs.{needs}
+use Rattle.scan.specs.Lowest.{lowest, allBelow}
+use Rattle.scan.proofs.Laws.{lowest-tests}
+use Rattle.frames.specs.Bytes.{frameAt, frameCount}
+use Rattle.archive.specs.declared.Starts.{Starts}
+use Rattle.archive.specs.declared.Held.{Held}
+use Rattle.archive.specs.Starts.{startsOf}
+use Rattle.archive.specs.Parts.{heldBy, earlyIn, earlyFor, earlyOk}
+use Rattle.archive.proofs.Owners.{no-owner, starts-small, held-within}
 use Rattle.archive.proofs.parts.first_late.Statement.{statement}
 use Rattle.archive.proofs.parts.first_late.Tie as tie
-use Rattle.archive.proofs.parts.first_late.Reads as reads
-use Rattle.archive.proofs.parts.first_late.Lts as lts
-use Rattle.archive.proofs.parts.first_late_in.Reads as first-late-in-reads
-use Rattle.archive.proofs.parts.held_by.Reads as held-by-reads
-use Rattle.frames.proofs.frame_at.Reads as frame-at-reads
-use Rattle.frames.proofs.frame_count.Reads as frame-count-reads
-use Rattle.scan.proofs.lower.Reads as lower-reads
 
 abbrev Inv-loop : tie.InvT-loop
-Inv-loop frames s n found₀ o₀ found o = ?
+Inv-loop frames s n found₀ o₀ found o = (o ≤ n) × (found ≡ lowest (λ (k : ℕ). allBelow (λ (j : ℕ). earlyFor frames j k) o) (frameCount frames))
 
 abbrev μ-loop : tie.MeasureT-loop
-μ-loop frames s n found₀ o₀ found o = ?
+μ-loop frames s n found₀ o₀ found o = n - o
 
--- src/parts.rt:83:9
-frame-count-requires : tie.Need-frame-count-requires Inv-loop μ-loop
-frame-count-requires c κs = ?
+-- the parts looked at are those that frame o holds
+holds : (c : tie.After-held-by Inv-loop μ-loop) → let a = c .before .before .before .before .before .before .args .frames .now in let o = c .before .before .before .loop .o in c .held-by .result ≡ heldBy (startsOf a) o (frameAt a o)
+holds c =
+    let st = c .before .before .before .before .before .before in
+    let o = c .before .before .before .loop .o in
+    c .held-by .ensures ∙ ap (heldBy (st .args .s) o) (c .before .frame-at .ensures) ∙ ap (λ (s : Starts). heldBy s o (frameAt (st .args .frames .now) o)) (st .pre .0)
 
--- src/parts.rt:86:5
-loop-holds : tie.Need-loop-holds Inv-loop μ-loop
-loop-holds c = ?
-
--- src/parts.rt:87:31
-frame-at-requires : tie.Need-frame-at-requires Inv-loop μ-loop
-frame-at-requires c κs = ?
-
--- src/parts.rt:87:13
-held-by-requires : tie.Need-held-by-requires Inv-loop μ-loop
-held-by-requires c κs = ?
-
--- src/parts.rt:88:13
-first-late-in-requires : tie.Need-first-late-in-requires Inv-loop μ-loop
-first-late-in-requires c κs = ?
-
--- src/parts.rt:89:9
-lower-requires : tie.Need-lower-requires Inv-loop μ-loop
-lower-requires c κs = ?
-
--- src/parts.rt:90:9
-add-o : tie.Need-add-o Inv-loop μ-loop
-add-o c = ?
-
--- src/parts.rt:86:5
-loop-less : tie.Need-loop-less Inv-loop μ-loop
-loop-less c = ?
-
--- src/parts.rt:86:5
-loop-again : tie.Need-loop-again Inv-loop μ-loop
-loop-again c = ?
-
--- src/parts.rt:79:1
 returns : tie.Need-returns Inv-loop μ-loop
-returns c = ?
+unfolding earlyOk
+returns c =
+    let i = c .before .loop in
+    let q = le-antisymm (i .inv .0) (c .loop-test .left) ∙ c .before .before .frame-count .ensures in
+    rw q at (i .inv .1)
 
 pub first-late-spec : {M : Type 1} → statement M
 first-late-spec =
@@ -60,13 +40,14 @@ first-late-spec =
     (tie.spec
     Inv-loop
     μ-loop
-    frame-count-requires
-    loop-holds
-    frame-at-requires
-    held-by-requires
-    first-late-in-requires
-    lower-requires
-    add-o
-    loop-less
-    loop-again
+    (λ c κs. tt)
+    (λ c. (search needs, no-owner (earlyFor (c .before .before .args .frames .now)) _))
+    (λ c κs. tt)
+    (λ c κs. let st = c .before .before .before .before .before in rw (st .pre .0) (starts-small _ 1024 (st .pre .1)))
+    (λ c κs. let a = c .before .before .before .before .before .before .args .frames .now in let o = c .before .before .before .loop .o in rw (holds c) (held-within a o (frameAt a o)))
+    (λ c κs. tt)
+    (λ c. search needs)
+    (λ c. search needs)
+    (λ c. let i = c .before .before .before .before .before .loop in let a = c .before .before .before .before .before .before .before .before .args .frames .now in
+      (search needs, c .lower .ensures ∙ lowest-tests (earlyFor a) _ _ (i .inv .1) (c .before .first-late-in .ensures ∙ ap (λ (h : Held). lowest (earlyIn a h) (frameCount a)) (holds (c .before .before)))))
     returns)
