@@ -1,8 +1,8 @@
 // Where each family begins, and each kind of items.
-use frames::frame_at;
-use frames::frame_count;
 use super::Starts;
 use super::order::rank_of;
+use frames::frame_at;
+use frames::frame_count;
 ghost use mathlib.Core.Path.{_≡_};
 ghost use Prim.Native.Nat.{ℕ, _-_, _≤_};
 ghost use lib.Dec.{ltb};

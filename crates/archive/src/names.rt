@@ -82,14 +82,39 @@ fn type_names(s: Starts, n: usize, t: TypeInner) -> bool
     match t {
         TypeInner::Scalar(_) => true,
         TypeInner::Vector { size: _, scalar: _ } => true,
-        TypeInner::Matrix { columns: _, rows: _, scalar: _ } => true,
-        TypeInner::CooperativeMatrix { columns: _, rows: _, scalar: _, role: _ } => true,
+        TypeInner::Matrix {
+            columns: _,
+            rows: _,
+            scalar: _,
+        } => true,
+        TypeInner::CooperativeMatrix {
+            columns: _,
+            rows: _,
+            scalar: _,
+            role: _,
+        } => true,
         TypeInner::Atomic(_) => true,
         TypeInner::Pointer { base, space: _ } => (base.0 as usize) < n,
-        TypeInner::ValuePointer { size: _, scalar: _, space: _ } => true,
-        TypeInner::Array { base, size, stride: _ } => base_names(s, n, base, size),
-        TypeInner::Struct { first, count, span: _ } => is_range(s.members, s.constants, first.0 as u32, count),
-        TypeInner::Image { dim: _, arrayed: _, class: _ } => true,
+        TypeInner::ValuePointer {
+            size: _,
+            scalar: _,
+            space: _,
+        } => true,
+        TypeInner::Array {
+            base,
+            size,
+            stride: _,
+        } => base_names(s, n, base, size),
+        TypeInner::Struct {
+            first,
+            count,
+            span: _,
+        } => is_range(s.members, s.constants, first.0 as u32, count),
+        TypeInner::Image {
+            dim: _,
+            arrayed: _,
+            class: _,
+        } => true,
         TypeInner::Sampler { comparison: _ } => true,
         TypeInner::AccelerationStructure { vertex_return: _ } => true,
         TypeInner::RayQuery { vertex_return: _ } => true,
@@ -185,7 +210,11 @@ fn row_names(s: Starts, n: usize, e: Expression) -> bool
         Expression::Derivative { expr } => is_earlier(n, expr),
         Expression::Relational { fun, argument } => relational_names(n, fun, argument),
         Expression::Math => true,
-        Expression::As { expr, kind: _, convert: _ } => is_earlier(n, expr),
+        Expression::As {
+            expr,
+            kind: _,
+            convert: _,
+        } => is_earlier(n, expr),
         Expression::CallResult(i) => is_item(s.functions, s.intersections, i),
         Expression::AtomicResult { ty } => is_type(s, ty),
         Expression::WorkGroupUniformLoadResult { ty } => is_type(s, ty),
@@ -195,7 +224,12 @@ fn row_names(s: Starts, n: usize, e: Expression) -> bool
         Expression::RayQueryGetIntersection => true,
         Expression::SubgroupBallotResult => true,
         Expression::SubgroupOperationResult { ty } => is_type(s, ty),
-        Expression::CooperativeLoad { columns: _, rows: _, role: _, pointer } => is_earlier(n, pointer),
+        Expression::CooperativeLoad {
+            columns: _,
+            rows: _,
+            role: _,
+            pointer,
+        } => is_earlier(n, pointer),
         Expression::CooperativeMultiplyAdd { c } => is_earlier(n, c),
     }
 }

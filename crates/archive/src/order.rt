@@ -13,7 +13,11 @@ ghost use Rattle.archive.specs.Order.{rankOf, isKnown, follows, orderOk}
 pub fn rank_of(f: Frame) -> usize
     ensures { λ r. ⌜ r ≡ rankOf f ⌝ }
 {
-    if f.b0 == 3 { 768 + (f.b1 as usize) } else { 256 * (f.b0 as usize) }
+    if f.b0 == 3 {
+        768 + (f.b1 as usize)
+    } else {
+        256 * (f.b0 as usize)
+    }
 }
 
 // Families 1 to 5, and item kinds 1 to 8.

@@ -49,5 +49,5 @@ first-late-spec =
     (λ c. search needs)
     (λ c. search needs)
     (λ c. let i = c .before .before .before .before .before .loop in let a = c .before .before .before .before .before .before .before .before .args .frames .now in
-      (search needs, c .lower .ensures ∙ lowest-tests (earlyFor a) _ _ (i .inv .1) (c .before .first-late-in .ensures ∙ ap (λ (h : Held). lowest (earlyIn a h) (frameCount a)) (holds (c .before .before)))))
+    (search needs, c .lower .ensures ∙ lowest-tests (earlyFor a) _ _ (i .inv .1) (c .before .first-late-in .ensures ∙ ap (λ (h : Held). lowest (earlyIn a h) (frameCount a)) (holds (c .before .before)))))
     returns)

@@ -36,7 +36,7 @@ first-late-in-spec =
     (λ c. search needs)
     (λ c. search needs)
     (λ c. let i = c .before .before .before .before .loop in let h = c .before .before .before .before .before .before .args .h in
-      (search needs, lowest-more _ _ (i .inv .1) refl (inside _ h (i .k) (i .inv .0) (c .before .before .before .loop-test .taken) ∙ rw (← number (c .before)) (lt-ltb _ _ (c .if1 .taken)))))
+    (search needs, lowest-more _ _ (i .inv .1) refl (inside _ h (i .k) (i .inv .0) (c .before .before .before .loop-test .taken) ∙ rw (← number (c .before)) (lt-ltb _ _ (c .if1 .taken)))))
     (λ c. let i = c .before .before .before .before .loop in let h = c .before .before .before .before .before .before .args .h in
-      lowest-hit _ (i .k) _ (omega (arith, c .before .before .before .loop-test .taken, c .before .before .before .before .before .before .pre)) (i .inv .1) refl (inside _ h (i .k) (i .inv .0) (c .before .before .before .loop-test .taken) ∙ rw (← number (c .before)) (le-ltb _ _ (c .if1 .left))))
+    lowest-hit _ (i .k) _ (omega (arith, c .before .before .before .loop-test .taken, c .before .before .before .before .before .before .pre)) (i .inv .1) refl (inside _ h (i .k) (i .inv .0) (c .before .before .before .loop-test .taken) ∙ rw (← number (c .before)) (le-ltb _ _ (c .if1 .left))))
     (λ c. none-after _ (c .before .before .before .args .h) _ _ (c .before .loop .inv .1) (c .loop-test .left)))
