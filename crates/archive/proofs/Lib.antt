@@ -1,2 +1,4 @@
+pub mod Checked
+pub mod Files
 pub mod Owners
 pub mod Ranks

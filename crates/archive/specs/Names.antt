@@ -137,13 +137,16 @@ abbrev pub rowFormNames : Starts → ℕ → RowForm → Bool
 rowFormNames s n (Ro.Known e) = rowNames s n e
 rowFormNames s n Ro.Unknown = true
 
--- frame k names what is there, by its family; a member or component that no range holds too
-abbrev pub namesOf : Starts → ℕ → Frame → Bool
-namesOf s k f =
+-- a frame of a family, which is frame k, names what is there; a member or component that no range holds too
+abbrev pub namesBy : ℕ → Starts → ℕ → Frame → Bool
+namesBy family s k f =
     getD
     (true ∷ typeFormNames s k (typeOf f) ∷ isType s (memberOf f .ty) ∷ itemNames s (itemOf f) ∷ rowFormNames s (k - s .rows) (rowOf f)
     ∷ ltb (componentOf f .0) (rowCount s) ∷ [])
-    (f .b0) true
+    family true
+
+abbrev pub namesOf : Starts → ℕ → Frame → Bool
+namesOf s k f = namesBy (f .b0) s k f
 
 unfoldable pub namesOk : List ℕ → ℕ → Bool
 namesOk fr k = namesOf (startsOf fr) k (frameAt fr k)
