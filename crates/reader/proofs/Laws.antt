@@ -1,0 +1,147 @@
+-- Reading a file, both ways: accepted exactly when all checks hold, and refused by number k at place p exactly when all lower checks hold
+-- everywhere, check k holds before p and fails at p. From the same laws of checks 1 to 3 and of checks 4 to 6. Assumes nothing.
+use Prim.Native.Nat.{ℕ, _*_, _/_, _≤_, _<_}
+use native.Mathlib.Omega.{arith}
+use mathlib.Core.Path.{_≡_, refl, sym, ap, _∙_}
+use mathlib.Core.List.{List, _++_}
+use mathlib.Core.Logic.{_↔_}
+use lib.ListN.{length, drop}
+use Rattle.answers.specs.declared.Outcome.{Outcome}
+use Rattle.answers.specs.declared.Outcome.the-variants.{Accepted, Long, Torn, Short, Order, Field, Index}
+use Rattle.text.specs.declared.AnswerRoom.{AnswerRoom}
+use Rattle.text.specs.declared.AnswerRoom.the-variants.{NotLent}
+use Rattle.text.specs.Lines.{lineCount, decoded, textOf}
+use Rattle.text.specs.Reading.{readText, framesRead}
+use Rattle.text.proofs.Laws as T
+use Rattle.text.proofs.Laws.{Readable, TornAt, TooSmall, Bytes, by-read, length-decoded, count-small}
+use Rattle.text.proofs.RoundTrip.{read-written, decoded-text}
+use Rattle.frames.specs.Bytes.{frameCount}
+use Rattle.archive.specs.Order.{orderOk}
+use Rattle.archive.specs.Checks.{fieldOk, indexOk, checkFrames}
+use Rattle.archive.proofs.Checked as C
+use Rattle.archive.proofs.Checked.{Holds, FailsAt, by-check}
+use Rattle.reader.specs.File.{thenFrames, readFile, framesAfter}
+
+-- an accepted file of n frames: at most 33,792 bytes, every line whole, the buffers suffice, and every frame meets checks 4, 5 and 6
+pub record Accepts (t : List ℕ) (f : ℕ) (room : AnswerRoom) (n : ℕ) : Type 0 where
+  pub readable : Readable t f room n
+  pub order : Holds orderOk (decoded t n)
+  pub fields : Holds fieldOk (decoded t n)
+  pub index : Holds indexOk (decoded t n)
+
+-- number 4 at p
+pub record Disordered (t : List ℕ) (f : ℕ) (room : AnswerRoom) (p : ℕ) : Type 0 where
+  pub readable : Readable t f room (lineCount t)
+  pub fails : FailsAt orderOk (decoded t (lineCount t)) p
+
+-- number 5 at p
+pub record Unfit (t : List ℕ) (f : ℕ) (room : AnswerRoom) (p : ℕ) : Type 0 where
+  pub readable : Readable t f room (lineCount t)
+  pub order : Holds orderOk (decoded t (lineCount t))
+  pub fails : FailsAt fieldOk (decoded t (lineCount t)) p
+
+-- number 6 at p
+pub record Misplaced (t : List ℕ) (f : ℕ) (room : AnswerRoom) (p : ℕ) : Type 0 where
+  pub readable : Readable t f room (lineCount t)
+  pub order : Holds orderOk (decoded t (lineCount t))
+  pub fields : Holds fieldOk (decoded t (lineCount t))
+  pub fails : FailsAt indexOk (decoded t (lineCount t)) p
+
+pub count-decoded : (t : List ℕ) (n : ℕ) → frameCount (decoded t n) ≡ n
+count-decoded t n = rw (length-decoded t n) (omega arith)
+
+never : {X : Type 0} → _≡_ {A = ℕ} 0 1 → X
+never z = absurd (omega arith)
+
+module _ (t : List ℕ) (f : ℕ) (room : AnswerRoom) where
+  few : Readable t f room (lineCount t) → frameCount (decoded t (lineCount t)) ≤ 1024
+  few r = rw (count-decoded t (lineCount t)) (count-small r)
+
+  -- the seven outcomes, and what each says
+  pub by-file : (P : Outcome → Type 0) → (33792 < length t → P Long) → ((k : ℕ) → TornAt t k → P (Torn k)) → (TooSmall t f room → P Short)
+      → ((p : ℕ) → Disordered t f room p → P (Order p)) → ((p : ℕ) → Unfit t f room p → P (Field p)) → ((p : ℕ) → Misplaced t f room p → P (Index p))
+      → ((n : ℕ) → Accepts t f room n → P (Accepted n)) → P (readFile t f room)
+  unfolding readFile
+  by-file P long torn short order field index accepted =
+      by-read t f room (λ r. P (thenFrames t r)) long torn short
+      (λ r. by-check (decoded t (lineCount t)) (few r) P (λ p a. order p (record { readable = r; fails = a }))
+      (λ p h a. field p (record { readable = r; order = h; fails = a })) (λ p h g a. index p (record { readable = r; order = h; fields = g; fails = a }))
+      (λ h g i. rw (count-decoded t (lineCount t)) (accepted (lineCount t) (record { readable = r; order = h; fields = g; index = i }))))
+
+  -- what checks 4 to 6 give is what a readable text gets
+  then-checked : (n : ℕ) → Readable t f room n → readFile t f room ≡ checkFrames (decoded t n)
+  unfolding readFile
+  then-checked n r = ap (thenFrames t) (T.accepted-when t f room n .1 r)
+
+  pub long-when : (readFile t f room ≡ Long) ↔ (33792 < length t)
+  unfolding readFile
+  long-when = (
+    by-file (λ r. r ≡ Long → 33792 < length t) (λ l e. l) (λ k a e. never (cc)) (λ a e. never (cc)) (λ p a e. never (cc)) (λ p a e. never (cc)) (λ p a e. never (cc)) (λ n a e. never (cc)),
+    λ l. ap (thenFrames t) (T.long-when t f room .1 l),
+  )
+
+  pub torn-when : (k : ℕ) → (readFile t f room ≡ Torn k) ↔ TornAt t k
+  unfolding readFile
+  torn-when k = (
+    by-file (λ r. r ≡ Torn k → TornAt t k) (λ l e. never (cc)) (λ j a e. let q : j ≡ k = cc in rw q at a) (λ a e. never (cc)) (λ p a e. never (cc)) (λ p a e. never (cc)) (λ p a e. never (cc)) (λ n a e. never (cc)),
+    λ a. ap (thenFrames t) (T.torn-when t f room k .1 a),
+  )
+
+  pub short-when : (readFile t f room ≡ Short) ↔ TooSmall t f room
+  unfolding readFile
+  short-when = (
+    by-file (λ r. r ≡ Short → TooSmall t f room) (λ l e. never (cc)) (λ k a e. never (cc)) (λ a e. a) (λ p a e. never (cc)) (λ p a e. never (cc)) (λ p a e. never (cc)) (λ n a e. never (cc)),
+    λ a. ap (thenFrames t) (T.short-when t f room .1 a),
+  )
+
+  pub order-when : (p : ℕ) → (readFile t f room ≡ Order p) ↔ Disordered t f room p
+  order-when p = (
+    by-file (λ r. r ≡ Order p → Disordered t f room p) (λ l e. never (cc)) (λ k a e. never (cc)) (λ a e. never (cc)) (λ j a e. let q : j ≡ p = cc in rw q at a) (λ j a e. never (cc)) (λ j a e. never (cc)) (λ n a e. never (cc)),
+    λ a. then-checked (lineCount t) (a .readable) ∙ C.order-when (decoded t (lineCount t)) (few (a .readable)) p .1 (a .fails),
+  )
+
+  pub field-when : (p : ℕ) → (readFile t f room ≡ Field p) ↔ Unfit t f room p
+  field-when p = (
+    by-file (λ r. r ≡ Field p → Unfit t f room p) (λ l e. never (cc)) (λ k a e. never (cc)) (λ a e. never (cc)) (λ j a e. never (cc)) (λ j a e. let q : j ≡ p = cc in rw q at a) (λ j a e. never (cc)) (λ n a e. never (cc)),
+    λ a. then-checked (lineCount t) (a .readable) ∙ C.field-when (decoded t (lineCount t)) (few (a .readable)) p .1 (a .order, a .fails),
+  )
+
+  pub index-when : (p : ℕ) → (readFile t f room ≡ Index p) ↔ Misplaced t f room p
+  index-when p = (
+    by-file (λ r. r ≡ Index p → Misplaced t f room p) (λ l e. never (cc)) (λ k a e. never (cc)) (λ a e. never (cc)) (λ j a e. never (cc)) (λ j a e. never (cc)) (λ j a e. let q : j ≡ p = cc in rw q at a) (λ n a e. never (cc)),
+    λ a. then-checked (lineCount t) (a .readable) ∙ C.index-when (decoded t (lineCount t)) (few (a .readable)) p .1 (a .order, a .fields, a .fails),
+  )
+
+  pub accepted-when : (n : ℕ) → (readFile t f room ≡ Accepted n) ↔ Accepts t f room n
+  accepted-when n = (
+    by-file (λ r. r ≡ Accepted n → Accepts t f room n) (λ l e. never (cc)) (λ k a e. never (cc)) (λ a e. never (cc)) (λ j a e. never (cc)) (λ j a e. never (cc)) (λ j a e. never (cc)) (λ m a e. let q : m ≡ n = cc in rw q at a),
+    λ a. then-checked n (a .readable) ∙ C.accepted-when (decoded t n) (rw (count-decoded t n) (count-small (a .readable))) n .1 (sym (count-decoded t n), a .order, a .fields, a .index),
+  )
+
+-- THE FRAME BUFFER
+
+-- where checks 1 to 3 pass, and so after numbers 4 to 6 too, the frames stand at its front and its other bytes stay
+pub buffer-written : (t fr : List ℕ) (room : AnswerRoom) (n : ℕ) → Readable t (length fr) room n → framesAfter t fr room ≡ decoded t n ++ drop (16 * n) fr
+unfolding framesAfter
+buffer-written t fr room n r = ap (λ (o : Outcome). framesRead o t fr) (T.accepted-when t (length fr) room n .1 r)
+
+-- number 1 changes no byte of it, nor do numbers 2 and 3
+pub buffer-long : (t fr : List ℕ) (room : AnswerRoom) → 33792 < length t → framesAfter t fr room ≡ fr
+unfolding framesAfter
+buffer-long t fr room l = ap (λ (o : Outcome). framesRead o t fr) (T.long-when t (length fr) room .1 l)
+
+pub buffer-torn : (t fr : List ℕ) (room : AnswerRoom) (k : ℕ) → TornAt t k → framesAfter t fr room ≡ fr
+unfolding framesAfter
+buffer-torn t fr room k a = ap (λ (o : Outcome). framesRead o t fr) (T.torn-when t (length fr) room k .1 a)
+
+pub buffer-short : (t fr : List ℕ) (room : AnswerRoom) → TooSmall t (length fr) room → framesAfter t fr room ≡ fr
+unfolding framesAfter
+buffer-short t fr room a = ap (λ (o : Outcome). framesRead o t fr) (T.short-when t (length fr) room .1 a)
+
+-- the text of any list of at most 1,024 frames is read back as that list
+pub read-back : (frames : List ℕ) (n : ℕ) → Bytes frames → length frames ≡ 16 * n → n ≤ 1024 → (buffer : List ℕ) → 16 * n ≤ length buffer
+    → framesAfter (textOf frames n) buffer NotLent ≡ frames ++ drop (16 * n) buffer
+unfolding framesAfter
+read-back frames n bytes e l buffer h =
+    ap (λ (o : Outcome). framesRead o (textOf frames n) buffer) (read-written frames n bytes (length buffer) l h)
+    ∙ ap (λ (s : List ℕ). s ++ drop (16 * n) buffer) (decoded-text frames n bytes e)
