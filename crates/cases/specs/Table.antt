@@ -1,0 +1,143 @@
+-- Document 01, "Cases", P: worked cases, each the whole text and the whole output, written by hand from the document. `file` has one more:
+-- a frame of each kind.
+use Prim.Native.Nat.{ℕ, _+_, _*_, _-_}
+use Prim.Native.Char.{code}
+use Prim.Native.String.{String}
+use Prim.Native.String as S
+use mathlib.Core.Bool.{cond}
+use mathlib.Core.List.{List, [], _∷_, _++_}
+use lib.Dec.{ltb}
+use lib.ListN.{replicate}
+use Rattle.answers.specs.declared.Outcome.{Outcome}
+use Rattle.answers.specs.declared.Outcome.the-variants.{Accepted, Long, Field}
+
+-- the characters of a text, by their numbers
+abbrev bytes : String → List ℕ
+bytes S.[] = []
+bytes (S._∷_ c s) = code c ∷ bytes s
+
+-- lines, each with its line feed
+abbrev lines : List String → List ℕ
+lines [] = []
+lines (s ∷ ss) = bytes s ++ 10 ∷ lines ss
+
+abbrev digit : ℕ → ℕ
+digit c = cond (ltb c 97) (c - 48) (c - 87)
+
+-- two digits a byte
+abbrev paired : List ℕ → List ℕ
+paired [] = []
+paired (c ∷ []) = []
+paired (c ∷ d ∷ s) = (16 * digit c + digit d) ∷ paired s
+
+-- the frames that such lines stand for
+abbrev frames : List String → List ℕ
+frames [] = []
+frames (s ∷ ss) = paired (bytes s) ++ frames ss
+
+-- a case: the text and the frame buffer lent; the outcome and the frame buffer after
+pub record Case : Type 0 where
+  pub text : List ℕ
+  pub lent : List ℕ
+  pub outcome : Outcome
+  pub after : List ℕ
+
+-- the file whose rows the document types
+abbrev paper : List String
+paper =
+    "01010000020400000000000000000000" ∷
+    "01020300020400000000000000000000" ∷
+    "01c80000000000000000000000000000" ∷
+    "03050100000000000000000000000000" ∷
+    "03050200000000000000000000000000" ∷
+    "040c0000000000000000000000000000" ∷
+    "04070000000000000000000002000000" ∷
+    "040d0100000000000000000000000000" ∷
+    "040c0100000000000000000000000000" ∷
+    "040d0300000000000000000000000000" ∷
+    "04070000000000000000000003000000" ∷ []
+
+-- a constant array with count 0, after the scalar that it names
+abbrev noCount : List String
+noCount =
+    "01010000020400000000000000000000" ∷
+    "01080000000000000000000010000000" ∷ []
+
+-- the fourteen kinds of type, two members, the eight kinds of item, the thirty-four kinds of row, three components
+abbrev file : List String
+file =
+    "01010000020400000000000000000000" ∷
+    "01020300020400000000000000000000" ∷
+    "01030403020400000000000000000000" ∷
+    "01040810020402000000000000000000" ∷
+    "01050000010400000000000000000000" ∷
+    "01060100000004030000000000000000" ∷
+    "01070000000409000000000000000000" ∷
+    "01080000000000000500000004000000" ∷
+    "01090000020000000000000008000000" ∷
+    "010a0201000201000000000000000000" ∷
+    "010b0100000000000000000000000000" ∷
+    "010c0000000000000000000000000000" ∷
+    "010d0100000000000000000000000000" ∷
+    "010e0900010000000000000000000000" ∷
+    "02000000000000000000000000000000" ∷
+    "02000100000000000000000004000000" ∷
+    "03010000000000000000000000000000" ∷
+    "03020000000000000000000000000000" ∷
+    "03030900000005000000000000000000" ∷
+    "03040100000000000000000000000000" ∷
+    "03050100000000000000000000000000" ∷
+    "03060000010000000000000000000000" ∷
+    "03070800000000000000000000000000" ∷
+    "03080700000000000000000000000000" ∷
+    "04010000000001000000000000000000" ∷
+    "04020000000000000000000000000000" ∷
+    "04030000000000000000000000000000" ∷
+    "04040100000000000000000000000000" ∷
+    "04050100030000000000000000000000" ∷
+    "04060400000000000000000000000000" ∷
+    "04070400000000000000000002000000" ∷
+    "04080000000002000000000000000000" ∷
+    "04090400000002000000000000000000" ∷
+    "040a0000000000000000000000000000" ∷
+    "040b0000000000000000000000000000" ∷
+    "040c0000000000000000000000000000" ∷
+    "040d0b00000000000000000000000000" ∷
+    "040e0a00000001000000000000000000" ∷
+    "040f0a00000000000000000000000000" ∷
+    "04100a00000000000000000000000000" ∷
+    "04110000000000000000000000000000" ∷
+    "04120000030002000000000000000000" ∷
+    "04130000000000000000000000000000" ∷
+    "04140000000000000000000000000000" ∷
+    "04150000000000000000000000000000" ∷
+    "0416ffffffffffffffffffffffffffff" ∷
+    "04170000000000010400000000000000" ∷
+    "04180000000000000000000000000000" ∷
+    "04190000000000000000000000000000" ∷
+    "041a0000000000000000000000000000" ∷
+    "041b0000000000000000000000000000" ∷
+    "041c0000000000000000000000000000" ∷
+    "041d0000000000000000000000000000" ∷
+    "041e0000000000000000000000000000" ∷
+    "041f0000000000000000000000000000" ∷
+    "04200000000000000000000000000000" ∷
+    "04210b00000008100100000000000000" ∷
+    "04222000000000000000000000000000" ∷
+    "05000000000000000000000000000000" ∷
+    "05000000000000000000000000000000" ∷
+    "05000100000000000000000000000000" ∷ []
+
+abbrev pub table : List Case
+table =
+    -- empty file, no lines
+    record { text = []; lent = 7 ∷ []; outcome = Accepted 0; after = 7 ∷ [] }
+    -- the constant array count 0 number 5
+    ∷ record { text = lines noCount; lent = replicate 33 7; outcome = Field 1; after = frames noCount ++ 7 ∷ [] }
+    -- 1,025 lines number 1
+    ∷ record { text = lines (replicate 1025 "01010000020400000000000000000000"); lent = 7 ∷ []; outcome = Long; after = 7 ∷ [] }
+    -- the paper's file is read to its last row
+    ∷ record { text = lines paper; lent = replicate 176 7; outcome = Accepted 11; after = frames paper }
+    -- a frame of each kind
+    ∷ record { text = lines file; lent = replicate 976 7; outcome = Accepted 61; after = frames file }
+    ∷ []
