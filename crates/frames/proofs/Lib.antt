@@ -1,1 +1,8 @@
 pub mod Buffer
+pub mod Families
+pub mod FieldBack
+pub mod Past
+pub mod Put
+pub mod ReadBack
+pub mod Same
+pub mod Samples

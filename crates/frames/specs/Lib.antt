@@ -3,3 +3,4 @@ pub mod Fields
 pub mod Layout
 pub mod Forms
 pub mod Out
+pub mod Back

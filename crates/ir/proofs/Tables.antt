@@ -13,7 +13,8 @@ abbrev pub Rest : ℕ → ℕ → ℕ → Type 0
 Rest b k zero = Unit
 Rest b k (suc n) = Rest b k n × (k ≡ b + n → ⊥)
 
-above : (b n k : ℕ) → b ≤ k → Rest b k n → b + n ≤ k
+-- past its numbers from b on
+pub above : (b n k : ℕ) → b ≤ k → Rest b k n → b + n ≤ k
 above b zero k l r = omega arith
 above b (suc n) k l r = let h : b + n ≤ k = above b n k l (r .0) in let d : k ≡ b + n → ⊥ = r .1 in omega arith
 
