@@ -1,7 +1,6 @@
 pub mod Buffer
 pub mod Families
 pub mod FieldBack
-pub mod Past
 pub mod Put
 pub mod ReadBack
 pub mod Same

@@ -5,8 +5,11 @@ use native.Mathlib.Decide.{decLe}
 use native.Mathlib.Nat.{add-zero}
 use native.Mathlib.Omega.{arith}
 use mathlib.Core.Path.{_≡_, refl, sym, ap, _∙_}
+use mathlib.Core.Bool.{cond}
 use mathlib.Core.List.{List, [], _∷_, map}
+use lib.Dec.{leb}
 use lib.ListN.{length, getD, List·getD-eq-default}
+use borrow.Author.Tests.{le-leb, lt-leb}
 
 -- what the last arm of a `match` on a number knows, whose other arms are b to b + n - 1
 abbrev pub Rest : ℕ → ℕ → ℕ → Type 0
@@ -31,6 +34,14 @@ outside b l d k e r = go (decLe b k)
     go : Dec (b ≤ k) → d ≡ getD l (k - b) d
     go (yes le) = let h : b + length l ≤ k = above b (length l) k le r in sym (List·getD-eq-default l d {n = k - b} (omega arith))
     go (no nle) = let z : k - b ≡ 0 = omega arith in rw z (sym e)
+
+-- outside a table whose first case has number b, and whose default is given below b too
+pub past-from {ℓ} : {A : Type ℓ} (b : ℕ) (l : List A) (d : A) (k : ℕ) → Rest b k (length l) → d ≡ cond (leb b k) (getD l (k - b) d) d
+past-from b l d k r = go (decLe b k)
+  where
+    go : Dec (b ≤ k) → d ≡ cond (leb b k) (getD l (k - b) d) d
+    go (yes le) = let h : b + length l ≤ k = above b (length l) k le r in rw (le-leb b k le) (sym (List·getD-eq-default l d {n = k - b} (omega arith)))
+    go (no nle) = rw (lt-leb b k (omega arith))
 
 -- the numbers from b on, n of them
 abbrev pub upFrom : ℕ → ℕ → List ℕ

@@ -1,7 +1,7 @@
 -- `refusal`: in each arm the refusal is the table's place; the last arm is outside the table. Assumes nothing.
 use borrow.Author.Needs.{needs}
 use Rattle.frames.specs.Out.{refusals}
-use Rattle.frames.proofs.Past.{past-from}
+use Rattle.ir.proofs.Tables.{past-from}
 use Rattle.out.proofs.again.refusal.Statement.{statement}
 use Rattle.out.proofs.again.refusal.Tie as tie
 
