@@ -5,3 +5,4 @@ pub mod Put
 pub mod ReadBack
 pub mod Same
 pub mod Samples
+pub mod Unknown
