@@ -18,8 +18,8 @@ use Rattle.frames.specs.Forms.{typeOf, memberOf, itemOf, rowOf, componentOf}
 use Rattle.archive.specs.declared.Starts.{Starts}
 use Rattle.archive.specs.declared.Held.{Held}
 use Rattle.archive.specs.Order.{rankAt, isKnown, isOnce, follows, orderOk}
-use Rattle.archive.specs.Starts.{start, startsOf, rowCount}
-use Rattle.archive.specs.Names.{isType, typeFormNames, itemNames, rowFormNames, namesBy, namesOf, namesOk}
+use Rattle.archive.specs.Starts.{start, startsOf}
+use Rattle.archive.specs.Names.{isType, isRow, typeFormNames, itemNames, rowFormNames, namesBy, namesOf, namesOk}
 use Rattle.archive.specs.Parts.{heldBy, earlyIn, earlyFor, earlyOk, partNumber}
 use Rattle.archive.specs.Checks.{fieldOk, indexOk}
 use Rattle.archive.proofs.Ranks.{begins}
@@ -68,7 +68,7 @@ module _ (fr : List ℕ) (indexed : Holds indexOk fr) (k : ℕ) (h : k < frameCo
   of-family family e = ap (λ (b : ℕ). namesBy b (startsOf fr) k (frameAt fr k)) (sym e) ∙ named
 
   -- what a frame of each family names is there, and earlier where that is asked
-  pub type-names : frameAt fr k .b0 ≡ 1 → typeFormNames (startsOf fr) k (typeOf (frameAt fr k)) ≡ true
+  pub type-names : frameAt fr k .b0 ≡ 1 → typeFormNames (startsOf fr) (record { 0 = k }) (typeOf (frameAt fr k)) ≡ true
   type-names e = of-family 1 e
 
   pub member-names : frameAt fr k .b0 ≡ 2 → isType (startsOf fr) (memberOf (frameAt fr k) .ty) ≡ true
@@ -77,10 +77,10 @@ module _ (fr : List ℕ) (indexed : Holds indexOk fr) (k : ℕ) (h : k < frameCo
   pub item-names : frameAt fr k .b0 ≡ 3 → itemNames (startsOf fr) (itemOf (frameAt fr k)) ≡ true
   item-names e = of-family 3 e
 
-  pub row-names : frameAt fr k .b0 ≡ 4 → rowFormNames (startsOf fr) (k - startsOf fr .rows) (rowOf (frameAt fr k)) ≡ true
+  pub row-names : frameAt fr k .b0 ≡ 4 → rowFormNames (startsOf fr) (record { 0 = k - startsOf fr .rows }) (rowOf (frameAt fr k)) ≡ true
   row-names e = of-family 4 e
 
-  pub component-names : frameAt fr k .b0 ≡ 5 → ltb (componentOf (frameAt fr k) .0) (rowCount (startsOf fr)) ≡ true
+  pub component-names : frameAt fr k .b0 ≡ 5 → isRow (startsOf fr) (componentOf (frameAt fr k)) ≡ true
   component-names e = of-family 5 e
 
   -- a part is earlier than each of its owners

@@ -35,6 +35,10 @@ use Rattle.archive.specs.Starts.{startsOf, typeCount, memberCount, const
 abbrev pub isType : Starts → TypeNumber → Bool
 isType s n = ltb (n .0) (typeCount s)
 
+-- there is a row of this number
+abbrev pub isRow : Starts → RowNumber → Bool
+isRow s n = ltb (n .0) (rowCount s)
+
 -- a pending size names an override
 abbrev pub sizeNames : Starts → ArraySize → Bool
 sizeNames s (As.Constant n) = true
@@ -42,23 +46,23 @@ sizeNames s (As.Pending o) = ltb (o .0) (overrideCount s)
 sizeNames s As.Dynamic = true
 
 -- type n names earlier types, overrides of the file, and members within their family
-abbrev pub typeNames : Starts → ℕ → TypeInner → Bool
+abbrev pub typeNames : Starts → TypeNumber → TypeInner → Bool
 typeNames s n (Ti.Scalar k) = true
 typeNames s n (Ti.Vector z k) = true
 typeNames s n (Ti.Matrix c r k) = true
 typeNames s n (Ti.CooperativeMatrix c r k o) = true
 typeNames s n (Ti.Atomic k) = true
-typeNames s n (Ti.Pointer b p) = ltb (b .0) n
+typeNames s n (Ti.Pointer b p) = ltb (b .0) (n .0)
 typeNames s n (Ti.ValuePointer z k p) = true
-typeNames s n (Ti.Array b z t) = ltb (b .0) n && sizeNames s z
+typeNames s n (Ti.Array b z t) = ltb (b .0) (n .0) && sizeNames s z
 typeNames s n (Ti.Struct m j t) = leb (m .0 + j) (memberCount s)
 typeNames s n (Ti.Image d a c) = true
 typeNames s n (Ti.Sampler q) = true
 typeNames s n (Ti.AccelerationStructure q) = true
 typeNames s n (Ti.RayQuery q) = true
-typeNames s n (Ti.BindingArray b z) = ltb (b .0) n && sizeNames s z
+typeNames s n (Ti.BindingArray b z) = ltb (b .0) (n .0) && sizeNames s z
 
-abbrev pub typeFormNames : Starts → ℕ → TypeForm → Bool
+abbrev pub typeFormNames : Starts → TypeNumber → TypeForm → Bool
 typeFormNames s n (Tf.Known t) = typeNames s n t
 typeFormNames s n Tf.Unknown = true
 
@@ -79,25 +83,25 @@ itemNames s (It.RayIntersection t) = isType s t
 itemNames s (It.RayVertexReturn t) = isType s t
 
 -- row m is earlier than row n
-abbrev pub isEarlier : ℕ → RowNumber → Bool
-isEarlier n m = ltb (m .0) n
+abbrev pub isEarlier : RowNumber → RowNumber → Bool
+isEarlier n m = ltb (m .0) (n .0)
 
 -- only a size reads its image
-abbrev pub queryNames : ℕ → RowNumber → ImageQuery → Bool
+abbrev pub queryNames : RowNumber → RowNumber → ImageQuery → Bool
 queryNames n m Iq.Size = isEarlier n m
 queryNames n m Iq.NumLevels = true
 queryNames n m Iq.NumLayers = true
 queryNames n m Iq.NumSamples = true
 
 -- only IsNan and IsInf read their argument
-abbrev pub relationalNames : ℕ → RelationalFunction → RowNumber → Bool
+abbrev pub relationalNames : RowNumber → RelationalFunction → RowNumber → Bool
 relationalNames n Rf.All m = true
 relationalNames n Rf.Any m = true
 relationalNames n Rf.IsNan m = isEarlier n m
 relationalNames n Rf.IsInf m = isEarlier n m
 
 -- row n names earlier rows, types and items of the file, and components within their family
-abbrev pub rowNames : Starts → ℕ → Expression → Bool
+abbrev pub rowNames : Starts → RowNumber → Expression → Bool
 rowNames s n (Ex.Literal l) = true
 rowNames s n (Ex.Constant i) = ltb (i .0) (constantCount s)
 rowNames s n (Ex.Override i) = ltb (i .0) (overrideCount s)
@@ -133,16 +137,17 @@ rowNames s n (Ex.SubgroupOperationResult t) = isType s t
 rowNames s n (Ex.CooperativeLoad c r o m) = isEarlier n m
 rowNames s n (Ex.CooperativeMultiplyAdd m) = isEarlier n m
 
-abbrev pub rowFormNames : Starts → ℕ → RowForm → Bool
+abbrev pub rowFormNames : Starts → RowNumber → RowForm → Bool
 rowFormNames s n (Ro.Known e) = rowNames s n e
 rowFormNames s n Ro.Unknown = true
 
--- a frame of a family, which is frame k, names what is there; a member or component that no range holds too
+-- a frame of a family, which is frame k, names what is there; a member or component that no range holds too. Types begin the file, so
+-- type k is frame k, and a row's number counts from the start of the rows
 abbrev pub namesBy : ℕ → Starts → ℕ → Frame → Bool
 namesBy family s k f =
     getD
-    (true ∷ typeFormNames s k (typeOf f) ∷ isType s (memberOf f .ty) ∷ itemNames s (itemOf f) ∷ rowFormNames s (k - s .rows) (rowOf f)
-    ∷ ltb (componentOf f .0) (rowCount s) ∷ [])
+    (true ∷ typeFormNames s (record { 0 = k }) (typeOf f) ∷ isType s (memberOf f .ty) ∷ itemNames s (itemOf f)
+    ∷ rowFormNames s (record { 0 = k - s .rows }) (rowOf f) ∷ isRow s (componentOf f) ∷ [])
     family true
 
 abbrev pub namesOf : Starts → ℕ → Frame → Bool

@@ -20,12 +20,12 @@ use rows::row_form;
 use scan::Found;
 ghost use mathlib.Core.Path.{_≡_};
 ghost use mathlib.Core.Bool.{_&&_};
-ghost use Prim.Native.Nat.{_+_, _-_};
+ghost use Prim.Native.Nat.{_+_, _-_, _≤_};
 ghost use lib.Dec.{leb, ltb};
 ghost use Rattle.scan.specs.Lowest.{lowest};
 ghost use Rattle.frames.specs.Bytes.{frameCount};
 ghost use Rattle.archive.specs.Starts.{startsOf};
-ghost use Rattle.archive.specs.Names.{isType, sizeNames, typeNames, typeFormNames, resultNames, itemNames, isEarlier, queryNames, relationalNames, rowNames, rowFormNames, namesOf, namesOk};
+ghost use Rattle.archive.specs.Names.{isType, isRow, sizeNames, typeNames, typeFormNames, resultNames, itemNames, isEarlier, queryNames, relationalNames, rowNames, rowFormNames, namesOf, namesOk};
 
 // a - b, and 0 where b is more.
 pub(crate) fn minus(a: usize, b: usize) -> usize
@@ -40,10 +40,17 @@ fn is_type(s: Starts, n: TypeNumber) -> bool
     (n.0 as usize) < s.members
 }
 
-fn is_earlier(n: usize, m: RowNumber) -> bool
+fn is_row(s: Starts, n: RowNumber) -> bool
+    ensures { λ r. ⌜ r ≡ isRow s n ⌝ }
+{
+    (n.0 as usize) < minus(s.components, s.rows)
+}
+
+// Row m is earlier than row n.
+fn is_earlier(n: RowNumber, m: RowNumber) -> bool
     ensures { λ r. ⌜ r ≡ isEarlier n m ⌝ }
 {
-    (m.0 as usize) < n
+    m.0 < n.0
 }
 
 // An item of the frames from `first` up to `last`.
@@ -70,13 +77,13 @@ fn size_names(s: Starts, size: ArraySize) -> bool
     }
 }
 
-fn base_names(s: Starts, n: usize, base: TypeNumber, size: ArraySize) -> bool
-    ensures { λ r. ⌜ r ≡ (ltb (base .0) n && sizeNames s size) ⌝ }
+fn base_names(s: Starts, n: TypeNumber, base: TypeNumber, size: ArraySize) -> bool
+    ensures { λ r. ⌜ r ≡ (ltb (base .0) (n .0) && sizeNames s size) ⌝ }
 {
-    ((base.0 as usize) < n) & size_names(s, size)
+    (base.0 < n.0) & size_names(s, size)
 }
 
-fn type_names(s: Starts, n: usize, t: TypeInner) -> bool
+fn type_names(s: Starts, n: TypeNumber, t: TypeInner) -> bool
     ensures { λ r. ⌜ r ≡ typeNames s n t ⌝ }
 {
     match t {
@@ -94,7 +101,7 @@ fn type_names(s: Starts, n: usize, t: TypeInner) -> bool
             role: _,
         } => true,
         TypeInner::Atomic(_) => true,
-        TypeInner::Pointer { base, space: _ } => (base.0 as usize) < n,
+        TypeInner::Pointer { base, space: _ } => base.0 < n.0,
         TypeInner::ValuePointer {
             size: _,
             scalar: _,
@@ -122,7 +129,7 @@ fn type_names(s: Starts, n: usize, t: TypeInner) -> bool
     }
 }
 
-fn type_form_names(s: Starts, n: usize, form: TypeForm) -> bool
+fn type_form_names(s: Starts, n: TypeNumber, form: TypeForm) -> bool
     ensures { λ r. ⌜ r ≡ typeFormNames s n form ⌝ }
 {
     match form {
@@ -156,7 +163,7 @@ fn item_names(s: Starts, item: Item) -> bool
     }
 }
 
-fn query_names(n: usize, image: RowNumber, query: ImageQuery) -> bool
+fn query_names(n: RowNumber, image: RowNumber, query: ImageQuery) -> bool
     ensures { λ r. ⌜ r ≡ queryNames n image query ⌝ }
 {
     match query {
@@ -167,7 +174,7 @@ fn query_names(n: usize, image: RowNumber, query: ImageQuery) -> bool
     }
 }
 
-fn relational_names(n: usize, fun: RelationalFunction, argument: RowNumber) -> bool
+fn relational_names(n: RowNumber, fun: RelationalFunction, argument: RowNumber) -> bool
     ensures { λ r. ⌜ r ≡ relationalNames n fun argument ⌝ }
 {
     match fun {
@@ -184,7 +191,7 @@ fn compose_names(s: Starts, ty: TypeNumber, count: u16, first: u32) -> bool
     is_type(s, ty) & is_range(s.components, s.end, first, count)
 }
 
-fn row_names(s: Starts, n: usize, e: Expression) -> bool
+fn row_names(s: Starts, n: RowNumber, e: Expression) -> bool
     ensures { λ r. ⌜ r ≡ rowNames s n e ⌝ }
 {
     match e {
@@ -234,7 +241,7 @@ fn row_names(s: Starts, n: usize, e: Expression) -> bool
     }
 }
 
-fn row_form_names(s: Starts, n: usize, form: RowForm) -> bool
+fn row_form_names(s: Starts, n: RowNumber, form: RowForm) -> bool
     ensures { λ r. ⌜ r ≡ rowFormNames s n form ⌝ }
 {
     match form {
@@ -244,26 +251,30 @@ fn row_form_names(s: Starts, n: usize, form: RowForm) -> bool
 }
 
 fn names_of(s: Starts, k: usize, f: Frame) -> bool
+    requires { ⌜ k ≤ 1024 ⌝ }
     ensures { λ r. ⌜ r ≡ namesOf s k f ⌝ }
 {
     let family = f.b0;
     match family {
         0 => true,
-        1 => type_form_names(s, k, f.type_form()),
+        1 => type_form_names(s, TypeNumber(k as u16), f.type_form()),
         2 => {
             let m = f.member();
             is_type(s, m.ty)
         }
         3 => item_names(s, item_of(f)),
-        4 => row_form_names(s, minus(k, s.rows), row_form(f)),
-        5 => is_earlier(minus(s.components, s.rows), f.component()),
+        4 => {
+            let n = minus(k, s.rows);
+            row_form_names(s, RowNumber(n as u16), row_form(f))
+        }
+        5 => is_row(s, f.component()),
         _ => true,
     }
 }
 
 // The lowest frame that names a number out of range or not earlier; parts are held against their owners elsewhere.
 pub(crate) fn first_misnamed(frames: &[u8], s: Starts) -> Found
-    requires { ⌜ s ≡ startsOf (now frames) ⌝ }
+    requires { ⌜ (s ≡ startsOf (now frames)) × (frameCount (now frames) ≤ 1024) ⌝ }
     ensures { λ r. ⌜ r ≡ lowest (namesOk (now (frames .entry))) (frameCount (now (frames .entry))) ⌝ }
 {
     let n = frame_count(frames);

@@ -18,7 +18,7 @@ first-misplaced-spec =
     tie.close
     (tie.spec
     (λ c κs. tt)
-    (λ c κs. c .find-starts .ensures)
+    (λ c κs. (c .find-starts .ensures, c .before .before .pre))
     (λ c κs. (c .before .find-starts .ensures, c .before .before .before .pre))
     (λ c κs. tt)
     returns)

@@ -1,6 +1,7 @@
 -- `first_misnamed`. The invariant: no frame passed names wrongly. Assumes nothing.
 use mathlib.Core.Path.{_≡_, refl, sym, ap, _∙_}
 use Prim.Native.Nat.{ℕ, _-_, _≤_}
+use native.Mathlib.Omega.{arith}
 use borrow.Author.Needs.{needs}
 use Rattle.scan.specs.Lowest.{lowest}
 use Rattle.scan.specs.declared.Found.the-variants.{Nothing}
@@ -23,7 +24,7 @@ unfolding namesOk
 tested c =
     let a = c .before .before .before .before .before .before .args in
     let k = c .before .before .before .loop .k in
-    c .names-of .ensures ∙ ap (namesOf (a .s) k) (c .before .frame-at .ensures) ∙ ap (λ (s : Starts). namesOf s k (frameAt (a .frames .now) k)) (c .before .before .before .before .before .before .pre)
+    c .names-of .ensures ∙ ap (namesOf (a .s) k) (c .before .frame-at .ensures) ∙ ap (λ (s : Starts). namesOf s k (frameAt (a .frames .now) k)) (c .before .before .before .before .before .before .pre .0)
 
 pub first-misnamed-spec : {M : Type 1} → statement M
 first-misnamed-spec =
@@ -34,7 +35,7 @@ first-misnamed-spec =
     (λ c κs. tt)
     (λ c. (search needs, lowest-zero _))
     (λ c κs. tt)
-    (λ c κs. tt)
+    (λ c κs. omega (arith, c .before .loop-test .taken, c .before .before .before .frame-count .ensures, c .before .before .before .before .before .pre .1))
     (λ c. search needs)
     (λ c. search needs)
     (λ c. (search needs, lowest-more _ _ (c .before .before .before .before .loop .inv .1) (tested (c .before)) (c .if1 .taken)))

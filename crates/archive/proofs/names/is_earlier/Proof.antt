@@ -1,6 +1,5 @@
 -- `is_earlier`: the test of the definition. Assumes nothing.
 use mathlib.Core.Path.{refl}
-use borrow.Author.Needs.{needs}
 use Rattle.archive.proofs.names.is_earlier.Statement.{statement}
 use Rattle.archive.proofs.names.is_earlier.Tie as tie
 
@@ -8,5 +7,4 @@ pub is-earlier-spec : {M : Type 1} → statement M
 is-earlier-spec =
     tie.close
     (tie.spec
-    (λ c. search needs)
     (λ c. refl))
