@@ -788,6 +788,32 @@ accepted('component-names-an-earlier-compose', [F32, LIT, compose(0, 1, 0), comp
 index('compose-range-before-its-component', 2, [F32, LIT, compose(0, 2, 0), component(1)])
 index('component-names-no-type-number', 4, [F32, F32, F32, LIT, component(2)])
 
+# ---- Only a struct holds members, and only a compose holds components.
+accepted('array-holds-no-member', [F32, array(0, 1, 0), U32, member(2), item(OVERRIDE)])
+accepted('unknown-type-holds-no-member', [ty(200, h4=1), F32, member(1)])
+accepted('binary-holds-no-component', [LIT, LIT, binary(0, 1), LIT, component(3)])
+accepted('math-holds-no-component', [row(MATH, h4=1), LIT, component(1)])
+accepted('unknown-row-holds-no-component', [row(35, h4=1), LIT, component(1)])
+accepted('atomic-holds-no-component', [ATOMIC_U32, LIT, component(0)])
+accepted('swizzle-holds-no-member', [F32, member(0), LIT, row(SWIZZLE, b6=2)])
+
+# ---- Number 6, where every family and item kind stands before.
+ITEMS = [item(CONSTANT), item(OVERRIDE), item(GLOBAL), item(ARGUMENT), item(LOCAL), function(0), item(INTERSECTION), item(VERTEX)]
+EVERY = [F32, struct(0, 1), member(0)] + ITEMS
+accepted('every-row-before', EVERY + [LIT, row(LOAD), compose(1, 2, 0), component(0), component(1)])
+index('every-row-itself', 12, EVERY + [LIT, row(LOAD, h2=1)])
+index('every-type-out-of-range', 11, EVERY + [row(ZERO_VALUE, h2=2)])
+index('every-constant-out-of-range', 11, EVERY + [row(R_CONSTANT, h2=1)])
+index('every-override-out-of-range', 11, EVERY + [row(R_OVERRIDE, h2=1)])
+index('every-global-out-of-range', 11, EVERY + [row(R_GLOBAL, h2=1)])
+index('every-local-out-of-range', 11, EVERY + [row(R_LOCAL, h2=1)])
+index('every-function-out-of-range', 11, EVERY + [row(CALL, h2=1)])
+index('every-compose-range-one-past', 12, EVERY + [LIT, compose(0, 2, 0), component(0)])
+index('every-component-names-its-compose', 13, EVERY + [LIT, compose(0, 1, 0), component(1)])
+index('every-component-out-of-range', 12, EVERY + [LIT, component(1)])
+index('every-member-range-one-past', 1, [F32, struct(0, 2), member(0)] + ITEMS + [LIT])
+index('every-member-names-its-struct', 2, [F32, struct(0, 1), member(1)] + ITEMS + [LIT])
+
 # ---- Number 6: the lowest of several.
 index('index-first', 0, [pointer(0), F32, LIT])
 index('index-middle', 1, [F32, pointer(1), LIT])
