@@ -1,5 +1,5 @@
 // Checks 4 to 6 over the frames of a file (document 01, "Numbers handed back"), and where each family begins.
-pub mod check;
+pub mod checks;
 pub mod families;
 mod names;
 pub mod order;

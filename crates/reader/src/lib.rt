@@ -1,6 +1,6 @@
 // The public functions over a file. Each checks the file first (document 01, "Numbers handed back").
 use answers::Outcome;
-use archive::check::check_frames;
+use archive::checks::check_frames;
 use text::AnswerRoom;
 use text::read_text;
 ghost use mathlib.Core.Path.{_≡_};

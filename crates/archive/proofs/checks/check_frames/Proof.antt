@@ -8,8 +8,8 @@ use borrow.Author.Tests.{lt-ltb, le-ltb}
 use Rattle.scan.proofs.Laws.{found-at}
 use Rattle.frames.specs.Bytes.{frameCount}
 use Rattle.archive.specs.Checks.{checkFrames}
-use Rattle.archive.proofs.check.check_frames.Statement.{statement}
-use Rattle.archive.proofs.check.check_frames.Tie as tie
+use Rattle.archive.proofs.checks.check_frames.Statement.{statement}
+use Rattle.archive.proofs.checks.check_frames.Tie as tie
 
 -- what the first test leaves
 few : (c : tie.Else1) → frameCount (c .before .before .before .args .frames .now) ≤ 1024

@@ -4,8 +4,8 @@ use Rattle.scan.proofs.Laws.{lowest-both}
 use Rattle.archive.specs.Names.{namesOk}
 use Rattle.archive.specs.Parts.{earlyOk}
 use Rattle.archive.specs.Checks.{indexOk}
-use Rattle.archive.proofs.check.first_misplaced.Statement.{statement}
-use Rattle.archive.proofs.check.first_misplaced.Tie as tie
+use Rattle.archive.proofs.checks.first_misplaced.Statement.{statement}
+use Rattle.archive.proofs.checks.first_misplaced.Tie as tie
 
 returns : tie.Need-returns
 unfolding indexOk

@@ -2,8 +2,8 @@
 use mathlib.Core.Path.{sym, _∙_}
 use native.Mathlib.Omega.{arith}
 use Rattle.scan.proofs.Laws.{found-at}
-use Rattle.archive.proofs.check.check_fields.Statement.{statement}
-use Rattle.archive.proofs.check.check_fields.Tie as tie
+use Rattle.archive.proofs.checks.check_fields.Statement.{statement}
+use Rattle.archive.proofs.checks.check_fields.Tie as tie
 
 pub check-fields-spec : {M : Type 1} → statement M
 check-fields-spec =

@@ -4,8 +4,8 @@ use native.Mathlib.Omega.{arith}
 use Rattle.scan.proofs.Laws.{found-at}
 use mathlib.Core.Path.{ap}
 use Rattle.answers.specs.declared.Outcome.the-variants.{Accepted}
-use Rattle.archive.proofs.check.check_index.Statement.{statement}
-use Rattle.archive.proofs.check.check_index.Tie as tie
+use Rattle.archive.proofs.checks.check_index.Statement.{statement}
+use Rattle.archive.proofs.checks.check_index.Tie as tie
 
 pub check-index-spec : {M : Type 1} → statement M
 check-index-spec =

@@ -7,8 +7,8 @@ use Rattle.scan.specs.declared.Found.the-variants.{Nothing}
 use Rattle.scan.proofs.Laws.{lowest-zero, lowest-more, lowest-hit, lowest-none}
 use Rattle.frames.specs.Forms.{fieldsFit}
 use Rattle.archive.specs.Checks.{fieldOk}
-use Rattle.archive.proofs.check.first_unfit.Statement.{statement}
-use Rattle.archive.proofs.check.first_unfit.Tie as tie
+use Rattle.archive.proofs.checks.first_unfit.Statement.{statement}
+use Rattle.archive.proofs.checks.first_unfit.Tie as tie
 
 abbrev Inv-loop : tie.InvT-loop
 Inv-loop frames n k₀ k = (k ≤ n) × (lowest (fieldOk frames) k ≡ Nothing)
