@@ -3,6 +3,7 @@
 use Prim.Native.Nat.{ℕ, _*_, _/_, _≤_, _<_}
 use native.Mathlib.Omega.{arith}
 use mathlib.Core.Path.{_≡_, refl, sym, ap, _∙_}
+use mathlib.Core.Bool.{true}
 use mathlib.Core.List.{List, _++_}
 use mathlib.Core.Logic.{_↔_}
 use lib.ListN.{length, drop}
@@ -13,9 +14,17 @@ use Rattle.text.specs.declared.AnswerRoom.the-variants.{NotLent}
 use Rattle.text.specs.Lines.{lineCount, decoded, textOf}
 use Rattle.text.specs.Reading.{readText, framesRead}
 use Rattle.text.proofs.Laws as T
-use Rattle.text.proofs.Laws.{Readable, TornAt, TooSmall, Bytes, by-read, length-decoded, count-small}
+use Rattle.text.proofs.Laws.{Readable, TornAt, TooSmall, Bytes, by-read, length-decoded, count-small, decoded-bytes}
 use Rattle.text.proofs.RoundTrip.{read-written, decoded-text}
-use Rattle.frames.specs.Bytes.{frameCount}
+use Rattle.ir.specs.declared.TypeKind.the-variants as Tk
+use Rattle.ir.specs.Numbers.{typeKindOf, rowKindOf}
+use Rattle.frames.specs.declared.Frame.{Frame}
+use Rattle.frames.specs.Bytes.{byte, frameAt, frameCount}
+use Rattle.frames.specs.Forms.{typeOf, rowOf, fieldsFit}
+use Rattle.frames.proofs.FieldBack.{Below}
+use Rattle.frames.proofs.Families.{fit-type, fit-row}
+use Rattle.frames.proofs.Put.{below-at}
+use Rattle.frames.proofs.Same.{Typed, same-type, same-row}
 use Rattle.archive.specs.Order.{orderOk}
 use Rattle.archive.specs.Checks.{fieldOk, indexOk, checkFrames}
 use Rattle.archive.proofs.Checked as C
@@ -145,3 +154,32 @@ unfolding framesAfter
 read-back frames n bytes e l buffer h =
     ap (λ (o : Outcome). framesRead o (textOf frames n) buffer) (read-written frames n bytes (length buffer) l h)
     ∙ ap (λ (s : List ℕ). s ++ drop (16 * n) buffer) (decoded-text frames n bytes e)
+
+-- FRAMES AND WHAT THEY READ AS
+
+-- two frames of an accepted file that read as the same type, of a known kind, are the same sixteen bytes; and so of rows, unless of kind Math
+module _ (t : List ℕ) (f : ℕ) (room : AnswerRoom) (n : ℕ) (a : Accepts t f room n) where
+  at : ℕ → Frame
+  at k = frameAt (decoded t n) k
+
+  fit : (k : ℕ) → k < n → fieldsFit (at k) ≡ true
+  unfolding at
+  fit k h = a .fields k (rw (count-decoded t n) h)
+
+  small : (k : ℕ) → Below (at k)
+  unfolding at
+  small = below-at (decoded t n) (decoded-bytes (a .readable))
+
+  pub types-differ : (j k : ℕ) → j < n → k < n → byte (frameAt (decoded t n) j) 0 ≡ 1 → byte (frameAt (decoded t n) k) 0 ≡ 1
+      → (typeKindOf (byte (frameAt (decoded t n) j) 1) ≡ Tk.Unknown → ⊥) → (typeKindOf (byte (frameAt (decoded t n) k) 1) ≡ Tk.Unknown → ⊥)
+      → typeOf (frameAt (decoded t n) j) ≡ typeOf (frameAt (decoded t n) k) → frameAt (decoded t n) j ≡ frameAt (decoded t n) k
+  unfolding at
+  types-differ j k l m e d u v =
+      same-type (at j) (at k) (small j) (small k) (e ∙ sym d) u v (sym (fit-type (at j) e) ∙ fit j l) (sym (fit-type (at k) d) ∙ fit k m)
+
+  pub rows-differ : (j k : ℕ) → j < n → k < n → byte (frameAt (decoded t n) j) 0 ≡ 4 → byte (frameAt (decoded t n) k) 0 ≡ 4
+      → Typed (rowKindOf (byte (frameAt (decoded t n) j) 1)) → Typed (rowKindOf (byte (frameAt (decoded t n) k) 1))
+      → rowOf (frameAt (decoded t n) j) ≡ rowOf (frameAt (decoded t n) k) → frameAt (decoded t n) j ≡ frameAt (decoded t n) k
+  unfolding at
+  rows-differ j k l m e d u v =
+      same-row (at j) (at k) (small j) (small k) (e ∙ sym d) u v (sym (fit-row (at j) e) ∙ fit j l) (sym (fit-row (at k) d) ∙ fit k m)
