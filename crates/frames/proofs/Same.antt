@@ -39,7 +39,8 @@ layout-back (fields l) p f w h = laid-back l f w h
 
 -- TYPES
 
-abbrev formFrame : ℕ → TypeForm → Frame
+-- the frame that a known type is written as
+abbrev pub formFrame : ℕ → TypeForm → Frame
 formFrame family (Tf.Known t) = typeFrame family t
 formFrame family Tf.Unknown = zeroFrame
 
@@ -85,7 +86,8 @@ type-below b n = go (decLt b 15)
     go (yes l) = l
     go (no l) = absurd (n (unknown-type b .1 (inr (omega arith))))
 
-type-again : (f : Frame) → Below f → (typeKindOf (byte f 1) ≡ Tk.Unknown → ⊥) → fitsAll (typeLayout (typeKindOf (byte f 1))) f ≡ true → formFrame (byte f 0) (typeOf f) ≡ f
+-- a frame that fits, of a known kind, is what the type that it reads as is written as
+pub type-again : (f : Frame) → Below f → (typeKindOf (byte f 1) ≡ Tk.Unknown → ⊥) → fitsAll (typeLayout (typeKindOf (byte f 1))) f ≡ true → formFrame (byte f 0) (typeOf f) ≡ f
 unfolding typeOf
 type-again f w n h =
     let k = typeKindOf (byte f 1) in

@@ -1,0 +1,4 @@
+pub mod Choices
+pub mod Later
+pub mod Shows
+pub mod Wider

@@ -1,0 +1,4 @@
+pub mod Answers
+pub mod Things
+pub mod Rule
+pub mod Claim
