@@ -254,7 +254,7 @@ faultOf s (number n) = inRange (isType s n)
 faultOf s (value t) = valueFault s t
 faultOf s (malformed f) = five
 
-abbrev seeForm : List ℕ → TypeForm → Option Form
+abbrev pub seeForm : List ℕ → TypeForm → Option Form
 seeForm fr (Tf.Known t) = some (record { inner = t; members = memberTypes fr (startsOf fr) t })
 seeForm fr Tf.Unknown = none
 
@@ -273,7 +273,7 @@ seeTexels (Ic.Depth m) = some (Ic.Depth m)
 seeTexels Ic.External = some Ic.External
 seeTexels (Ic.Storage f a) = none
 
-abbrev isStructForm : TypeForm → Bool
+abbrev pub isStructForm : TypeForm → Bool
 isStructForm (Tf.Known (Ti.Struct m n t)) = true
 isStructForm (Tf.Known (Ti.Scalar k)) = false
 isStructForm (Tf.Known (Ti.Vector z k)) = false

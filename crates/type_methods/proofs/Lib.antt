@@ -1,0 +1,5 @@
+pub mod Equality
+pub mod Laws
+pub mod Looks
+pub mod Seen
+pub mod Worked

@@ -1,0 +1,4 @@
+pub mod Canonical
+pub mod Comparison
+pub mod Looks
+pub mod Cases
