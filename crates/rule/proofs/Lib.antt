@@ -1,4 +1,5 @@
 pub mod Choices
 pub mod Later
+pub mod Named
 pub mod Shows
 pub mod Wider

@@ -263,7 +263,7 @@ seeValue t sound = some (record { inner = t; members = [] })
 seeValue t five = none
 seeValue t six = none
 
-abbrev seeRow : List ℕ → RowForm → Option Shown
+abbrev pub seeRow : List ℕ → RowForm → Option Shown
 seeRow fr (Ro.Known e) = shown fr (startsOf fr) e
 seeRow fr Ro.Unknown = none
 

@@ -28,6 +28,6 @@ unfolding sameType equalTypes identical listed typeAt frameAt typeOf memberOf st
 worked = refl
 
 -- the file passes checks 4 to 6
-accepted : checkFrames file ≡ Accepted 8
+accepted : checkFrames file ≡ Accepted 9
 unfolding lowest allBelow build sumBelow frameAt typeOf itemOf rowOf memberOf componentOf fieldsFit orderOk start startsOf namesOk earlyOk indexOk checkFrames
 accepted = refl

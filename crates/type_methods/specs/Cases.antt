@@ -9,11 +9,12 @@ use Rattle.rule.specs.Answers.{Result, told, newer, nowhere, Compared, alike, u
 abbrev short : ℕ → ℕ → ℕ → ℕ → ℕ → ℕ → ℕ → ℕ → List ℕ
 short b0 b1 b2 b3 b4 b5 b6 b7 = b0 ∷ b1 ∷ b2 ∷ b3 ∷ b4 ∷ b5 ∷ b6 ∷ b7 ∷ 0 ∷ 0 ∷ 0 ∷ 0 ∷ 0 ∷ 0 ∷ 0 ∷ 0 ∷ []
 
--- types 0 to 6: f32, vec3 of it, a pointer to type 0 in Function, two alike structs of one member, kind 200, a pointer to it; then the member
+-- types 0 to 7: f32, vec3 of it, a pointer to type 0 in Function, two alike structs of one member, kind 200, a pointer to it, f32 again; then the
+-- member
 abbrev pub file : List ℕ
 file =
     short 1 1 0 0 2 4 0 0 ++ short 1 2 3 0 2 4 0 0 ++ short 1 6 0 0 0 0 0 0 ++ short 1 9 0 0 1 0 0 0 ++ short 1 9 0 0 1 0 0 0
-    ++ short 1 200 0 0 0 0 0 0 ++ short 1 6 5 0 0 0 0 0 ++ short 2 0 0 0 0 0 0 0
+    ++ short 1 200 0 0 0 0 0 0 ++ short 1 6 5 0 0 0 0 0 ++ short 1 1 0 0 2 4 0 0 ++ short 2 0 0 0 0 0 0 0
 
 pub record Case : Type 0 where
   pub left : Frame
@@ -22,6 +23,10 @@ pub record Case : Type 0 where
 
 abbrev case : List ℕ → List ℕ → Result Compared → Case
 case l r o = record { left = frameAt l 0; right = frameAt r 0; outcome = o }
+
+-- a dynamic array as a value, by its base and stride
+abbrev array : ℕ → ℕ → List ℕ
+array b t = 9 ∷ 8 ∷ b ∷ 0 ∷ 2 ∷ 0 ∷ 0 ∷ 0 ∷ 0 ∷ 0 ∷ 0 ∷ 0 ∷ t ∷ 0 ∷ 0 ∷ 0 ∷ []
 
 -- the number of a type
 abbrev numbered : ℕ → List ℕ
@@ -40,6 +45,9 @@ table =
     ∷ case (numbered 3) (numbered 4) (told unlike) ∷ case (numbered 3) (numbered 3) (told alike) ∷ case (numbered 3) (numbered 5) (told unlike)
     -- a number and the value of the same form
     ∷ case (numbered 0) (short 9 1 0 0 2 4 0 0) (told alike) ∷ case (numbered 0) (numbered 1) (told unlike)
+    -- two numbers of one type are the same type, and so are pointers to them; arrays over them are not, nor arrays of other strides
+    ∷ case (numbered 0) (numbered 7) (told alike) ∷ case (numbered 2) (short 9 6 7 0 0 0 0 0) (told alike)
+    ∷ case (array 0 4) (array 7 4) (told unlike) ∷ case (array 0 4) (array 0 8) (told unlike) ∷ case (array 0 4) (array 0 4) (told alike)
     -- unknown kinds: identical is yes; else newer, also as a pointer's base, and where the two can't be equal
     ∷ case (numbered 5) (numbered 5) (told alike) ∷ case (numbered 6) (numbered 6) (told alike) ∷ case (numbered 0) (numbered 5) (newer nowhere)
     ∷ case (numbered 0) (numbered 6) (newer nowhere) ∷ case (numbered 6) (numbered 0) (newer nowhere)
@@ -52,7 +60,7 @@ table =
     ∷ case (short 1 1 0 0 2 4 0 0) (numbered 0) (told field) ∷ case (short 9 1 0 0 6 4 0 0) (short 9 1 0 0 6 4 0 0) (told field)
     ∷ case (short 9 8 0 0 0 0 0 0) (numbered 0) (told field)
     -- 6: a number, a base or an override out of range; a left 6 comes before a right 5, and in one frame 5 before 6
-    ∷ case (numbered 7) (numbered 7) (told index) ∷ case (short 9 6 7 0 0 0 0 0) (numbered 0) (told index)
-    ∷ case (short 9 8 0 0 1 0 0 0) (numbered 0) (told index) ∷ case (numbered 7) (short 8 1 0 0 0 0 0 0) (told index)
-    ∷ case (short 9 8 7 0 0 0 0 0) (numbered 0) (told field)
+    ∷ case (numbered 8) (numbered 8) (told index) ∷ case (short 9 6 8 0 0 0 0 0) (numbered 0) (told index)
+    ∷ case (short 9 8 0 0 1 0 0 0) (numbered 0) (told index) ∷ case (numbered 8) (short 8 1 0 0 0 0 0 0) (told index)
+    ∷ case (short 9 8 8 0 0 0 0 0) (numbered 0) (told field)
     ∷ []
