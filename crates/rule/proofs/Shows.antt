@@ -4,8 +4,8 @@ use Prim.Native.Nat.{ℕ, _+_, _≤_, _<_}
 use native.Mathlib.Decide.{decLt}
 use native.Mathlib.Omega.{arith}
 use mathlib.Core.Path.{_≡_, refl, sym, ap, _∙_}
-use mathlib.Core.Bool.{true}
-use mathlib.Core.List.{List}
+use mathlib.Core.Bool.{Bool, true, false}
+use mathlib.Core.List.{List, []}
 use mathlib.Core.Logic.{_⊎_, inl, inr, _↔_}
 use mathlib.Core.Option.{none, some}
 use Rattle.ir.specs.declared.TypeNumber.{TypeNumber}
@@ -14,6 +14,7 @@ use Rattle.ir.specs.declared.StorageFormat.{StorageFormat}
 use Rattle.ir.specs.declared.StorageAccess.{StorageAccess}
 use Rattle.ir.specs.declared.ImageClass.{ImageClass}
 use Rattle.ir.specs.declared.ImageClass.the-variants as Ic
+use Rattle.ir.specs.declared.TypeInner.{TypeInner}
 use Rattle.ir.specs.declared.TypeForm.{TypeForm}
 use Rattle.ir.specs.declared.TypeForm.the-variants as Tf
 use Rattle.ir.specs.declared.RowKind.{RowKind}
@@ -31,8 +32,8 @@ use Rattle.frames.proofs.Unknown.{unknown-type-frame, unknown-row-frame}
 use Rattle.archive.specs.declared.Starts.{Starts}
 use Rattle.archive.specs.Starts.{startsOf}
 use Rattle.archive.specs.Names.{isType, isRow}
-use Rattle.rule.specs.Answers.{number}
-use Rattle.rule.specs.Things.{typeAt, rowAt, shown, kind, form, texels, see}
+use Rattle.rule.specs.Answers.{TypeAnswer, number, value, malformed}
+use Rattle.rule.specs.Things.{typeAt, rowAt, shown, kind, form, texels, Fault, sound, five, six, inRange, valueFault, faultOf, seeValue, see}
 
 never : {X : Type 0} → _≡_ {A = ℕ} 0 1 → X
 never z = absurd (omega arith)
@@ -52,6 +53,27 @@ module _ (fr : List ℕ) where
       let f = frameAt fr (n .0) in
       let e : typeAt fr n ≡ typeOf f = rw i in
       (λ h. unknown-type-frame f .0 (type-none n (typeOf f) e .0 h), λ h. type-none n (typeOf f) e .1 (unknown-type-frame f .1 h))
+
+  -- a type that a comparison would answer with 5 or 6 shows nothing, so it counts as one of unknown kind
+
+  number-faulty : (n : TypeNumber) (b : Bool) → isType (startsOf fr) n ≡ b → (inRange b ≡ sound → ⊥) → see fr (form (number n)) ≡ none
+  unfolding typeAt
+  number-faulty n true e d = absurd (d refl)
+  number-faulty n false e d = rw e
+
+  value-faulty : (t : TypeInner) (v : Fault) → (v ≡ sound → ⊥) → seeValue t v ≡ none
+  value-faulty t sound d = absurd (d refl)
+  value-faulty t five d = refl
+  value-faulty t six d = refl
+
+  pub faulty-newer : (a : TypeAnswer) → (faultOf (startsOf fr) a ≡ sound → ⊥) → see fr (form a) ≡ none
+  faulty-newer (number n) d = number-faulty n (isType (startsOf fr) n) refl d
+  faulty-newer (value t) d = value-faulty t (valueFault (startsOf fr) t) d
+  faulty-newer (malformed f) d = refl
+
+  -- and a value that gets neither shows itself
+  pub value-shows : (t : TypeInner) → valueFault (startsOf fr) t ≡ sound → see fr (form (value t)) ≡ some (record { inner = t; members = [] })
+  value-shows t e = ap (seeValue t) e
 
   -- ROWS
 

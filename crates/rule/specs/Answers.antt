@@ -9,14 +9,16 @@ use Rattle.ir.specs.declared.TypeInner.{TypeInner}
 use Rattle.ir.specs.declared.TypeForm.{TypeForm}
 use Rattle.ir.specs.declared.TypeForm.the-variants as Tf
 use Rattle.ir.specs.Numbers.{typeKindOf}
-use Rattle.answers.specs.Numbers.{Judged, at, refusalValues}
+use Rattle.answers.specs.Numbers.{at, refusalValues}
 use Rattle.answers.specs.declared.Refusal.{Refusal}
+use Rattle.answers.specs.declared.Verdict.the-variants as Vd
 use Rattle.frames.specs.declared.Frame.{Frame}
 use Rattle.frames.specs.Bytes.{byte, half}
 use Rattle.frames.specs.Fields.{fitsAll}
 use Rattle.frames.specs.Layout.{typeLayout, numberLayout}
 use Rattle.frames.specs.Forms.{typeOf}
-use Rattle.frames.specs.Out.{numberFrame, typeFrame, refusedFrame, judgedFrame}
+use Rattle.frames.specs.Out as Out
+use Rattle.frames.specs.Out.{numberFrame, typeFrame, refusedFrame}
 
 -- a type answer: the number of a type, family 8; a value, family 9; or a malformed frame of these families, as it stands
 pub data TypeAnswer : Type 0 where
@@ -79,22 +81,21 @@ abbrev pub rowFrame : Result Typed → Frame
 rowFrame (told t) = typedFrame t
 rowFrame (newer p) = newerFrame p
 
-abbrev judged : ℕ → ℕ → ℕ → Judged
-judged n a b = record { number = n; first = a; given = b }
-
+-- number 22 as a verdict; a verdict's place is a component or the composed type, and no rule of a verdict gives the first and fourth line
 abbrev pub newerVerdict : RowNumber → Place → Frame
-newerVerdict r (row m) = judgedFrame r (judged 22 0 0)
-newerVerdict r (component i) = judgedFrame r (judged 22 i 0)
-newerVerdict r composed = judgedFrame r (judged 22 0xffff_ffff 0)
-newerVerdict r nowhere = judgedFrame r (judged 22 0 0)
+newerVerdict r (row m) = Out.verdictFrame r (Vd.NewerComponent 0)
+newerVerdict r (component i) = Out.verdictFrame r (Vd.NewerComponent i)
+newerVerdict r composed = Out.verdictFrame r Vd.NewerComposed
+newerVerdict r nowhere = Out.verdictFrame r (Vd.NewerComponent 0)
 newerVerdict r (chosen f) = f
 
+-- the numbers are those of `verdictValues` (answers/specs/Numbers.antt)
 abbrev pub judgementFrame : RowNumber → Judgement → Frame
-judgementFrame r passes = judgedFrame r (judged 0 0 0)
-judgementFrame r notComposed = judgedFrame r (judged 30 0 0)
-judgementFrame r (count e g) = judgedFrame r (judged 31 e g)
-judgementFrame r (part i) = judgedFrame r (judged 32 i 0)
-judgementFrame r (broken i) = judgedFrame r (judged 33 i 0)
+judgementFrame r passes = Out.verdictFrame r Vd.Passes
+judgementFrame r notComposed = Out.verdictFrame r Vd.ComposedType
+judgementFrame r (count e g) = Out.verdictFrame r (Vd.ComponentCount e g)
+judgementFrame r (part i) = Out.verdictFrame r (Vd.ComponentType i)
+judgementFrame r (broken i) = Out.verdictFrame r (Vd.ComponentRefused i)
 judgementFrame r (chosenVerdict f) = f
 
 -- the verdict of compose row r, family 11

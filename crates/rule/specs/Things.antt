@@ -225,7 +225,7 @@ isCount (As.Pending o) = true
 isCount As.Dynamic = true
 
 -- 6 unless it holds
-abbrev inRange : Bool → Fault
+abbrev pub inRange : Bool → Fault
 inRange true = sound
 inRange false = six
 
@@ -258,7 +258,7 @@ abbrev pub seeForm : List ℕ → TypeForm → Option Form
 seeForm fr (Tf.Known t) = some (record { inner = t; members = memberTypes fr (startsOf fr) t })
 seeForm fr Tf.Unknown = none
 
-abbrev seeValue : TypeInner → Fault → Option Form
+abbrev pub seeValue : TypeInner → Fault → Option Form
 seeValue t sound = some (record { inner = t; members = [] })
 seeValue t five = none
 seeValue t six = none
