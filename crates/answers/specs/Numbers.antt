@@ -10,6 +10,11 @@ use Rattle.answers.specs.declared.Verdict.{Verdict}
 use Rattle.answers.specs.declared.Verdict.the-variants as Vd
 use Rattle.answers.specs.declared.Sameness.{Sameness}
 use Rattle.answers.specs.declared.Sameness.the-variants as S
+use Rattle.answers.specs.declared.PointerBase.{PointerBase}
+use Rattle.answers.specs.declared.PointerBase.the-variants as P
+use Rattle.answers.specs.declared.CanonicalType.{CanonicalType}
+use Rattle.answers.specs.declared.CanonicalType.the-variants as C
+use Rattle.ir.specs.declared.TypeResolution.{TypeResolution}
 
 -- the values of a refusal's frame, family 10: number, place, index, indexed
 pub record Refused : Type 0 where
@@ -74,3 +79,22 @@ samenessSaid S.Newer = numbered (at 22 0)
 samenessSaid S.Field = numbered (at 5 0)
 samenessSaid S.Index = numbered (at 6 0)
 samenessSaid (S.NotAccepted o) = numbered (outcomeValues o)
+
+-- what is said of a type: a type, that it is no pointer, or a number with its place
+pub data SaidOf : Type 0 where
+  type : TypeResolution → SaidOf
+  noPointer : SaidOf
+  refused : Refused → SaidOf
+
+abbrev pub baseSaid : PointerBase → SaidOf
+baseSaid (P.Base t) = type t
+baseSaid P.NotPointer = noPointer
+baseSaid P.Newer = refused (at 22 0)
+baseSaid P.Index = refused (at 6 0)
+baseSaid (P.NotAccepted o) = refused (outcomeValues o)
+
+abbrev pub canonicalSaid : CanonicalType → SaidOf
+canonicalSaid (C.Form t) = type t
+canonicalSaid C.Newer = refused (at 22 0)
+canonicalSaid C.Index = refused (at 6 0)
+canonicalSaid (C.NotAccepted o) = refused (outcomeValues o)

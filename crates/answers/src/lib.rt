@@ -1,8 +1,8 @@
 // What is handed back (document 01, "Numbers handed back"): an enum for each kind of answer. specs/Numbers.antt gives the
 // document's number and values for each case.
 use ir::RowNumber;
-use ir::TypeInner;
 use ir::TypeNumber;
+use ir::TypeResolution;
 
 // What reading a file gives. A place is the number of a line or of a frame, from 0.
 pub enum Outcome {
@@ -13,12 +13,6 @@ pub enum Outcome {
     Order { frame: u16 },
     Field { frame: u16 },
     Index { frame: u16 },
-}
-
-// The type that a row was given: a type of the file, by number, or a value. The source's TypeResolution.
-pub enum TypeResolution {
-    Handle(TypeNumber),
-    Value(TypeInner),
 }
 
 // Why a row has no type. The source's ResolveError, without its texts.
@@ -61,6 +55,23 @@ pub enum Sameness {
     Different,
     Newer,
     Field,
+    Index,
+    NotAccepted(Outcome),
+}
+
+// What asking for a pointer's base gives.
+pub enum PointerBase {
+    Base(TypeResolution),
+    NotPointer,
+    Newer,
+    Index,
+    NotAccepted(Outcome),
+}
+
+// What asking for a type's canonical form gives: the value pointer, or the type's own number where the source gives None.
+pub enum CanonicalType {
+    Form(TypeResolution),
+    Newer,
     Index,
     NotAccepted(Outcome),
 }

@@ -3,3 +3,4 @@ pub mod Starts
 pub mod Names
 pub mod Parts
 pub mod Checks
+pub mod Access

@@ -1,4 +1,5 @@
 // Checks 4 to 6 over the frames of a file (document 01, "Numbers handed back"), and where each family begins.
+pub mod access;
 pub mod checks;
 pub mod families;
 mod names;

@@ -1,5 +1,9 @@
 // Number 6: what each frame names.
 use super::Starts;
+use super::access::is_item;
+use super::access::is_type;
+use super::access::minus;
+use super::access::size_names;
 use frames::Frame;
 use frames::frame_at;
 use frames::frame_count;
@@ -8,7 +12,6 @@ use ir::Expression;
 use ir::FunctionResult;
 use ir::ImageQuery;
 use ir::Item;
-use ir::ItemNumber;
 use ir::RelationalFunction;
 use ir::RowForm;
 use ir::RowNumber;
@@ -27,19 +30,6 @@ ghost use Rattle.frames.specs.Bytes.{frameCount};
 ghost use Rattle.archive.specs.Starts.{startsOf};
 ghost use Rattle.archive.specs.Names.{isType, isRow, sizeNames, typeNames, typeFormNames, resultNames, itemNames, isEarlier, queryNames, relationalNames, rowNames, rowFormNames, namesOf, namesOk};
 
-// a - b, and 0 where b is more.
-pub(crate) fn minus(a: usize, b: usize) -> usize
-    ensures { λ r. ⌜ r ≡ a - b ⌝ }
-{
-    if a < b { 0 } else { a - b }
-}
-
-fn is_type(s: Starts, n: TypeNumber) -> bool
-    ensures { λ r. ⌜ r ≡ isType s n ⌝ }
-{
-    (n.0 as usize) < s.members
-}
-
 fn is_row(s: Starts, n: RowNumber) -> bool
     ensures { λ r. ⌜ r ≡ isRow s n ⌝ }
 {
@@ -53,28 +43,11 @@ fn is_earlier(n: RowNumber, m: RowNumber) -> bool
     m.0 < n.0
 }
 
-// An item of the frames from `first` up to `last`.
-fn is_item(first: usize, last: usize, n: ItemNumber) -> bool
-    ensures { λ r. ⌜ r ≡ ltb (n .0) (last - first) ⌝ }
-{
-    (n.0 as usize) < minus(last, first)
-}
-
 // A range within the frames from `first` up to `last`.
 fn is_range(first: usize, last: usize, n: u32, count: u16) -> bool
     ensures { λ r. ⌜ r ≡ leb (n + count) (last - first) ⌝ }
 {
     (n as usize) + (count as usize) <= minus(last, first)
-}
-
-fn size_names(s: Starts, size: ArraySize) -> bool
-    ensures { λ r. ⌜ r ≡ sizeNames s size ⌝ }
-{
-    match size {
-        ArraySize::Constant(_) => true,
-        ArraySize::Pending(o) => is_item(s.overrides, s.globals, o),
-        ArraySize::Dynamic => true,
-    }
 }
 
 fn base_names(s: Starts, n: TypeNumber, base: TypeNumber, size: ArraySize) -> bool

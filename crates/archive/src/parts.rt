@@ -1,7 +1,7 @@
 // Number 6: parts and their owners.
 use super::Held;
 use super::Starts;
-use super::names::minus;
+use super::access::minus;
 use frames::Frame;
 use frames::frame_at;
 use frames::frame_count;

@@ -8,7 +8,7 @@ ghost use mathlib.Core.Bool.{true, _&&_, _||_};
 ghost use mathlib.Core.List.{[]};
 ghost use lib.Dec.{leb, ltb, eqb};
 ghost use Rattle.frames.specs.Fields.{fits, fitsAll, isSize, isSpace, isArraySize, isOption, class, query, relational, fields};
-ghost use Rattle.frames.specs.Layout.{typeLayout, itemLayout, rowLayout, componentLayout};
+ghost use Rattle.frames.specs.Layout.{typeLayout, itemLayout, rowLayout, componentLayout, numberLayout};
 ghost use Rattle.frames.specs.Forms.{fieldsFit};
 
 fn size_fits(b: u8) -> bool
@@ -135,7 +135,15 @@ pub fn fields_fit(f: Frame) -> bool
     }
 }
 
-fn type_fits(kind: TypeKind, f: Frame) -> bool
+// A type number, family 8 or what names a type, after its family and kind.
+pub fn number_fits(f: Frame) -> bool
+    ensures { λ r. ⌜ r ≡ fitsAll numberLayout f ⌝ }
+{
+    zero_from_4(f)
+}
+
+// A type of a kind, family 1 or a value of family 9.
+pub fn type_fits(kind: TypeKind, f: Frame) -> bool
     ensures { λ r. ⌜ r ≡ fitsAll (typeLayout kind) f ⌝ }
 {
     match kind {

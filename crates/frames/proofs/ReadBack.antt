@@ -19,7 +19,7 @@ use Rattle.ir.specs.declared.TypeForm.the-variants as Tf
 use Rattle.answers.specs.declared.Answer.{Answer}
 use Rattle.answers.specs.declared.Answer.the-variants as An
 use Rattle.answers.specs.declared.Refusal.the-variants as Re
-use Rattle.answers.specs.declared.TypeResolution.the-variants as Tr
+use Rattle.ir.specs.declared.TypeResolution.the-variants as Tr
 use Rattle.answers.specs.declared.Verdict.{Verdict}
 use Rattle.answers.specs.declared.Verdict.the-variants as Vd
 use Rattle.frames.specs.Bytes.{half}

@@ -20,8 +20,8 @@ use Rattle.answers.specs.declared.Answer.the-variants as An
 use Rattle.answers.specs.declared.Outcome.{Outcome}
 use Rattle.answers.specs.declared.Refusal.{Refusal}
 use Rattle.answers.specs.declared.Refusal.the-variants as Re
-use Rattle.answers.specs.declared.TypeResolution.{TypeResolution}
-use Rattle.answers.specs.declared.TypeResolution.the-variants as Tr
+use Rattle.ir.specs.declared.TypeResolution.{TypeResolution}
+use Rattle.ir.specs.declared.TypeResolution.the-variants as Tr
 use Rattle.answers.specs.declared.Verdict.{Verdict}
 use Rattle.answers.specs.declared.Verdict.the-variants as Vd
 use Rattle.frames.specs.declared.Frame.{Frame}

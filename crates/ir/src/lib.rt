@@ -1,6 +1,7 @@
 // The declarations of the source (ir/mod.rs), its names and its order, in the forms that document 01 asks for: a number type
 // for each arena in the place of Handle<T>, enums by value, and an enum of its own for each Option.
 pub mod numbers;
+pub mod type_methods;
 
 // The number of a type, counted from 0 within family 1.
 pub struct TypeNumber(pub u16);
@@ -271,6 +272,30 @@ pub enum TypeInner {
 pub enum TypeForm {
     Known(TypeInner),
     Unknown,
+}
+
+// The type of an expression: a type of the file, by number, or a value.
+pub enum TypeResolution {
+    Handle(TypeNumber),
+    Value(TypeInner),
+}
+
+// The source's Option<Scalar>.
+pub enum OptionScalar {
+    None,
+    Some(Scalar),
+}
+
+// The source's Option<AddressSpace>.
+pub enum OptionAddressSpace {
+    None,
+    Some(AddressSpace),
+}
+
+// The source's Option<TypeResolution>.
+pub enum OptionTypeResolution {
+    None,
+    Some(TypeResolution),
 }
 
 pub struct StructMember {

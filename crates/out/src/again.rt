@@ -1,12 +1,12 @@
 // An answer and a verdict read again from the frame that was handed back.
 use answers::Answer;
 use answers::Refusal;
-use answers::TypeResolution;
 use answers::Verdict;
 use frames::Frame;
 use ir::RowNumber;
 use ir::TypeForm;
 use ir::TypeNumber;
+use ir::TypeResolution;
 ghost use mathlib.Core.Path.{_≡_};
 ghost use Rattle.frames.specs.Bytes.{word};
 ghost use Rattle.frames.specs.Out.{refusalOf, valueOf, answerOf, newerOf, verdictOf};

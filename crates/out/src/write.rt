@@ -3,7 +3,6 @@
 use answers::Answer;
 use answers::Outcome;
 use answers::Refusal;
-use answers::TypeResolution;
 use answers::Verdict;
 use frames::Frame;
 use ir::AddressSpace;
@@ -16,6 +15,7 @@ use ir::RowNumber;
 use ir::Scalar;
 use ir::TypeInner;
 use ir::TypeNumber;
+use ir::TypeResolution;
 use ir::numbers::flag_number;
 ghost use mathlib.Core.Path.{_≡_};
 ghost use Prim.Native.Nat.{_/_, _%_};

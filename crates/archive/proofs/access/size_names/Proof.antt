@@ -1,6 +1,6 @@
 -- `size_names`: each arm knows its case, and what its calls ensure. Assumes nothing.
-use Rattle.archive.proofs.names.size_names.Statement.{statement}
-use Rattle.archive.proofs.names.size_names.Tie as tie
+use Rattle.archive.proofs.access.size_names.Statement.{statement}
+use Rattle.archive.proofs.access.size_names.Tie as tie
 
 pub size-names-spec : {M : Type 1} → statement M
 size-names-spec =

@@ -1,0 +1,31 @@
+-- What a file holds, over its frames and where its families begin (document 01, "The file": numbers count from 0 within a family). Every number is
+-- answered: where there is no such type or row, as one of unknown kind.
+use Prim.Native.Nat.{ℕ, _+_}
+use mathlib.Core.Bool.{cond}
+use mathlib.Core.List.{List}
+use Rattle.ir.specs.declared.TypeNumber.{TypeNumber}
+use Rattle.ir.specs.declared.RowNumber.{RowNumber}
+use Rattle.ir.specs.declared.TypeForm.{TypeForm}
+use Rattle.ir.specs.declared.TypeForm.the-variants as Tf
+use Rattle.ir.specs.declared.RowForm.{RowForm}
+use Rattle.ir.specs.declared.RowForm.the-variants as Ro
+use Rattle.frames.specs.Bytes.{frameAt}
+use Rattle.frames.specs.Forms.{typeOf, rowOf}
+use Rattle.archive.specs.declared.Starts.{Starts}
+use Rattle.archive.specs.Starts.{startsOf}
+use Rattle.archive.specs.Names.{isType, isRow}
+
+-- type n: types begin the file
+unfoldable pub typeIn : List ℕ → Starts → TypeNumber → TypeForm
+typeIn fr s n = cond (isType s n) (typeOf (frameAt fr (n .0))) Tf.Unknown
+
+-- row n
+unfoldable pub rowIn : List ℕ → Starts → RowNumber → RowForm
+rowIn fr s n = cond (isRow s n) (rowOf (frameAt fr (s .rows + n .0))) Ro.Unknown
+
+-- the same of a file, whose families begin where its frames say
+abbrev pub typeAt : List ℕ → TypeNumber → TypeForm
+typeAt fr n = typeIn fr (startsOf fr) n
+
+abbrev pub rowAt : List ℕ → RowNumber → RowForm
+rowAt fr n = rowIn fr (startsOf fr) n
