@@ -32,7 +32,8 @@ use Rattle.archive.proofs.Checked.{Holds}
 use Rattle.archive.proofs.Ranks.{begins}
 use Rattle.archive.proofs.Files.{from-start}
 use Rattle.rule.specs.Answers.{number}
-use Rattle.rule.specs.Things.{listed, typeAt, rowAt, itemType, itemSpace, itemResult, maybeItem, Shown, constant, override, compose, functionArgument, globalVariable, localVariable, callResult, rayQueryVertexPositions, rayQueryGetIntersection, kind, form, Form, seeForm, seeRow, see}
+use Rattle.archive.specs.Access.{typeIn, typeAt, rowIn, rowAt}
+use Rattle.rule.specs.Things.{listed, itemType, itemSpace, itemResult, maybeItem, Shown, constant, override, compose, functionArgument, globalVariable, localVariable, callResult, rayQueryVertexPositions, rayQueryGetIntersection, kind, form, Form, seeForm, seeRow, see}
 
 -- an item of a rank between two kinds is of the first
 kind-of : (j : ℕ) (f : Frame) → 1 ≤ j → j ≤ 8 → 768 + j ≤ rankOf f → rankOf f < 769 + j → f .b1 ≡ j
@@ -71,11 +72,11 @@ module _ (fr : List ℕ) (ordered : Holds orderOk fr) where
     abbrev at : Frame
     at = frameAt fr (startsOf fr .rows + n .0)
 
-    row-at : (k : ℕ) → byte at 1 ≡ k → see fr (kind n) ≡ seeRow fr (rowAs (rowKindOf k) at)
-    unfolding rowAt rowOf
+    row-at : (k : ℕ) → byte at 1 ≡ k → see fr (kind n) ≡ seeRow fr (startsOf fr) (rowAs (rowKindOf k) at)
+    unfolding rowIn rowOf
     row-at k e =
         let q : rowAt fr n ≡ rowOf at = rw here in
-        ap (seeRow fr) q ∙ ap (λ (x : ℕ). seeRow fr (rowAs (rowKindOf x) at)) e
+        ap (seeRow fr (startsOf fr)) q ∙ ap (λ (x : ℕ). seeRow fr (startsOf fr) (rowAs (rowKindOf x) at)) e
 
     -- AN ITEM'S TYPE stands in the item's b2-3
 
@@ -153,11 +154,11 @@ module _ (fr : List ℕ) (ordered : Holds orderOk fr) where
         inner = Ti.Struct (record { 0 = half f 2 }) (half f 4) (word f 12);
         members = listed (λ (i : ℕ). record { 0 = half (frameAt fr (startsOf fr .members + half f 2 + i)) 2 }) (half f 4);
       })
-  unfolding typeAt typeOf memberOf
+  unfolding typeIn typeOf memberOf
   members-named n here e =
       let f = frameAt fr (n .0) in
       let q : typeAt fr n ≡ typeOf f = rw here in
-      ap (seeForm fr) q ∙ ap (λ (x : ℕ). seeForm fr (typeAs (typeKindOf x) f)) e
+      ap (seeForm fr (startsOf fr)) q ∙ ap (λ (x : ℕ). seeForm fr (startsOf fr) (typeAs (typeKindOf x) f)) e
 
 -- A LIST OF n has n items, the i-th where it should be
 pub listed-length : {A : Type 0} (f : ℕ → A) (n : ℕ) → length (listed f n) ≡ n

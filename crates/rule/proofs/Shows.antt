@@ -15,6 +15,7 @@ use Rattle.ir.specs.declared.StorageAccess.{StorageAccess}
 use Rattle.ir.specs.declared.ImageClass.{ImageClass}
 use Rattle.ir.specs.declared.ImageClass.the-variants as Ic
 use Rattle.ir.specs.declared.TypeInner.{TypeInner}
+use Rattle.ir.specs.declared.TypeInner.the-variants as Ti
 use Rattle.ir.specs.declared.TypeForm.{TypeForm}
 use Rattle.ir.specs.declared.TypeForm.the-variants as Tf
 use Rattle.ir.specs.declared.RowKind.{RowKind}
@@ -33,7 +34,10 @@ use Rattle.archive.specs.declared.Starts.{Starts}
 use Rattle.archive.specs.Starts.{startsOf}
 use Rattle.archive.specs.Names.{isType, isRow}
 use Rattle.rule.specs.Answers.{TypeAnswer, number, value, malformed}
-use Rattle.rule.specs.Things.{typeAt, rowAt, shown, kind, form, texels, Fault, sound, five, six, inRange, valueFault, faultOf, seeValue, see}
+use Rattle.archive.specs.Access.{typeIn, typeAt, rowIn, rowAt}
+use Rattle.rule.specs.declared.Fault.{Fault}
+use Rattle.rule.specs.declared.Fault.the-variants as Fa
+use Rattle.rule.specs.Things.{shown, kind, form, texels, inRange, valueFault, faultOf, soundForm, seeForm, see}
 
 never : {X : Type 0} → _≡_ {A = ℕ} 0 1 → X
 never z = absurd (omega arith)
@@ -48,7 +52,7 @@ module _ (fr : List ℕ) where
   -- a type of the file shows nothing exactly when byte 1 is outside 1 to 14
   pub type-newer : (n : TypeNumber) → isType (startsOf fr) n ≡ true
       → (see fr (form (number n)) ≡ none) ↔ ((byte (frameAt fr (n .0)) 1 ≡ 0) ⊎ (15 ≤ byte (frameAt fr (n .0)) 1))
-  unfolding typeAt
+  unfolding typeIn
   type-newer n i =
       let f = frameAt fr (n .0) in
       let e : typeAt fr n ≡ typeOf f = rw i in
@@ -56,24 +60,37 @@ module _ (fr : List ℕ) where
 
   -- a type that a comparison would answer with 5 or 6 shows nothing, so it counts as one of unknown kind
 
-  number-faulty : (n : TypeNumber) (b : Bool) → isType (startsOf fr) n ≡ b → (inRange b ≡ sound → ⊥) → see fr (form (number n)) ≡ none
-  unfolding typeAt
+  number-faulty : (n : TypeNumber) (b : Bool) → isType (startsOf fr) n ≡ b → (inRange b ≡ Fa.Sound → ⊥) → see fr (form (number n)) ≡ none
+  unfolding typeIn
   number-faulty n true e d = absurd (d refl)
   number-faulty n false e d = rw e
 
-  value-faulty : (t : TypeInner) (v : Fault) → (v ≡ sound → ⊥) → seeValue t v ≡ none
-  value-faulty t sound d = absurd (d refl)
-  value-faulty t five d = refl
-  value-faulty t six d = refl
+  value-faulty : (t : TypeInner) (v : Fault) → (v ≡ Fa.Sound → ⊥) → seeForm fr (startsOf fr) (soundForm t v) ≡ none
+  value-faulty t Fa.Sound d = absurd (d refl)
+  value-faulty t Fa.Field d = refl
+  value-faulty t Fa.Index d = refl
 
-  pub faulty-newer : (a : TypeAnswer) → (faultOf (startsOf fr) a ≡ sound → ⊥) → see fr (form a) ≡ none
+  pub faulty-newer : (a : TypeAnswer) → (faultOf (startsOf fr) a ≡ Fa.Sound → ⊥) → see fr (form a) ≡ none
   faulty-newer (number n) d = number-faulty n (isType (startsOf fr) n) refl d
   faulty-newer (value t) d = value-faulty t (valueFault (startsOf fr) t) d
   faulty-newer (malformed f) d = refl
 
   -- and a value that gets neither shows itself
-  pub value-shows : (t : TypeInner) → valueFault (startsOf fr) t ≡ sound → see fr (form (value t)) ≡ some (record { inner = t; members = [] })
-  value-shows t e = ap (seeValue t) e
+  pub value-shows : (t : TypeInner) → valueFault (startsOf fr) t ≡ Fa.Sound → see fr (form (value t)) ≡ some (record { inner = t; members = [] })
+  value-shows (Ti.Scalar x0) e = refl
+  value-shows (Ti.Vector x0 x1) e = refl
+  value-shows (Ti.Matrix x0 x1 x2) e = refl
+  value-shows (Ti.CooperativeMatrix x0 x1 x2 x3) e = refl
+  value-shows (Ti.Atomic x0) e = refl
+  value-shows (Ti.Pointer x0 x1) e = ap (λ (v : Fault). seeForm fr (startsOf fr) (soundForm (Ti.Pointer x0 x1) v)) e
+  value-shows (Ti.ValuePointer x0 x1 x2) e = refl
+  value-shows (Ti.Array x0 x1 x2) e = ap (λ (v : Fault). seeForm fr (startsOf fr) (soundForm (Ti.Array x0 x1 x2) v)) e
+  value-shows (Ti.Struct x0 x1 x2) e = never (cc)
+  value-shows (Ti.Image x0 x1 x2) e = refl
+  value-shows (Ti.Sampler x0) e = refl
+  value-shows (Ti.AccelerationStructure x0) e = refl
+  value-shows (Ti.RayQuery x0) e = refl
+  value-shows (Ti.BindingArray x0 x1) e = ap (λ (v : Fault). seeForm fr (startsOf fr) (soundForm (Ti.BindingArray x0 x1) v)) e
 
   -- ROWS
 
@@ -170,7 +187,7 @@ module _ (fr : List ℕ) where
   -- a row of the file shows nothing exactly when byte 1 is outside 1 to 34, or 22
   pub row-newer : (n : RowNumber) → isRow (startsOf fr) n ≡ true → let b = byte (frameAt fr (startsOf fr .rows + n .0)) 1 in
       (see fr (kind n) ≡ none) ↔ (((b ≡ 0) ⊎ (35 ≤ b)) ⊎ (b ≡ 22))
-  unfolding rowAt
+  unfolding rowIn
   row-newer n i =
       let f = frameAt fr (startsOf fr .rows + n .0) in
       let e : rowAt fr n ≡ rowOf f = rw i in

@@ -8,6 +8,10 @@ use Rattle.ir.specs.declared.RowNumber.{RowNumber}
 use Rattle.ir.specs.declared.TypeInner.{TypeInner}
 use Rattle.ir.specs.declared.TypeForm.{TypeForm}
 use Rattle.ir.specs.declared.TypeForm.the-variants as Tf
+use Rattle.ir.specs.declared.TypeResolution.{TypeResolution}
+use Rattle.ir.specs.declared.TypeResolution.the-variants as Tr
+use Rattle.ir.specs.declared.OptionTypeResolution.{OptionTypeResolution}
+use Rattle.ir.specs.declared.OptionTypeResolution.the-variants as Ot
 use Rattle.ir.specs.Numbers.{typeKindOf}
 use Rattle.answers.specs.Numbers.{at, refusalValues}
 use Rattle.answers.specs.declared.Refusal.{Refusal}
@@ -25,6 +29,17 @@ pub data TypeAnswer : Type 0 where
   number : TypeNumber → TypeAnswer
   value : TypeInner → TypeAnswer
   malformed : Frame → TypeAnswer
+
+-- the answer that a resolution is
+abbrev pub resolved : TypeResolution → TypeAnswer
+resolved (Tr.Handle n) = number n
+resolved (Tr.Value t) = value t
+
+-- the resolution that an answer is; none where it is malformed
+abbrev pub resolution : TypeAnswer → OptionTypeResolution
+resolution (number n) = Ot.Some (Tr.Handle n)
+resolution (value t) = Ot.Some (Tr.Value t)
+resolution (malformed f) = Ot.None
 
 -- a row's answer other than newer: a type, or a refusal, family 10, of ours or as a later reader chose it
 pub data Typed : Type 0 where
@@ -109,11 +124,16 @@ abbrev pub valued : Frame → TypeForm → TypeAnswer
 valued f (Tf.Known t) = value t
 valued f Tf.Unknown = malformed f
 
+-- a frame has the family and the bytes of a type's number, or of a value
+abbrev pub isNumber : Frame → Bool
+isNumber f = eqb (byte f 0) 8 && (eqb (byte f 1) 0 && fitsAll numberLayout f)
+
+abbrev pub isValue : Frame → Bool
+isValue f = eqb (byte f 0) 9 && fitsAll (typeLayout (typeKindOf (byte f 1))) f
+
 -- the type answer that a frame stands for; every byte counts
 abbrev pub typeAnswerOf : Frame → TypeAnswer
-typeAnswerOf f =
-    cond (eqb (byte f 0) 8 && (eqb (byte f 1) 0 && fitsAll numberLayout f)) (number (record { 0 = half f 2 }))
-    (cond (eqb (byte f 0) 9 && fitsAll (typeLayout (typeKindOf (byte f 1))) f) (valued f (typeOf f)) (malformed f))
+typeAnswerOf f = cond (isNumber f) (number (record { 0 = half f 2 })) (cond (isValue f) (valued f (typeOf f)) (malformed f))
 
 -- the row's answer that a frame of family 8, 9 or 10 stands for; number 22 is newer whatever its other bytes
 abbrev pub rowAnswerOf : Frame → Result Typed

@@ -1,7 +1,7 @@
 -- What a reading comes to, and what each thing shows in a file (document 01, "A row's type"). Newer are exactly a row of unknown kind, a Math
 -- row, a type of unknown kind, and a storage image in a sample without gather or a load.
 use Prim.Native.Nat.{ℕ, zero, suc, _+_, _-_}
-use mathlib.Core.Bool.{Bool, true, false, cond}
+use mathlib.Core.Bool.{Bool, true, false, cond, not}
 use mathlib.Core.List.{List, [], _∷_, _++_}
 use mathlib.Core.Option.{Option, none, some}
 use lib.Dec.{ltb, eqb}
@@ -35,10 +35,13 @@ use Rattle.ir.specs.declared.Expression.the-variants as Ex
 use Rattle.ir.specs.declared.RowForm.{RowForm}
 use Rattle.ir.specs.declared.RowForm.the-variants as Ro
 use Rattle.frames.specs.Bytes.{frameAt}
-use Rattle.frames.specs.Forms.{typeOf, memberOf, itemOf, rowOf, componentOf}
+use Rattle.frames.specs.Forms.{memberOf, itemOf, componentOf}
 use Rattle.archive.specs.declared.Starts.{Starts}
-use Rattle.archive.specs.Starts.{startsOf, typeCount, rowCount}
-use Rattle.archive.specs.Names.{isType, isRow, sizeNames}
+use Rattle.archive.specs.Starts.{startsOf}
+use Rattle.archive.specs.Names.{isType, sizeNames}
+use Rattle.archive.specs.Access.{typeIn, rowIn}
+use Rattle.rule.specs.declared.Fault.{Fault}
+use Rattle.rule.specs.declared.Fault.the-variants as Fa
 use Rattle.rule.specs.Answers.{TypeAnswer, number, value, malformed}
 
 -- WHAT A FILE HOLDS, by its frames
@@ -47,14 +50,6 @@ use Rattle.rule.specs.Answers.{TypeAnswer, number, value, malformed}
 unfoldable pub listed : {A : Type 0} → (ℕ → A) → ℕ → List A
 listed f zero = []
 listed f (suc n) = listed f n ++ (f n ∷ [])
-
--- type n; where there is none, a type of unknown kind
-unfoldable pub typeAt : List ℕ → TypeNumber → TypeForm
-typeAt fr n = cond (isType (startsOf fr) n) (typeOf (frameAt fr (n .0))) Tf.Unknown
-
--- row n; where there is none, a row of unknown kind
-unfoldable pub rowAt : List ℕ → RowNumber → RowForm
-rowAt fr n = cond (isRow (startsOf fr) n) (rowOf (frameAt fr (startsOf fr .rows + n .0))) Ro.Unknown
 
 -- the item at a frame
 abbrev itemAt : List ℕ → ℕ → Item
@@ -193,10 +188,6 @@ memberTypes fr s (Ti.BindingArray b z) = []
 
 -- THINGS
 
--- what a comparison would answer an answer with before any look: nothing, 5 or 6 (document 01, "Numbers handed back", last paragraph)
-pub data Fault : Type 0 where
-  sound five six : Fault
-
 -- a row's own kind; a type looked into; the class of an image sampled or loaded; and two that are never newer: whether an answer is the number
 -- of a struct, and whether a comparison would answer it with 5 or 6
 pub data Thing : Type 0 where
@@ -220,52 +211,65 @@ Sight = (c : Thing) → Option (Seen c)
 
 -- a constant count is at least 1
 abbrev pub isCount : ArraySize → Bool
-isCount (As.Constant n) = cond (eqb n 0) false true
+isCount (As.Constant n) = not (eqb n 0)
 isCount (As.Pending o) = true
 isCount As.Dynamic = true
 
+-- WHAT A COMPARISON WOULD ANSWER with before any look: nothing, 5 or 6 (document 01, "Numbers handed back", last paragraph). `Fault` is the code's.
+
 -- 6 unless it holds
 abbrev pub inRange : Bool → Fault
-inRange true = sound
-inRange false = six
+inRange true = Fa.Sound
+inRange false = Fa.Index
 
-abbrev arrayFault : Bool → Bool → Bool → Fault
-arrayFault counted based sized = cond counted (cond based (inRange sized) six) five
+-- of an array: a count of 0 is a 5; a base or an override out of range is a 6
+abbrev pub arrayFault : Bool → Bool → Bool → Fault
+arrayFault counted based sized = cond counted (cond based (inRange sized) Fa.Index) Fa.Field
 
 -- a value: a struct is a 5, and so is a count of 0; a base or an override out of range is a 6
 abbrev pub valueFault : Starts → TypeInner → Fault
-valueFault s (Ti.Scalar k) = sound
-valueFault s (Ti.Vector z k) = sound
-valueFault s (Ti.Matrix c r k) = sound
-valueFault s (Ti.CooperativeMatrix c r k o) = sound
-valueFault s (Ti.Atomic k) = sound
+valueFault s (Ti.Scalar k) = Fa.Sound
+valueFault s (Ti.Vector z k) = Fa.Sound
+valueFault s (Ti.Matrix c r k) = Fa.Sound
+valueFault s (Ti.CooperativeMatrix c r k o) = Fa.Sound
+valueFault s (Ti.Atomic k) = Fa.Sound
 valueFault s (Ti.Pointer b p) = inRange (isType s b)
-valueFault s (Ti.ValuePointer z k p) = sound
+valueFault s (Ti.ValuePointer z k p) = Fa.Sound
 valueFault s (Ti.Array b z t) = arrayFault (isCount z) (isType s b) (sizeNames s z)
-valueFault s (Ti.Struct m n t) = five
-valueFault s (Ti.Image d a c) = sound
-valueFault s (Ti.Sampler q) = sound
-valueFault s (Ti.AccelerationStructure q) = sound
-valueFault s (Ti.RayQuery q) = sound
+valueFault s (Ti.Struct m n t) = Fa.Field
+valueFault s (Ti.Image d a c) = Fa.Sound
+valueFault s (Ti.Sampler q) = Fa.Sound
+valueFault s (Ti.AccelerationStructure q) = Fa.Sound
+valueFault s (Ti.RayQuery q) = Fa.Sound
 valueFault s (Ti.BindingArray b z) = arrayFault (isCount z) (isType s b) (sizeNames s z)
 
 abbrev pub faultOf : Starts → TypeAnswer → Fault
 faultOf s (number n) = inRange (isType s n)
 faultOf s (value t) = valueFault s t
-faultOf s (malformed f) = five
+faultOf s (malformed f) = Fa.Field
 
-abbrev pub seeForm : List ℕ → TypeForm → Option Form
-seeForm fr (Tf.Known t) = some (record { inner = t; members = memberTypes fr (startsOf fr) t })
-seeForm fr Tf.Unknown = none
+-- WHAT EACH THING SHOWS
 
-abbrev pub seeValue : TypeInner → Fault → Option Form
-seeValue t sound = some (record { inner = t; members = [] })
-seeValue t five = none
-seeValue t six = none
+-- a value is of unknown kind where a comparison would answer it with 5 or 6
+abbrev pub soundForm : TypeInner → Fault → TypeForm
+soundForm t Fa.Sound = Tf.Known t
+soundForm t Fa.Field = Tf.Unknown
+soundForm t Fa.Index = Tf.Unknown
 
-abbrev pub seeRow : List ℕ → RowForm → Option Shown
-seeRow fr (Ro.Known e) = shown fr (startsOf fr) e
-seeRow fr Ro.Unknown = none
+-- the form of an answer that is looked into. A type that a comparison would answer with 5 or 6 counts as one of unknown kind.
+abbrev pub formIn : List ℕ → Starts → TypeAnswer → TypeForm
+formIn fr s (number n) = typeIn fr s n
+formIn fr s (value t) = soundForm t (valueFault s t)
+formIn fr s (malformed f) = Tf.Unknown
+
+-- a form is shown with its members, unless its kind is unknown
+abbrev pub seeForm : List ℕ → Starts → TypeForm → Option Form
+seeForm fr s (Tf.Known t) = some (record { inner = t; members = memberTypes fr s t })
+seeForm fr s Tf.Unknown = none
+
+abbrev pub seeRow : List ℕ → Starts → RowForm → Option Shown
+seeRow fr s (Ro.Known e) = shown fr s e
+seeRow fr s Ro.Unknown = none
 
 abbrev seeTexels : ImageClass → Option ImageClass
 seeTexels (Ic.Sampled k m) = some (Ic.Sampled k m)
@@ -290,14 +294,20 @@ isStructForm (Tf.Known (Ti.RayQuery q)) = false
 isStructForm (Tf.Known (Ti.BindingArray b z)) = false
 isStructForm Tf.Unknown = false
 
--- what each thing shows in a file, whose frames these are. A type that a comparison would answer with 5 or 6 counts as one of unknown kind.
+-- whether an answer is the number of a struct
+abbrev pub isStruct : List ℕ → Starts → TypeAnswer → Bool
+isStruct fr s (number n) = isStructForm (typeIn fr s n)
+isStruct fr s (value t) = false
+isStruct fr s (malformed f) = false
+
+-- what each thing shows, over frames and where their families begin
+abbrev pub seeIn : List ℕ → Starts → Sight
+seeIn fr s (kind n) = seeRow fr s (rowIn fr s n)
+seeIn fr s (form a) = seeForm fr s (formIn fr s a)
+seeIn fr s (texels c) = seeTexels c
+seeIn fr s (structNumber a) = some (isStruct fr s a)
+seeIn fr s (fault a) = some (faultOf s a)
+
+-- what each thing shows in a file, whose frames these are
 abbrev pub see : List ℕ → Sight
-see fr (kind n) = seeRow fr (rowAt fr n)
-see fr (form (number n)) = seeForm fr (typeAt fr n)
-see fr (form (value t)) = seeValue t (valueFault (startsOf fr) t)
-see fr (form (malformed f)) = none
-see fr (texels c) = seeTexels c
-see fr (structNumber (number n)) = some (isStructForm (typeAt fr n))
-see fr (structNumber (value t)) = some false
-see fr (structNumber (malformed f)) = some false
-see fr (fault t) = some (faultOf (startsOf fr) t)
+see fr = seeIn fr (startsOf fr)
