@@ -277,21 +277,24 @@ seeTexels (Ic.Depth m) = some (Ic.Depth m)
 seeTexels Ic.External = some Ic.External
 seeTexels (Ic.Storage f a) = none
 
+abbrev pub isStructInner : TypeInner → Bool
+isStructInner (Ti.Scalar k) = false
+isStructInner (Ti.Vector z k) = false
+isStructInner (Ti.Matrix c r k) = false
+isStructInner (Ti.CooperativeMatrix c r k o) = false
+isStructInner (Ti.Atomic k) = false
+isStructInner (Ti.Pointer b p) = false
+isStructInner (Ti.ValuePointer z k p) = false
+isStructInner (Ti.Array b z t) = false
+isStructInner (Ti.Struct m n t) = true
+isStructInner (Ti.Image d a c) = false
+isStructInner (Ti.Sampler q) = false
+isStructInner (Ti.AccelerationStructure q) = false
+isStructInner (Ti.RayQuery q) = false
+isStructInner (Ti.BindingArray b z) = false
+
 abbrev pub isStructForm : TypeForm → Bool
-isStructForm (Tf.Known (Ti.Struct m n t)) = true
-isStructForm (Tf.Known (Ti.Scalar k)) = false
-isStructForm (Tf.Known (Ti.Vector z k)) = false
-isStructForm (Tf.Known (Ti.Matrix c r k)) = false
-isStructForm (Tf.Known (Ti.CooperativeMatrix c r k o)) = false
-isStructForm (Tf.Known (Ti.Atomic k)) = false
-isStructForm (Tf.Known (Ti.Pointer b p)) = false
-isStructForm (Tf.Known (Ti.ValuePointer z k p)) = false
-isStructForm (Tf.Known (Ti.Array b z t)) = false
-isStructForm (Tf.Known (Ti.Image d a c)) = false
-isStructForm (Tf.Known (Ti.Sampler q)) = false
-isStructForm (Tf.Known (Ti.AccelerationStructure q)) = false
-isStructForm (Tf.Known (Ti.RayQuery q)) = false
-isStructForm (Tf.Known (Ti.BindingArray b z)) = false
+isStructForm (Tf.Known t) = isStructInner t
 isStructForm Tf.Unknown = false
 
 -- whether an answer is the number of a struct

@@ -12,12 +12,15 @@ use Rattle.ir.specs.declared.TypeInner.{TypeInner}
 use Rattle.ir.specs.declared.TypeInner.the-variants as Ti
 use Rattle.archive.specs.Starts.{startsOf}
 use Rattle.rule.specs.Answers.{TypeAnswer, number, value, malformed, nowhere, Compared}
-use Rattle.rule.specs.Things.{Form, form, structNumber, fault, Fault, sound, five, six, faultOf, valueFault, see, typeAt, isStructForm}
+use Rattle.archive.specs.Access.{typeAt}
+use Rattle.rule.specs.declared.Fault.{Fault}
+use Rattle.rule.specs.declared.Fault.the-variants as Fa
+use Rattle.rule.specs.Things.{form, structNumber, fault, faultOf, valueFault, see, isStructForm, isStruct}
 use Rattle.rule.specs.Rule.{Rule, come, Step, step, Readings, Reading, follow}
 use Rattle.type_methods.specs.Canonical.{canonical, equalTypes, identical}
-use Rattle.type_methods.specs.Comparison.{inForm, inForms, byStruct, byIdentical, answered, handed, isStruct}
+use Rattle.type_methods.specs.Comparison.{inForm, inForms, byStruct, byIdentical, answered, handed}
 use Rattle.type_methods.specs.Looks.{Shape, struct, unknown, other, pointer, pointerToUnknown, pointerShape, innerShape, formShape, shapeOf, looks, looked, comparisonReading}
-use Rattle.type_methods.proofs.Seen.{never, struct-seen}
+use Rattle.type_methods.proofs.Seen.{never}
 
 -- the base that a shape has, looked into
 abbrev bases : Shape → List TypeAnswer
@@ -83,7 +86,7 @@ module _ (fr : List ℕ) (rd : Readings) where
   number-steps k rest h n (Tf.Known t) q = rw (q, steps, follow) (ap (λ (l : List Step). step nowhere (form (number n)) ∷ l) (inner-steps k rest h t))
   number-steps k rest h n Tf.Unknown q = rw (q, steps, follow)
 
-  look-steps : (k : TypeInner → Rule Compared) (rest : List Step) → ((u : TypeInner) → steps (k u) ≡ rest) → (a : TypeAnswer) → faultOf (startsOf fr) a ≡ sound
+  look-steps : (k : TypeInner → Rule Compared) (rest : List Step) → ((u : TypeInner) → steps (k u) ≡ rest) → (a : TypeAnswer) → faultOf (startsOf fr) a ≡ Fa.Sound
       → steps (look k a) ≡ step nowhere (form a) ∷ side (shapeOf fr a) rest
   look-steps k rest h (number n) p = number-steps k rest h n (typeAt fr n) refl
   look-steps k rest h (value t) p = rw (p, steps, follow) (ap (λ (l : List Step). step nowhere (form (value t)) ∷ l) (inner-steps k rest h t))
@@ -93,7 +96,7 @@ module _ (fr : List ℕ) (rd : Readings) where
   answered-steps true = refl
   answered-steps false = refl
 
-  forms-steps : (a b : TypeAnswer) → faultOf (startsOf fr) a ≡ sound → faultOf (startsOf fr) b ≡ sound
+  forms-steps : (a b : TypeAnswer) → faultOf (startsOf fr) a ≡ Fa.Sound → faultOf (startsOf fr) b ≡ Fa.Sound
       → steps (inForms nowhere a b answered) ≡ step nowhere (form a) ∷ side (shapeOf fr a) (step nowhere (form b) ∷ side (shapeOf fr b) [])
   forms-steps a b p q =
       look-steps (λ u. look (λ v. answered (equalTypes u v)) b) _ (λ u. look-steps (λ v. answered (equalTypes u v)) [] (λ v. answered-steps (equalTypes u v)) b q) a p
@@ -167,7 +170,7 @@ module _ (fr : List ℕ) (rd : Readings) where
   form-struct (Tf.Known (Ti.RayQuery x0)) = refl
   form-struct (Tf.Known (Ti.BindingArray x0 x1)) = refl
 
-  value-struct : (t : TypeInner) (v : Fault) → valueFault (startsOf fr) t ≡ v → v ≡ sound → isStructShape (innerShape fr t) ≡ false
+  value-struct : (t : TypeInner) (v : Fault) → valueFault (startsOf fr) t ≡ v → v ≡ Fa.Sound → isStructShape (innerShape fr t) ≡ false
   value-struct (Ti.Struct x0 x1 x2) v q e = never (cc)
   value-struct (Ti.Pointer b s) v q e = sym (pointer-struct b (typeAt fr b))
   value-struct (Ti.Scalar x0) v q e = refl
@@ -183,7 +186,7 @@ module _ (fr : List ℕ) (rd : Readings) where
   value-struct (Ti.RayQuery x0) v q e = refl
   value-struct (Ti.BindingArray x0 x1) v q e = refl
 
-  struct-shape : (a : TypeAnswer) → faultOf (startsOf fr) a ≡ sound → isStruct fr a ≡ isStructShape (shapeOf fr a)
+  struct-shape : (a : TypeAnswer) → faultOf (startsOf fr) a ≡ Fa.Sound → isStruct fr (startsOf fr) a ≡ isStructShape (shapeOf fr a)
   struct-shape (number n) p = form-struct (typeAt fr n)
   struct-shape (value t) p = sym (value-struct t _ p refl)
   struct-shape (malformed f) p = refl
@@ -193,7 +196,7 @@ module _ (fr : List ℕ) (rd : Readings) where
   neither false y e = (refl, e)
 
   -- of two sound answers
-  module _ (a b : TypeAnswer) (p : faultOf (startsOf fr) a ≡ sound) (q : faultOf (startsOf fr) b ≡ sound) where
+  module _ (a b : TypeAnswer) (p : faultOf (startsOf fr) a ≡ Fa.Sound) (q : faultOf (startsOf fr) b ≡ Fa.Sound) where
     struct-steps : (s : Bool) → (isStructShape (shapeOf fr a) || isStructShape (shapeOf fr b)) ≡ s
         → steps (byStruct nowhere a b answered s) ≡ looked (looks a b (shapeOf fr a) (shapeOf fr b))
     struct-steps true e = sym (no-line a b (shapeOf fr a) (shapeOf fr b) e)
@@ -205,9 +208,8 @@ module _ (fr : List ℕ) (rd : Readings) where
         → steps (byIdentical nowhere a b answered i) ≡ cond i [] (step nowhere (structNumber a) ∷ step nowhere (structNumber b) ∷ looked (looks a b (shapeOf fr a) (shapeOf fr b)))
     identical-steps true = refl
     identical-steps false =
-        rw (struct-seen fr a, struct-seen fr b, steps, follow)
-        (ap (λ (l : List Step). step nowhere (structNumber a) ∷ step nowhere (structNumber b) ∷ l)
-        (struct-steps (isStruct fr a || isStruct fr b) (rw (struct-shape a p, struct-shape b q))))
+        ap (λ (l : List Step). step nowhere (structNumber a) ∷ step nowhere (structNumber b) ∷ l)
+        (struct-steps (isStruct fr (startsOf fr) a || isStruct fr (startsOf fr) b) (rw (struct-shape a p, struct-shape b q)))
 
     -- THE READING of a comparison is the table's
     pub looks-are : follow (see fr) rd (handed a b) .steps ≡ comparisonReading fr a b

@@ -12,9 +12,10 @@ use Rattle.archive.specs.Names.{namesOk}
 use Rattle.archive.specs.Parts.{earlyOk}
 use Rattle.archive.specs.Checks.{indexOk, checkFrames}
 use Rattle.rule.specs.Answers.{Result, Compared}
-use Rattle.rule.specs.Things.{listed, typeAt}
+use Rattle.archive.specs.Access.{typeIn}
+use Rattle.rule.specs.Things.{listed}
 use Rattle.type_methods.specs.Canonical.{equalTypes, identical}
-use Rattle.type_methods.specs.Comparison.{sameType}
+use Rattle.type_methods.specs.Comparison.{sameIn, sameType}
 use Rattle.type_methods.specs.Cases.{Case, file, table}
 
 abbrev given : Case → Result Compared
@@ -24,7 +25,7 @@ abbrev wanted : Case → Result Compared
 wanted c = c .outcome
 
 worked : map given table ≡ map wanted table
-unfolding sameType equalTypes identical listed typeAt frameAt typeOf memberOf start startsOf lowest allBelow build sumBelow
+unfolding sameType sameIn equalTypes identical listed typeIn frameAt typeOf memberOf start startsOf lowest allBelow build sumBelow
 worked = refl
 
 -- the file passes checks 4 to 6

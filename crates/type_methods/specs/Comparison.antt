@@ -4,14 +4,23 @@ use mathlib.Core.Bool.{Bool, true, false, cond, _||_}
 use Prim.Native.Nat.{ℕ}
 use mathlib.Core.List.{List, []}
 use mathlib.Core.Option.{Option, none, some}
-use Rattle.ir.specs.declared.AddressSpace.{AddressSpace}
 use Rattle.ir.specs.declared.TypeInner.{TypeInner}
+use Rattle.ir.specs.declared.TypeForm.{TypeForm}
+use Rattle.ir.specs.declared.TypeForm.the-variants as Tf
+use Rattle.answers.specs.declared.Sameness.{Sameness}
+use Rattle.answers.specs.declared.Sameness.the-variants as Sa
 use Rattle.frames.specs.declared.Frame.{Frame}
+use Rattle.archive.specs.declared.Starts.{Starts}
+use Rattle.archive.specs.Starts.{startsOf}
+use Rattle.rule.specs.declared.Fault.{Fault}
+use Rattle.rule.specs.declared.Fault.the-variants as Fa
 use Rattle.rule.specs.Answers.{TypeAnswer, number, value, malformed, typeAnswerOf, Place, nowhere, Result, told, newer, Compared, alike, unlike, field, index}
-use Rattle.rule.specs.Things.{Form, form, structNumber, fault, Fault, sound, five, six, Sight, see, typeAt, isStructForm}
+use Rattle.rule.specs.Things.{form, structNumber, fault, seeIn, isStruct}
 use Rattle.rule.specs.Rule.{Rule, done, come, run}
 use Rattle.rule.specs.Claim.{among}
-use Rattle.type_methods.specs.Canonical.{ifPointer, canonical, equalTypes, identical}
+use Rattle.type_methods.specs.declared.OptionBool.{OptionBool}
+use Rattle.type_methods.specs.declared.OptionBool.the-variants as Ob
+use Rattle.type_methods.specs.Canonical.{ifPointer, canonical, canonicalOf, equalTypes, identical}
 
 -- the canonical form of a type that was looked into: of a pointer the base is looked into too, and nothing deeper
 abbrev pub inForm : {A : Type 0} → Place → (TypeInner → Rule A) → TypeInner → Rule A
@@ -41,56 +50,72 @@ answered false = done unlike
 
 -- an answer handed in gets its 5 or 6 before any look
 abbrev pub tested : Rule Compared → Fault → Rule Compared
-tested rest sound = rest
-tested rest five = done field
-tested rest six = done index
+tested rest Fa.Sound = rest
+tested rest Fa.Field = done field
+tested rest Fa.Index = done index
 
 -- two answers handed in: the left is tested first, then the right
+abbrev pub rightTested : TypeAnswer → TypeAnswer → Rule Compared
+rightTested a b = come nowhere (fault b) (tested (compare nowhere a b answered))
+
 abbrev pub handed : TypeAnswer → TypeAnswer → Rule Compared
-handed a b = come nowhere (fault a) (tested (come nowhere (fault b) (tested (compare nowhere a b answered))))
+handed a b = come nowhere (fault a) (tested (rightTested a b))
 
--- what a comparison of two frames gives over the frames of a file; it reads no row
+-- WHAT A COMPARISON GIVES; it reads no row
+
+-- as the document numbers it
+abbrev pub samenessOf : Result Compared → Sameness
+samenessOf (told alike) = Sa.Same
+samenessOf (told unlike) = Sa.Different
+samenessOf (told field) = Sa.Field
+samenessOf (told index) = Sa.Index
+samenessOf (newer p) = Sa.Newer
+
+-- what a rule over two answers gives, over frames and where their families begin
+abbrev pub given : {A : Type 0} → List ℕ → Starts → Rule A → Result A
+given fr s rule = run (seeIn fr s) (among []) newer rule
+
+-- yes or no, without the tests for 5 and 6; none where it is newer
+abbrev pub optional : Result Bool → OptionBool
+optional (told b) = Ob.Some b
+optional (newer p) = Ob.None
+
+-- of two frames of a file
+unfoldable pub sameIn : List ℕ → Starts → Frame → Frame → Result Compared
+sameIn fr s l r = given fr s (handed (typeAnswerOf l) (typeAnswerOf r))
+
 unfoldable pub sameType : List ℕ → Frame → Frame → Result Compared
-sameType fr l r = run (see fr) (among []) newer (handed (typeAnswerOf l) (typeAnswerOf r))
+sameType fr l r = sameIn fr (startsOf fr) l r
 
--- THE SAME IN OTHER WORDS, for the laws: the canonical form of an answer, and what two give
+-- THE SAME IN OTHER WORDS, for the code and the laws: two canonical forms, and what two answers give
 
-abbrev pub baseSeen : TypeInner → AddressSpace → Option Form → Option TypeInner
-baseSeen t s none = none
-baseSeen t s (some c) = some (canonical t s (c .inner))
+-- yes or no by two canonical forms; none where one is unknown
+abbrev pub byForms : TypeForm → TypeForm → Option Bool
+byForms (Tf.Known u) (Tf.Known v) = some (equalTypes u v)
+byForms (Tf.Known u) Tf.Unknown = none
+byForms Tf.Unknown v = none
 
-abbrev pub canonicalAt : Sight → TypeInner → Option TypeInner
-canonicalAt sight t = ifPointer t (λ b s. baseSeen t s (sight (form (number b)))) (some t)
+abbrev pub found : Option Bool → OptionBool
+found (some b) = Ob.Some b
+found none = Ob.None
 
-abbrev pub formSeen : Sight → Option Form → Option TypeInner
-formSeen sight none = none
-formSeen sight (some x) = canonicalAt sight (x .inner)
+-- yes and no, or newer, as the document numbers them
+abbrev pub saidOf : OptionBool → Sameness
+saidOf (Ob.Some b) = cond b Sa.Same Sa.Different
+saidOf Ob.None = Sa.Newer
 
--- the canonical form of an answer in a file; none where the type, or a pointer's base, is of unknown kind
-abbrev pub canonicalForm : Sight → TypeAnswer → Option TypeInner
-canonicalForm sight a = formSeen sight (sight (form a))
-
--- yes or no by two canonical forms; newer where one is missing
-abbrev pub byForms : Option TypeInner → Option TypeInner → Result Compared
-byForms none v = newer nowhere
-byForms (some u) none = newer nowhere
-byForms (some u) (some v) = told (cond (equalTypes u v) alike unlike)
-
--- what a comparison gives: whether the answers are identical, whether one is a struct's number, and their canonical forms
-abbrev pub byAnswers : Bool → Bool → Option TypeInner → Option TypeInner → Result Compared
-byAnswers true s u v = told alike
-byAnswers false true u v = told unlike
+-- by whether the answers are identical, whether one is a struct's number, and their canonical forms
+abbrev pub byAnswers : Bool → Bool → TypeForm → TypeForm → Option Bool
+byAnswers true s u v = some true
+byAnswers false true u v = some false
 byAnswers false false u v = byForms u v
 
--- whether an answer is the number of a struct
-abbrev pub isStruct : List ℕ → TypeAnswer → Bool
-isStruct fr (number n) = isStructForm (typeAt fr n)
-isStruct fr (value t) = false
-isStruct fr (malformed f) = false
+abbrev pub likeness : List ℕ → Starts → TypeAnswer → TypeAnswer → Option Bool
+likeness fr s a b = byAnswers (identical a b) (isStruct fr s a || isStruct fr s b) (canonicalOf fr s a) (canonicalOf fr s b)
 
 -- two answers of the same canonical form, neither of them a struct's number
-pub record Equal (fr : List ℕ) (a b : TypeAnswer) : Type 0 where
+pub record Equal (fr : List ℕ) (s : Starts) (a b : TypeAnswer) : Type 0 where
   pub shape : TypeInner
-  pub unnamed : (isStruct fr a || isStruct fr b) ≡ false
-  pub left : canonicalForm (see fr) a ≡ some shape
-  pub right : canonicalForm (see fr) b ≡ some shape
+  pub unnamed : (isStruct fr s a || isStruct fr s b) ≡ false
+  pub left : canonicalOf fr s a ≡ Tf.Known shape
+  pub right : canonicalOf fr s b ≡ Tf.Known shape

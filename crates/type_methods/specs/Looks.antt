@@ -10,7 +10,8 @@ use Rattle.ir.specs.declared.TypeInner.the-variants as Ti
 use Rattle.ir.specs.declared.TypeForm.{TypeForm}
 use Rattle.ir.specs.declared.TypeForm.the-variants as Tf
 use Rattle.rule.specs.Answers.{TypeAnswer, number, value, malformed, nowhere}
-use Rattle.rule.specs.Things.{form, structNumber, fault, typeAt}
+use Rattle.archive.specs.Access.{typeAt}
+use Rattle.rule.specs.Things.{form, structNumber, fault}
 use Rattle.rule.specs.Rule.{Step, step}
 use Rattle.type_methods.specs.Canonical.{identical}
 
