@@ -6,3 +6,6 @@ pub mod Images
 pub mod Operators
 pub mod Results
 pub mod Typed
+pub mod Lines
+pub mod AccessCases
+pub mod Cases
