@@ -9,3 +9,4 @@ pub mod Typed
 pub mod Lines
 pub mod AccessCases
 pub mod Cases
+pub mod Reads
