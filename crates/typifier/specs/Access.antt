@@ -48,13 +48,14 @@ accessThrough base s t =
     (ifBindingArray t (λ b. given (value (Ti.Pointer b s)))
     (refused (InvalidSubAccess base false)))))
 
+-- reads the base, looks into its type and, of a Pointer, the type pointed at
 abbrev pub access : RowNumber → RowNumber → Rule Typed
 access here base = byBase here base (λ b s x. accessThrough b s (x .inner)) (λ x. accessInto base (x .inner))
 
 -- ACCESSINDEX, a part by its index. WGSL: "Vector Access Expression", "Matrix Access Expression", "Array Access Expression", "Structure Access
 -- Expression". The source, and document 01, bound Vector, Matrix, Struct and pointers to these alone.
 
--- the answer if the index is below the bound, else number 10
+-- the type at an index below the bound; at any other number 10, which names the base's row and the index
 abbrev pub bounded : RowNumber → ℕ → ℕ → TypeAnswer → Typed
 bounded base i bound a = cond (ltb i bound) (given a) (refused (OutOfBoundsIndex base i))
 
@@ -94,22 +95,27 @@ indexThrough base i ty s members t =
     (ifBindingArray t (λ b. given (value (Ti.Pointer b s)))
     (refused (InvalidSubAccess ty true))))))
 
+-- reads and looks into what Access does
 abbrev pub accessIndex : RowNumber → RowNumber → ℕ → Rule Typed
 accessIndex here base i =
     byBase here base (λ b s x. indexThrough base i b s (x .members) (x .inner)) (λ x. indexInto base i (x .members) (x .inner))
 
 -- SPLAT, a vector of one scalar. WGSL: "Value Constructor Built-in Functions".
 
+-- of a scalar the vector of it; of no other type
 abbrev pub splatOf : VectorSize → RowNumber → TypeInner → Typed
 splatOf size n t = ifScalar t (λ k. given (value (Ti.Vector size k))) (refused (InvalidScalar n))
 
+-- reads its operand and looks into its type
 abbrev pub splat : RowNumber → VectorSize → RowNumber → Rule Typed
 splat here size n = byType here n (splatOf size n)
 
 -- SWIZZLE, some components of a vector. WGSL: "Vector Multiple Component Selection".
 
+-- of a vector one of the new size; of no other type
 abbrev pub swizzleOf : VectorSize → RowNumber → TypeInner → Typed
 swizzleOf size n t = ifVector t (λ z k. given (value (Ti.Vector size k))) (refused (InvalidVector n))
 
+-- reads its operand and looks into its type
 abbrev pub swizzle : RowNumber → VectorSize → RowNumber → Rule Typed
 swizzle here size n = byType here n (swizzleOf size n)

@@ -25,17 +25,20 @@ use Rattle.typifier.specs.Steps.{operand, look, byType}
 abbrev pub sampledScalar : ScalarKind → Scalar
 sampledScalar k = record { kind = k; width = 4 }
 
--- IMAGESAMPLE with gather: four components of the sampled kind, otherwise Float. WGSL: "Texture Built-in Functions", textureGather.
+-- IMAGESAMPLE with gather. WGSL: "Texture Built-in Functions", textureGather.
 
+-- of the sampled kind, otherwise Float
 abbrev pub gatheredScalar : ImageClass → Scalar
 gatheredScalar (Ic.Sampled k m) = sampledScalar k
 gatheredScalar (Ic.Depth m) = F32
 gatheredScalar Ic.External = F32
 gatheredScalar (Ic.Storage f a) = F32
 
+-- of an image four components, whatever its class; of no other type
 abbrev pub gatheredOf : RowNumber → TypeInner → Typed
 gatheredOf image t = ifImage t (λ d c. given (value (Ti.Vector Vs.Quad (gatheredScalar c)))) (refused (InvalidImage image))
 
+-- reads the image and looks into its type
 abbrev pub gathered : RowNumber → RowNumber → Rule Typed
 gathered here image = byType here image (gatheredOf image)
 
@@ -52,6 +55,7 @@ sampledOf image (Ic.Storage f a) = refused (InvalidImage image)
 abbrev pub sampledFrom : RowNumber → RowNumber → TypeInner → Rule Typed
 sampledFrom here image t = ifImage t (λ d c. come (row here) (texels c) (λ s. done (sampledOf image s))) (done (refused (InvalidImage image)))
 
+-- reads the image, looks into its type and, of an Image, comes to its class
 abbrev pub sampled : RowNumber → RowNumber → Rule Typed
 sampled here image = operand image (λ a. look here a (λ x. sampledFrom here image (x .inner)))
 
@@ -60,6 +64,7 @@ abbrev pub imageSample : RowNumber → RowNumber → Bool → Rule Typed
 imageSample here image true = gathered here image
 imageSample here image false = sampled here image
 
+-- a load is typed as a sample without gather
 abbrev pub imageLoad : RowNumber → RowNumber → Rule Typed
 imageLoad here image = sampled here image
 
@@ -72,10 +77,11 @@ sizeOf Id.D2 = Ti.Vector Vs.Bi U32
 sizeOf Id.Cube = Ti.Vector Vs.Bi U32
 sizeOf Id.D3 = Ti.Vector Vs.Tri U32
 
+-- of an image its size; of no other type
 abbrev pub imageSizeOf : RowNumber → TypeInner → Typed
 imageSizeOf image t = ifImage t (λ d c. given (value (sizeOf d))) (refused (InvalidImage image))
 
--- a number of levels, layers or samples reads nothing
+-- a size reads the image and looks into its type; the number of levels, layers or samples reads nothing
 abbrev pub imageQuery : RowNumber → RowNumber → ImageQuery → Rule Typed
 imageQuery here image Iq.Size = byType here image (imageSizeOf image)
 imageQuery here image Iq.NumLevels = done (given (value (Ti.Scalar U32)))

@@ -54,10 +54,12 @@ pub record Case : Type 0 where
   pub lines : List Line
   pub after : List ℕ
 
+-- a row, then its answer
 abbrev pub line : List ℕ → List ℕ → Line
 line r a = record { row = r; answer = a }
 
-abbrev pub rowsOf : List Line → List ℕ
+-- the rows' frames
+abbrev rowsOf : List Line → List ℕ
 rowsOf [] = []
 rowsOf (l ∷ ls) = l .row ++ rowsOf ls
 
@@ -65,7 +67,8 @@ rowsOf (l ∷ ls) = l .row ++ rowsOf ls
 abbrev pub fileOf : Case → List ℕ
 fileOf c = c .before ++ rowsOf (c .lines) ++ c .after
 
-abbrev pub answersOf : List Line → List (List ℕ)
+-- the answers' frames
+abbrev answersOf : List Line → List (List ℕ)
 answersOf [] = []
 answersOf (l ∷ ls) = l .answer ∷ answersOf ls
 

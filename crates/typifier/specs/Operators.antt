@@ -73,7 +73,7 @@ abbrev pub multiply : RowNumber → RowNumber → RowNumber → Rule Typed
 multiply here left right =
     operand left (λ a. operand right (λ b. look here a (λ x. look here b (λ y. done (product a b (x .inner) (y .inner))))))
 
--- a bool for each component of a scalar or a vector
+-- a bool for each component of a scalar or a vector; of no other type
 abbrev pub boolsOf : TypeInner → Typed
 boolsOf t =
     ifScalar t (λ k. given (value (Ti.Scalar BOOL)))
@@ -88,7 +88,7 @@ comparison here left = byType here left boolsOf
 abbrev pub equalScalars : Scalar → Scalar → Bool
 equalScalars k j = eqb (scalarKindNumber (k .kind)) (scalarKindNumber (j .kind)) && eqb (k .width) (j .width)
 
--- exactly the scalar type BOOL
+-- exactly the scalar type BOOL; of no other type
 abbrev pub logicalOf : TypeInner → Typed
 logicalOf t = ifScalar t (λ k. cond (equalScalars k BOOL) (given (value (Ti.Scalar BOOL))) (refused IncompatibleOperands)) (refused IncompatibleOperands)
 
@@ -144,7 +144,7 @@ abbrev pub widthOr : OptionBytes → ℕ → ℕ
 widthOr (Ob.Some w) own = w
 widthOr Ob.None own = own
 
--- a matrix keeps its scalar kind
+-- a scalar or a vector takes the kind, a matrix keeps its own; of no other type
 abbrev pub castOf : ScalarKind → OptionBytes → TypeInner → Typed
 castOf kind convert t =
     ifScalar t (λ k. given (value (Ti.Scalar (record { kind = kind; width = widthOr convert (k .width) }))))
@@ -152,5 +152,6 @@ castOf kind convert t =
     (ifMatrix t (λ c r k. given (value (Ti.Matrix c r (record { kind = k .kind; width = widthOr convert (k .width) }))))
     (refused IncompatibleOperands)))
 
+-- reads its operand and looks into its type
 abbrev pub cast : RowNumber → RowNumber → ScalarKind → OptionBytes → Rule Typed
 cast here n kind convert = byType here n (castOf kind convert)

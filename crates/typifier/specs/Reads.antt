@@ -28,6 +28,7 @@ pub record Reads : Type 0 where
   pub operands : List RowNumber
   pub looks : List Look
 
+-- no operand
 abbrev nothing : Reads
 nothing = record { operands = []; looks = [] }
 
@@ -146,14 +147,17 @@ abbrev pub unlessNewer : {X : Type 0} → Option X → List Step → List Step
 unlessNewer (some x) rest = rest
 unlessNewer none rest = []
 
+-- a type that is looked into
 abbrev pub formThing : Option TypeAnswer → Option Thing
 formThing (some a) = some (form a)
 formThing none = none
 
+-- what a type that was looked into showed
 abbrev pub formAt : Sight → Option TypeAnswer → Option Form
 formAt sight (some a) = sight (form a)
 formAt sight none = none
 
+-- the base of a Pointer, the class of an Image; of every other type nothing is come to
 abbrev pub baseThing : Option Form → Option Thing
 baseThing (some x) = ifPointer (x .inner) (λ b s. some (form (number b))) none
 baseThing none = none
@@ -162,12 +166,13 @@ abbrev pub classThing : Option Form → Option Thing
 classThing (some x) = ifImage (x .inner) (λ d c. some (texels c)) none
 classThing none = none
 
--- the thing that a look comes to; none where the type is no Pointer, or no Image
+-- the thing that a look comes to
 abbrev pub comesTo : Sight → List TypeAnswer → Look → Option Thing
 comesTo sight ts (type i) = formThing (getElem? ts i)
 comesTo sight ts (base i) = baseThing (formAt sight (getElem? ts i))
 comesTo sight ts (class i) = classThing (formAt sight (getElem? ts i))
 
+-- a step to a thing, where there is one
 abbrev pub stepTo : Sight → Place → Option Thing → List Step → List Step
 stepTo sight p (some c) rest = step p c ∷ unlessNewer (sight c) rest
 stepTo sight p none rest = rest
@@ -177,9 +182,11 @@ abbrev pub lookSteps : Sight → Place → List TypeAnswer → List Look → Lis
 lookSteps sight p ts [] = []
 lookSteps sight p ts (l ∷ ls) = stepTo sight p (comesTo sight ts l) (lookSteps sight p ts ls)
 
+-- a line of the table: the operands, then the looks
 abbrev pub lineSteps : Sight → Readings → RowNumber → Reads → List Step
 lineSteps sight earlier here r = operandSteps earlier (r .operands) (λ ts. lookSteps sight (row here) ts (r .looks))
 
+-- a row that shows nothing is newer, and its reading ends with its kind
 abbrev pub shownSteps : Sight → Readings → RowNumber → Option Shown → List Step
 shownSteps sight earlier here (some s) = lineSteps sight earlier here (reads s)
 shownSteps sight earlier here none = []

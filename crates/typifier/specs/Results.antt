@@ -37,6 +37,7 @@ abbrev pub resultOf : FunctionResult → Typed
 resultOf (Fr.Some t) = given (number t)
 resultOf Fr.None = refused FunctionReturnsVoid
 
+-- the row shows the result of the function that it names
 abbrev pub callResult : FunctionResult → Rule Typed
 callResult r = done (resultOf r)
 
@@ -85,6 +86,7 @@ cooperativeOf columns rows role pointer none = refused (InvalidPointer pointer)
 abbrev pub pointeeScalar : TypeInner → Option Scalar
 pointeeScalar t = ifValuePointer t (λ z k s. some k) none
 
+-- reads the pointer, looks into its type and, of a Pointer, the type pointed at
 abbrev pub cooperativeLoad : RowNumber → CooperativeSize → CooperativeSize → CooperativeRole → RowNumber → Rule Typed
 cooperativeLoad here columns rows role pointer =
     byBase here pointer (λ b s x. cooperativeOf columns rows role pointer (scalarOf (x .inner)))

@@ -21,7 +21,7 @@ use Rattle.rule.specs.Rule.{Rule, done}
 use Rattle.typifier.specs.Selectors.{ifAtomic, ifValuePointer}
 use Rattle.typifier.specs.Steps.{byBase}
 
--- LITERAL. WGSL: "Literals".
+-- LITERAL. WGSL: "Literal Value Expressions".
 
 -- a literal's scalar: the source's Literal::scalar (proc/mod.rs)
 abbrev pub literalScalar : Literal → Scalar
@@ -38,6 +38,7 @@ literalScalar Li.Bool = BOOL
 literalScalar Li.AbstractInt = ABSTRACT-INT
 literalScalar Li.AbstractFloat = ABSTRACT-FLOAT
 
+-- the scalar type of the literal, by value
 abbrev pub literal : Literal → Rule Typed
 literal l = done (given (value (Ti.Scalar (literalScalar l))))
 
@@ -63,6 +64,7 @@ abbrev pub argument : ℕ → Option TypeNumber → Typed
 argument i (some t) = given (number t)
 argument i none = refused (FunctionArgumentNotFound i)
 
+-- arguments are the items of kind 4, from 0; the row shows the type of the one that it names
 abbrev pub functionArgument : ℕ → Option TypeNumber → Rule Typed
 functionArgument i t = done (argument i t)
 
@@ -81,6 +83,7 @@ variable t Sp.TaskPayload = given (value (Ti.Pointer t Sp.TaskPayload))
 variable t Sp.RayPayload = given (value (Ti.Pointer t Sp.RayPayload))
 variable t Sp.IncomingRayPayload = given (value (Ti.Pointer t Sp.IncomingRayPayload))
 
+-- the row shows the variable's type and space
 abbrev pub globalVariable : TypeNumber → AddressSpace → Rule Typed
 globalVariable t s = done (variable t s)
 
@@ -103,5 +106,6 @@ loadThrough base t = ifAtomic t (λ k. given (value (Ti.Scalar k))) (given (numb
 abbrev pub loadInto : RowNumber → TypeInner → Typed
 loadInto pointer t = ifValuePointer t (λ z k s. given (value (pointee k z))) (refused (InvalidPointer pointer))
 
+-- reads the pointer, looks into its type and, of a Pointer, the type pointed at
 abbrev pub load : RowNumber → RowNumber → Rule Typed
 load here pointer = byBase here pointer (λ b s x. loadThrough b (x .inner)) (λ x. loadInto pointer (x .inner))
