@@ -8,7 +8,6 @@ use mathlib.Core.Option.{Option, none, some}
 use Rattle.ir.specs.declared.TypeNumber.{TypeNumber}
 use Rattle.ir.specs.declared.RowNumber.{RowNumber}
 use Rattle.ir.specs.declared.AddressSpace.{AddressSpace}
-use Rattle.ir.specs.declared.ImageClass.{ImageClass}
 use Rattle.ir.specs.declared.ImageQuery.{ImageQuery}
 use Rattle.ir.specs.declared.ImageQuery.the-variants as Iq
 use Rattle.ir.specs.declared.BinaryOperator.{BinaryOperator}

@@ -5,7 +5,6 @@ use mathlib.Core.List.{List, map}
 use lib.ListN.{length}
 use Rattle.scan.specs.Lowest.{lowest, allBelow}
 use Rattle.scan.specs.Lists.{build, sumBelow}
-use Rattle.answers.specs.declared.Outcome.{Outcome}
 use Rattle.answers.specs.declared.Outcome.the-variants.{Accepted}
 use Rattle.frames.specs.Bytes.{bytesOf, frameAt, frameCount}
 use Rattle.frames.specs.Forms.{typeOf, itemOf, rowOf, memberOf, componentOf, fieldsFit}

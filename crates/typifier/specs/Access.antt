@@ -17,7 +17,6 @@ use Rattle.ir.specs.declared.TypeInner.the-variants as Ti
 use Rattle.ir.specs.Numbers.{vectorSizeNumber}
 use Rattle.answers.specs.declared.Refusal.the-variants.{OutOfBoundsIndex, InvalidAccess, InvalidSubAccess, InvalidScalar, InvalidVector}
 use Rattle.rule.specs.Answers.{TypeAnswer, number, value, Typed, given, refused}
-use Rattle.rule.specs.Things.{Form}
 use Rattle.rule.specs.Rule.{Rule}
 use Rattle.typifier.specs.Selectors.{ifScalar, ifVector, ifMatrix, ifValuePointer, ifArray, ifStruct, ifBindingArray}
 use Rattle.typifier.specs.Steps.{byType, byBase}
@@ -29,7 +28,7 @@ abbrev pub accessComponent : RowNumber → Scalar → AddressSpace → OptionVec
 accessComponent base k s (Ov.Some z) = given (value (Ti.ValuePointer Ov.None k s))
 accessComponent base k s Ov.None = refused (InvalidAccess base false)
 
--- a part of a value, or of what a value pointer points at; no part of a Struct
+-- a part of a value, or of what a value pointer points at; every other type, a Struct too, is number 11
 abbrev pub accessInto : RowNumber → TypeInner → Typed
 accessInto base t =
     ifArray t (λ b. given (number b))
@@ -39,7 +38,7 @@ accessInto base t =
     (ifBindingArray t (λ b. given (number b))
     (refused (InvalidAccess base false))))))
 
--- the pointer, in the same space, to a part of a pointer's base
+-- the pointer, in the same space, to a part of a pointer's base; every other base, a Struct too, is number 12
 abbrev pub accessThrough : TypeNumber → AddressSpace → TypeInner → Typed
 accessThrough base s t =
     ifArray t (λ b. given (value (Ti.Pointer b s)))
@@ -74,7 +73,7 @@ abbrev pub indexComponent : RowNumber → ℕ → Scalar → AddressSpace → Op
 indexComponent base i k s (Ov.Some z) = bounded base i (vectorSizeNumber z) (value (Ti.ValuePointer Ov.None k s))
 indexComponent base i k s Ov.None = refused (InvalidAccess base true)
 
--- part i of a value, or of what a value pointer points at
+-- part i of a value, or of what a value pointer points at; every other type is number 11
 abbrev pub indexInto : RowNumber → ℕ → List TypeNumber → TypeInner → Typed
 indexInto base i members t =
     ifVector t (λ z k. bounded base i (vectorSizeNumber z) (value (Ti.Scalar k)))
@@ -85,7 +84,7 @@ indexInto base i members t =
     (ifBindingArray t (λ b. given (number b))
     (refused (InvalidAccess base true)))))))
 
--- the pointer, in the same space, to part i of a pointer's base `ty`
+-- the pointer, in the same space, to part i of a pointer's base `ty`; every other base is number 12
 abbrev pub indexThrough : RowNumber → ℕ → TypeNumber → AddressSpace → List TypeNumber → TypeInner → Typed
 indexThrough base i ty s members t =
     ifArray t (λ b. given (value (Ti.Pointer b s)))
@@ -102,7 +101,7 @@ accessIndex here base i =
 
 -- SPLAT, a vector of one scalar. WGSL: "Value Constructor Built-in Functions".
 
--- of a scalar the vector of it; of no other type
+-- a vector of the operand's scalar; every other type is number 13
 abbrev pub splatOf : VectorSize → RowNumber → TypeInner → Typed
 splatOf size n t = ifScalar t (λ k. given (value (Ti.Vector size k))) (refused (InvalidScalar n))
 
@@ -112,7 +111,7 @@ splat here size n = byType here n (splatOf size n)
 
 -- SWIZZLE, some components of a vector. WGSL: "Vector Multiple Component Selection".
 
--- of a vector one of the new size; of no other type
+-- a vector of the new size, of the operand's scalar; every other type is number 14
 abbrev pub swizzleOf : VectorSize → RowNumber → TypeInner → Typed
 swizzleOf size n t = ifVector t (λ z k. given (value (Ti.Vector size k))) (refused (InvalidVector n))
 

@@ -1,6 +1,6 @@
 -- Worked rows: operators, images, items and results; by hand from document 01 ("A row's type" and "Cases", P). And the table of all worked files.
 use mathlib.Core.List.{List, [], _∷_, _++_}
-use Rattle.typifier.specs.Lines.{full, short, plain, marked, indexed, binary, numbered, scalar, vector, refusal, bound, Case, line}
+use Rattle.typifier.specs.Lines.{full, short, plain, marked, indexed, binary, numbered, scalar, vector, refusal, Case, line}
 use Rattle.typifier.specs.AccessCases.{locals, matrix, pointers, newerThings}
 
 -- Splat, Swizzle, Unary, Binary, Select, Derivative, Relational, As

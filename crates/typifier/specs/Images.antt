@@ -34,7 +34,7 @@ gatheredScalar (Ic.Depth m) = F32
 gatheredScalar Ic.External = F32
 gatheredScalar (Ic.Storage f a) = F32
 
--- of an image four components, whatever its class; of no other type
+-- four components, whatever the image's class; every other type is number 16
 abbrev pub gatheredOf : RowNumber → TypeInner → Typed
 gatheredOf image t = ifImage t (λ d c. given (value (Ti.Vector Vs.Quad (gatheredScalar c)))) (refused (InvalidImage image))
 
@@ -51,7 +51,7 @@ sampledOf image (Ic.Sampled k m) = given (value (Ti.Vector Vs.Quad (sampledScala
 sampledOf image Ic.External = given (value (Ti.Vector Vs.Quad F32))
 sampledOf image (Ic.Storage f a) = refused (InvalidImage image)
 
--- the class of an image is come to once it is seen to be an Image
+-- the class is come to once the type is seen to be an Image; every other type is number 16
 abbrev pub sampledFrom : RowNumber → RowNumber → TypeInner → Rule Typed
 sampledFrom here image t = ifImage t (λ d c. come (row here) (texels c) (λ s. done (sampledOf image s))) (done (refused (InvalidImage image)))
 
@@ -77,7 +77,7 @@ sizeOf Id.D2 = Ti.Vector Vs.Bi U32
 sizeOf Id.Cube = Ti.Vector Vs.Bi U32
 sizeOf Id.D3 = Ti.Vector Vs.Tri U32
 
--- of an image its size; of no other type
+-- an image's size; every other type is number 16
 abbrev pub imageSizeOf : RowNumber → TypeInner → Typed
 imageSizeOf image t = ifImage t (λ d c. given (value (sizeOf d))) (refused (InvalidImage image))
 

@@ -37,11 +37,11 @@ arithmetic left = sameAs left
 -- Multiply. WGSL: "Arithmetic Expressions"; of cooperative matrices the source decides. By the left operand's form x and the right's y; where the type
 -- of one operand is the answer, it is given as the operand has it, a or b.
 
--- times a scalar: the left operand's type; what nothing else allows is number 18
+-- times a scalar: the left operand's type, whatever it is; what no product allows is number 18
 abbrev pub timesScalar : TypeAnswer → TypeInner → Typed
 timesScalar a y = ifScalar y (λ j. given a) (refused IncompatibleOperands)
 
--- a matrix of r rows of k
+-- a matrix of r rows of k: times a matrix that one's columns, times a vector a vector of r
 abbrev pub matrixTimes : TypeAnswer → VectorSize → Scalar → TypeInner → Typed
 matrixTimes a r k y =
     ifMatrix y (λ d q j. given (value (Ti.Matrix d r k)))
@@ -55,11 +55,11 @@ vectorTimes a y =
     (ifVector y (λ z j. given a)
     (timesScalar a y))
 
--- a cooperative matrix of r rows of k in the role o
+-- a cooperative matrix of r rows of k in the role o: times a cooperative matrix that one's columns
 abbrev pub cooperativeTimes : TypeAnswer → CooperativeSize → Scalar → CooperativeRole → TypeInner → Typed
 cooperativeTimes a r k o y = ifCooperativeMatrix y (λ d q j w. given (value (Ti.CooperativeMatrix d r k o))) (timesScalar a y)
 
--- a scalar times anything is the right operand's type
+-- by the left operand; a scalar times anything is the right operand's type
 abbrev pub product : TypeAnswer → TypeAnswer → TypeInner → TypeInner → Typed
 product a b x y =
     ifMatrix x (λ c r k. matrixTimes a r k y)
@@ -73,7 +73,7 @@ abbrev pub multiply : RowNumber → RowNumber → RowNumber → Rule Typed
 multiply here left right =
     operand left (λ a. operand right (λ b. look here a (λ x. look here b (λ y. done (product a b (x .inner) (y .inner))))))
 
--- a bool for each component of a scalar or a vector; of no other type
+-- a bool for each component of a scalar or a vector; every other type is number 18
 abbrev pub boolsOf : TypeInner → Typed
 boolsOf t =
     ifScalar t (λ k. given (value (Ti.Scalar BOOL)))
@@ -88,7 +88,7 @@ comparison here left = byType here left boolsOf
 abbrev pub equalScalars : Scalar → Scalar → Bool
 equalScalars k j = eqb (scalarKindNumber (k .kind)) (scalarKindNumber (j .kind)) && eqb (k .width) (j .width)
 
--- exactly the scalar type BOOL; of no other type
+-- exactly the scalar type BOOL; every other type is number 18
 abbrev pub logicalOf : TypeInner → Typed
 logicalOf t = ifScalar t (λ k. cond (equalScalars k BOOL) (given (value (Ti.Scalar BOOL))) (refused IncompatibleOperands)) (refused IncompatibleOperands)
 
@@ -144,7 +144,7 @@ abbrev pub widthOr : OptionBytes → ℕ → ℕ
 widthOr (Ob.Some w) own = w
 widthOr Ob.None own = own
 
--- a scalar or a vector takes the kind, a matrix keeps its own; of no other type
+-- a scalar or a vector takes the kind, a matrix keeps its own; every other type is number 18
 abbrev pub castOf : ScalarKind → OptionBytes → TypeInner → Typed
 castOf kind convert t =
     ifScalar t (λ k. given (value (Ti.Scalar (record { kind = kind; width = widthOr convert (k .width) }))))

@@ -102,7 +102,7 @@ pointee k (Ov.Some z) = Ti.Vector z k
 abbrev pub loadThrough : TypeNumber → TypeInner → Typed
 loadThrough base t = ifAtomic t (λ k. given (value (Ti.Scalar k))) (given (number base))
 
--- through a value pointer what it points at; what is no pointer is refused
+-- through a value pointer what it points at; every other type is number 15
 abbrev pub loadInto : RowNumber → TypeInner → Typed
 loadInto pointer t = ifValuePointer t (λ z k s. given (value (pointee k z))) (refused (InvalidPointer pointer))
 
