@@ -1,0 +1,3 @@
+fn main() {
+    std::process::exit(naga::front::main());
+}

@@ -1,0 +1,4 @@
+//! Stands for diagnostic_filter.
+
+#[derive(Clone, Debug)]
+pub struct DiagnosticFilterNode;

@@ -1,0 +1,3 @@
+//! Stands for emitter: a name only.
+
+pub struct Emitter;

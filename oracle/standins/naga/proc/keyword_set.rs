@@ -1,0 +1,4 @@
+//! Stands for keyword_set: names only.
+
+pub struct CaseInsensitiveKeywordSet;
+pub struct KeywordSet;

@@ -1,0 +1,3 @@
+//! Stands for terminator: a name only.
+
+pub fn ensure_block_returns(_: &mut crate::Block) {}
