@@ -33,7 +33,7 @@ class Maker:
             frames = r.choice([r.randint(3, 30)] * 3 + [r.randint(30, 120)] * 4 + [r.randint(120, 400)] * 2
                               + [r.randint(400, 1024)])
         self.room = frames
-        self.deep = r.choice([0.1, 0.4, 0.9])   # how often the latest type or row is taken up again
+        self.deep = r.choice([0.1, 0.4, 0.9, 1])    # how often the latest type or row is taken up again
         self.file = model.File([])
         self.typing = model.Typing(self.file)
         self.make_types()
@@ -75,13 +75,14 @@ class Maker:
         wanted = min(self.room, max(1, int(self.room * share)))
         self.overrides = r.choice([0, 1, 3]) if self.room > 20 else 0
         self.room -= self.overrides
+        weights = {kind: TYPES[kind] / (1 if self.deep < 1 or kind in (6, 8, 9, 14) else 5) for kind in TYPES}
         for _ in range(wanted):
             if self.room <= 0:
                 break
             if types and self.often(0.08):
                 frame = r.choice(types)
             else:
-                frame = self.type(self.weighed(TYPES) if types or self.often(0.3) else 1)
+                frame = self.type(self.weighed(weights) if types or self.often(0.3) else 1)
             types.append(frame)
             self.room -= 1
         for _ in range(r.choice([0, 0, 1])):
@@ -168,12 +169,15 @@ class Maker:
     # Rows and components.
 
     def make_rows(self):
+        self.depth = []         # how many rows stand below a row
         self.by_kind = {}       # rows by the kind of their type; a pointer's rows by (6, kind of its base) too
         weights = dict(ROWS)
         if self.newer:
             weights.update({22: 1, 'unknown': 1})
+        leaves = (1, 2, 3, 4, 10, 11, 12, *range(24, 33))
+        few = {kind: weights[kind] / (20 if kind in leaves else 1) for kind in weights}
         while self.room > 0:
-            kind = self.weighed(weights)
+            kind = self.weighed(few if self.deep == 1 and len(self.file.rows) > 10 else weights)
             if kind == 5:
                 self.compose()
             else:
@@ -184,6 +188,7 @@ class Maker:
             named = any(two(c, 2) == len(rows) - 1 for c in self.file.components)
             if row[1] != 5 and not named and len(rows) > 1:
                 rows.pop()
+                self.depth.pop()
                 self.typing.answers.pop()
                 self.file.components.append(put(5, 0, w2=r.randrange(len(rows))))
 
@@ -198,6 +203,8 @@ class Maker:
         at = len(self.file.rows)
         self.file.rows.append(row)
         self.room -= 1
+        reads = row[1] in (*range(6, 10), *range(13, 22), 23, 33, 34)
+        self.depth.append(1 + self.depth[two(row, 2)] if reads and at else 0)
         answer = self.typing.add(row)
         form = self.form(answer)
         kind = form[1] if form else 'none' if answer[0] == 10 else 'unknown'
@@ -217,6 +224,8 @@ class Maker:
             kinds = [k for k in kinds if self.by_kind.get(k)]
             if kinds:
                 found = self.by_kind[r.choice(kinds)]
+                if self.deep == 1 and self.often(0.8):
+                    return max(found, key=lambda at: self.depth[at])
                 return found[-1 - min(r.randrange(2), len(found) - 1)] if self.often(self.deep) else r.choice(found)
         return self.earlier(rows)
 

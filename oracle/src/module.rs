@@ -533,7 +533,10 @@ fn expression(file: &File, at: usize) -> Got<Option<Expression>> {
         },
         18 => Expression::Binary {
             op: match OPERATORS.get(row[6] as usize) {
-                Some(operator) => *operator,
+                Some(operator) => {
+                    assert_eq!(*operator as u8, row[6]);
+                    *operator
+                }
                 None => return bad("operator", row),
             },
             left: operand()?,

@@ -1,0 +1,298 @@
+#!/usr/bin/env python3
+"""store.py ORACLE: writes the files of stored/, with the oracle's answers.
+
+Cases with `says` have their answers written here by hand, from document 01; the oracle must give them.
+"""
+
+import pathlib
+import subprocess
+import sys
+
+sys.dont_write_bytecode = True
+import generate
+import model
+from model import BOOL, F32, U32, number, put, refusal, scalar, vector, verdict_frame
+
+CASES, PAIRS = {}, {}
+
+
+def case(name, types=(), members=(), items=(), rows=(), parts=(), says=None, pairs=None):
+    CASES[name] = [*types, *members, *items, *rows, *parts], says
+    if pairs:
+        PAIRS[name] = pairs
+
+
+# Types, members, items and rows in short.
+
+def t_scalar(s=F32): return put(1, 1, b4=s[0], b5=s[1])
+def t_vector(size, s=F32): return put(1, 2, b2=size, b4=s[0], b5=s[1])
+def t_matrix(columns, rows, s=F32): return put(1, 3, b2=columns, b3=rows, b4=s[0], b5=s[1])
+def t_atomic(s=U32): return put(1, 5, b4=s[0], b5=s[1])
+def t_pointer(base, space=0, access=0): return put(1, 6, w2=base, b6=space, b7=access)
+def t_array(base, count, stride=0): return put(1, 8, w2=base, d8=count, d12=stride)
+def t_struct(first, count, span=0): return put(1, 9, w2=first, w4=count, d12=span)
+def member(ty, offset=0): return put(2, 0, w2=ty, d12=offset)
+def part(row): return put(5, 0, w2=row)
+def local(ty): return put(3, 5, w2=ty)
+def unknown(kind=200): return put(1, kind)
+def literal(kind): return put(4, 1, b6=kind)
+def zero(ty): return put(4, 4, w2=ty)
+def compose(ty, count, first): return put(4, 5, w2=ty, w4=count, d12=first)
+def access(row): return put(4, 6, w2=row)
+def index(row, at): return put(4, 7, w2=row, d12=at)
+def local_row(n): return put(4, 12, w2=n)
+def load(row): return put(4, 13, w2=row)
+def binary(op, left, right): return put(4, 18, b6=op, w2=left, w4=right)
+def over(kind, row, **more): return put(4, kind, w2=row, **more)
+
+
+def value_of(ty, **more): return put(9, ty, **more)
+
+
+# Document 01's own cases.
+
+case('p-example', [t_scalar(), t_vector(3), unknown()], items=[local(1), local(2)],
+     rows=[local_row(0), index(0, 2), load(1), local_row(1), load(3), index(0, 3)],
+     says=[value_of(6, w2=1), value_of(7, b4=2, b5=4), scalar(F32), value_of(6, w2=2), refusal(22, 4), refusal(10, 0, 3)])
+case('p-empty', says=[])
+case('p-matrix-index', [t_matrix(3, 2)], rows=[zero(0), index(0, 2), index(0, 3)],
+     says=[number(0), vector(2, F32), refusal(10, 0, 3)])
+case('p-scalar-times-vector', [t_scalar(), t_vector(4)], rows=[zero(0), zero(1), binary(2, 0, 1), literal(1), binary(2, 3, 1)],
+     says=[number(0), number(1), number(1), scalar(F32), number(1)])
+case('p-vec4', [t_scalar(), t_vector(3), t_vector(4)], rows=[zero(0), zero(1), compose(2, 2, 0), compose(2, 2, 1)],
+     parts=[part(0), part(1), part(1)],
+     says=[number(0), number(1), number(2), verdict_frame(0, 2), number(2), verdict_frame(31, 3, 4, 6)])
+case('p-same', [t_scalar(), t_pointer(0), t_struct(0, 1), t_struct(0, 1)], [member(0)],
+     pairs=[(number(1), value_of(7, b4=2, b5=4), 'yes'), (number(2), number(3), 'no'), (number(2), number(2), 'yes')])
+
+# Points of reading.
+
+case('refusal-fields', [t_scalar(), t_vector(2), t_struct(0, 1), t_scalar()], [member(0)],
+     [put(3, 4, w2=1), put(3, 4, w2=0), local(1), local(2), local(3), put(3, 6)],
+     [put(4, 10, d12=1), put(4, 10, d12=2), put(4, 10, d12=2 ** 32 - 1), put(4, 24), put(4, 28), put(4, 30),
+      local_row(0), index(6, 2), local_row(1), index(8, 1), access(8), local_row(2), access(11), index(11, 0),
+      zero(2), access(14), index(14, 1), zero(0), access(17), index(17, 0), binary(2, 14, 14)],
+     says=[number(0), refusal(19, 0, 2), refusal(19, 0, 2 ** 32 - 1), refusal(17), refusal(20), refusal(20),
+           value_of(6, w2=1), refusal(10, 6, 2), value_of(6, w2=2), refusal(10, 8, 1), refusal(12, 2),
+           value_of(6, w2=3), refusal(12, 3), refusal(12, 3, 0, 1),
+           number(2), refusal(11, 14), refusal(10, 14, 1), number(0), refusal(11, 17), refusal(11, 17, 0, 1), refusal(18)])
+case('newer-place', [unknown(), t_scalar()],
+     rows=[zero(0), put(4, 22, d4=5), over(17, 1), over(17, 0), access(3), over(17, 4), zero(1), over(8, 6, b6=2),
+           over(8, 3, b6=2), put(4, 35), over(19, 9)],
+     says=[number(0), refusal(22, 1), refusal(22, 1), number(0), refusal(22, 4), refusal(22, 4), number(1), vector(2, F32),
+           refusal(22, 8), refusal(22, 9), refusal(22, 9)])
+case('multiply-order', [unknown(), t_scalar(), t_struct(0, 0)],
+     rows=[zero(0), zero(1), put(4, 10, d12=9), put(4, 22), binary(2, 0, 2), binary(2, 1, 0), binary(2, 0, 1),
+           binary(2, 3, 2), binary(2, 2, 3), binary(2, 0, 3), zero(2), binary(2, 10, 0), binary(0, 0, 2)],
+     says=[number(0), number(1), refusal(19, 0, 9), refusal(22, 3), refusal(19, 0, 9), refusal(22, 5), refusal(22, 6),
+           refusal(22, 3), refusal(19, 0, 9), refusal(22, 3), number(2), refusal(22, 11), number(0)])
+case('storage-image', [put(1, 10, b2=2, b4=3, b5=40, b7=7), t_scalar(), t_pointer(0)],
+     rows=[zero(0), over(14, 0), over(14, 0, b6=1), over(15, 0), over(16, 0), put(4, 16, b6=1), zero(1), over(14, 6),
+           over(15, 6), zero(2), over(15, 9), load(9), over(15, 11), put(4, 22), over(15, 13)],
+     says=[number(0), refusal(22, 1), vector(4, F32), refusal(22, 3), vector(2, U32), scalar(U32), number(1), refusal(16, 6),
+           refusal(16, 6), number(2), refusal(16, 9), number(0), refusal(22, 12), refusal(22, 13), refusal(22, 13)])
+case('logical-exact', [t_scalar(BOOL), t_scalar((3, 4)), t_vector(2, BOOL), unknown()],
+     rows=[zero(0), binary(14, 0, 0), literal(9), binary(15, 2, 0), zero(1), binary(14, 4, 0), zero(2), binary(15, 6, 0),
+           zero(3), binary(14, 8, 0), binary(15, 8, 0), binary(14, 0, 8)],
+     says=[number(0), scalar(BOOL), scalar(BOOL), scalar(BOOL), number(1), refusal(18), number(2), refusal(18), number(3),
+           refusal(22, 9), refusal(22, 10), scalar(BOOL)])
+case('as-matrix', [t_matrix(2, 3, (0, 4)), t_vector(3), t_scalar()],
+     rows=[zero(0), over(23, 0, b6=2), over(23, 0, b6=3, b7=1, b8=1), zero(1), over(23, 3, b6=1), zero(2),
+           over(23, 5, b6=1, b7=1, b8=0), over(23, 5, b6=4, b7=1, b8=255)],
+     says=[number(0), value_of(3, b2=2, b3=3, b4=0, b5=4), value_of(3, b2=2, b3=3, b4=0, b5=1), number(1), vector(3, (1, 4)),
+           number(2), scalar((1, 0)), scalar((4, 255))])
+case('pass-unlooked', [unknown(), t_pointer(0), t_array(0, 2), t_pointer(2), t_pointer(1)],
+     items=[local(0), put(3, 1, w2=0)][::-1],
+     rows=[put(4, 2), zero(1), zero(2), access(2), zero(3), index(4, 9), load(5), zero(4), load(7), load(8), binary(1, 0, 0),
+           over(34, 0), over(20, 1), over(8, 1, b6=3), over(23, 1, b6=0)],
+     says=[number(0), number(1), number(2), number(0), number(3), value_of(6, w2=0), refusal(22, 6), number(4), number(1),
+           refusal(22, 9), number(0), number(0), number(1), refusal(13, 1), refusal(18)])
+case('atomic', [t_atomic(), t_scalar(), t_array(0, 2), t_pointer(2)], items=[local(0), local(1), local(2)],
+     rows=[local_row(0), load(0), access(0), local_row(1), load(3), zero(3), access(5), load(6), zero(0), load(8), over(33, 0, b6=8, b7=8)],
+     says=[value_of(6, w2=0), scalar(U32), refusal(12, 0), value_of(6, w2=1), number(1), number(3), value_of(6, w2=0),
+           scalar(U32), number(0), refusal(15, 8), refusal(15, 0)])
+case('verdict-newer', [t_scalar(), unknown(), t_pointer(1), t_vector(2), t_matrix(2, 2), t_array(1, 2), t_array(0, 2), t_struct(0, 2), t_struct(0, 0)],
+     [member(1), member(0)],
+     rows=[zero(0), zero(1), zero(2), put(4, 22), put(4, 10), zero(8), zero(3),
+           compose(1, 1, 0), compose(3, 2, 0), compose(3, 1, 2), compose(4, 2, 4), compose(4, 2, 6), compose(5, 2, 8),
+           compose(5, 2, 0), compose(5, 2, 10), compose(6, 2, 0), compose(6, 2, 12), compose(6, 2, 14), compose(6, 2, 16),
+           compose(6, 1, 4), compose(7, 2, 3), compose(3, 2, 14), compose(3, 3, 14)],
+     parts=[part(n) for n in (0, 1, 2, 1, 0, 1, 6, 2, 1, 1, 5, 1, 2, 0, 0, 3, 4, 3)],
+     says=[number(0), number(1), number(2), refusal(22, 3), refusal(19), number(8), number(3),
+           number(1), verdict_frame(22, 7, 0xffffffff), number(3), verdict_frame(22, 8, 1), number(3), verdict_frame(32, 9, 0),
+           number(4), verdict_frame(32, 10, 0), number(4), verdict_frame(32, 11, 1), number(5), verdict_frame(0, 12),
+           number(5), verdict_frame(22, 13, 0), number(5), verdict_frame(32, 14, 0), number(6), verdict_frame(22, 15, 1),
+           number(6), verdict_frame(22, 16, 0), number(6), verdict_frame(22, 17, 1), number(6), verdict_frame(33, 18, 0),
+           number(6), verdict_frame(31, 19, 2, 1), number(7), verdict_frame(0, 20), number(3), verdict_frame(22, 21, 1),
+           number(3), verdict_frame(22, 22, 1)])
+case('verdict-order', [t_scalar(), t_vector(2), t_matrix(2, 2), t_array(0, 2), t_struct(0, 1), t_scalar(U32)], [member(0)],
+     rows=[zero(0), zero(1), zero(5), put(4, 10), put(4, 22), compose(1, 2, 0), compose(1, 3, 2), compose(1, 0, 0),
+           compose(2, 1, 0), compose(3, 3, 0), compose(4, 0, 0), compose(3, 2, 5), compose(2, 2, 7), compose(1, 2, 8)],
+     parts=[part(n) for n in (2, 3, 1, 1, 0, 3, 4, 1, 4, 3)],
+     says=[number(0), number(1), number(5), refusal(19), refusal(22, 4), number(1), verdict_frame(32, 5, 0),
+           number(1), verdict_frame(31, 6, 2, 5), number(1), verdict_frame(31, 7, 2, 0), number(2), verdict_frame(31, 8, 2, 1),
+           number(3), verdict_frame(31, 9, 2, 3), number(4), verdict_frame(31, 10, 1, 0), number(3), verdict_frame(33, 11, 0),
+           number(2), verdict_frame(22, 12, 1), number(1), verdict_frame(22, 13, 0)])
+case('compare-points', [t_scalar(), unknown(), t_pointer(1), t_struct(0, 1), t_pointer(2), t_scalar(), t_array(0, 2), t_array(5, 2), t_pointer(0), t_pointer(5),
+                        t_atomic(), t_pointer(10), t_atomic(), t_pointer(12)], [member(0)],
+     [put(3, 2)],
+     pairs=[(number(1), number(1), 'yes'), (number(1), number(3), 'no'), (number(3), number(1), 'no'), (number(0), number(1), '!22'),
+            (number(0), number(2), '!22'), (number(2), number(0), '!22'), (number(2), number(3), 'no'), (number(2), value_of(6, w2=1), '!22'),
+            (value_of(6, w2=1), value_of(6, w2=1), 'yes'), (number(4), number(0), 'no'), (number(4), value_of(6, w2=2), 'yes'),
+            (number(0), scalar(F32), 'yes'), (number(0), number(5), 'yes'), (number(6), number(7), 'no'), (number(8), number(9), 'yes'),
+            (number(11), number(13), 'no'), (number(11), value_of(6, w2=10), 'yes'), (value_of(8, w2=0, d8=2), number(6), 'yes'),
+            (value_of(8, w2=0, d8=2, d12=4), number(6), 'no'), (value_of(14, w2=0, b4=1), value_of(14, w2=0, b4=1), 'yes'),
+            (value_of(14, w2=0, b4=1, d8=1), number(0), '!6'), (number(14), number(14), '!6'), (number(14), bytes(16), '!6'),
+            (bytes(16), number(14), '!5'), (value_of(9), value_of(9), '!5'), (value_of(200), number(0), '!5'),
+            (put(8, 1), number(0), '!5'), (put(8, 0, b4=1), number(0), '!5'), (put(8, 0, w2=14, b15=1), number(0), '!5'),
+            (value_of(6, w2=14, b6=10), number(0), '!5'), (value_of(6, w2=14), number(0), '!6'), (refusal(17), number(0), '!5'),
+            (value_of(8, w2=0), number(0), '!5'), (value_of(8, w2=14), number(0), '!5'), (number(0), value_of(8, w2=14, b4=2), '!6'),
+            (value_of(10, b2=2, b4=3, b5=41), number(0), '!5'), (value_of(11, b2=1), value_of(12, b2=1), 'no'),
+            (value_of(4, b2=8, b3=16, b4=2, b5=2, b6=2), value_of(4, b2=8, b3=16, b4=2, b5=2, b6=2), 'yes')])
+case('ranges-overlap', [t_scalar(), t_vector(2), t_struct(0, 2), t_struct(1, 2), t_struct(1, 0), t_array(1, 2)], [member(0), member(1), member(0)],
+     rows=[zero(0), zero(1), compose(2, 2, 0), compose(3, 2, 1), compose(4, 0, 3), compose(5, 2, 3), compose(2, 2, 1)],
+     parts=[part(n) for n in (0, 1, 0, 1, 1, 6)],
+     says=[number(0), number(1), number(2), verdict_frame(0, 2), number(3), verdict_frame(0, 3), number(4), verdict_frame(0, 4),
+           number(5), verdict_frame(0, 5), number(2), verdict_frame(32, 6, 0)])
+
+# Each rule over each form. The types, from 0; 20 is of unknown kind, 21 points to it, 27 to an atomic.
+
+FORMS = [
+    t_scalar(), t_scalar(BOOL), t_vector(3), t_matrix(4, 2), put(1, 4, b2=8, b3=16, b4=2, b5=2, b6=1), t_atomic(),
+    t_pointer(2), put(1, 7, b4=2, b5=4, b6=1), put(1, 7, b2=2, b4=2, b5=4, b6=4, b7=3), t_array(2, 5, 16),
+    put(1, 8, b4=2, d12=4), t_struct(0, 2, 28), put(1, 10, b2=2, b5=1), put(1, 10, b2=4, b3=1, b4=1, b6=1),
+    put(1, 10, b2=2, b4=2), put(1, 10, b2=3, b4=3, b5=25, b7=1), put(1, 11, b2=1), put(1, 12), put(1, 13, b2=1),
+    put(1, 14, w2=12, d8=4), unknown(), t_pointer(20), t_vector(2, BOOL), put(1, 8, w2=3, b4=1, d12=32),
+    put(1, 14, w2=16, b4=2), t_pointer(11, 4, 7), t_struct(2, 0), t_pointer(5, 2), put(1, 10, b2=1, b5=0),
+]
+MEMBERS = [member(0), member(2, 16)]
+OVERRIDE = [put(3, 2, w2=0)]
+MANY = len(FORMS)
+
+
+def table(name, *rules):
+    """Each rule over a value of each form, and over a pointer to it."""
+    for word, row, items in ('values', zero, []), ('pointers', local_row, [local(n) for n in range(MANY)]):
+        case('%s-%s' % (name, word), FORMS, MEMBERS, OVERRIDE + items,
+             [row(n) for n in range(MANY)] + [rule(n) for rule in rules for n in range(MANY)])
+
+
+def over_some(name, forms, *rules):
+    """Each rule over a value of some forms."""
+    case(name, FORMS, MEMBERS, OVERRIDE, [zero(n) for n in forms] + [rule(n) for rule in rules for n in range(len(forms))])
+
+
+table('access', access, lambda n: index(n, 1))
+table('index-bounds', lambda n: index(n, 2), lambda n: index(n, 4), lambda n: index(n, 2 ** 32 - 1))
+table('load', load, lambda n: over(33, n, b6=8, b7=16, b8=2))
+table('images', lambda n: over(14, n), lambda n: over(14, n, b6=1), lambda n: over(15, n), lambda n: over(16, n))
+table('parts-of-vectors', lambda n: over(8, n, b6=4), lambda n: over(9, n, b6=2))
+over_some('passed-on', (0, 2, 6, 11, 20, 21), *[lambda n, kind=kind: over(kind, n) for kind in (17, 19, 20, 34)],
+      *[lambda n, op=op: binary(op, n, 0) for op in (0, 1, 3, 4, 11, 12, 13, 16, 17)])
+table('compared', *[lambda n, op=op: binary(op, n, 0) for op in (5, 14, 15)], lambda n: over(21, n, b6=2))
+over_some('compared-more', (0, 1, 2, 3, 6, 20, 21, 22), *[lambda n, op=op: binary(op, n, 0) for op in range(6, 11)],
+          lambda n: over(21, n, b6=3))
+table('as', lambda n: over(23, n, b6=1), lambda n: over(23, n, b6=0, b7=1, b8=8))
+over_some('multiply', (0, 2, 3, 4, 5, 6, 7, 9, 11, 12, 16, 18, 19, 20, 21),
+          *[lambda n, right=right: binary(2, n, right) for right in range(15)])
+case('multiply-sizes', [t_matrix(2, 3), t_matrix(4, 2, (1, 4)), t_matrix(3, 4, (2, 2)), t_vector(2), t_vector(3), t_vector(4, (2, 8)),
+                        put(1, 4, b2=8, b3=16, b4=2, b5=4, b6=2), put(1, 4, b2=16, b3=8, b4=2, b5=2), t_scalar()],
+     rows=[zero(n) for n in range(9)] + [binary(2, a, b) for a in range(9) for b in range(9)])
+case('composed-kinds', FORMS, MEMBERS, OVERRIDE,
+     [zero(n) for n in range(MANY)] + [compose(n, 1, m) for m in (0, 2) for n in range(MANY)], [part(0), part(1), part(2)])
+case('refusals-passed', [t_scalar(), t_vector(2), t_struct(0, 0)], items=[put(3, 5, w2=2), put(3, 6)],
+     rows=[zero(0), zero(1), index(1, 2), access(0), local_row(0), access(4), over(8, 1, b6=2), over(9, 0, b6=2), load(0),
+           over(15, 0), put(4, 24), binary(2, 1, 4), put(4, 10), put(4, 30), put(4, 22)] +
+     [over(kind, n, **more) for n in (2, 3, 5, 6, 7, 8, 9, 10, 11, 12, 13, 14) for kind, more in
+      ((6, {}), (7, {}), (8, dict(b6=2)), (9, dict(b6=2)), (13, {}), (14, {}), (15, {}), (16, {}), (17, {}), (18, dict(b6=2)), (18, dict(b6=5)),
+       (18, dict(b6=14)), (19, {}), (20, {}), (21, dict(b6=3)), (23, {}), (33, dict(b6=8, b7=8)), (34, {}))])
+
+# Rows that read nothing.
+
+case('literals', rows=[literal(n) for n in range(12)], says=[scalar(s) for s in model.LITERALS])
+case('carry-nothing', rows=[put(4, n) for n in range(27, 32)] + [put(4, 16, b6=n) for n in (1, 2, 3)] + [put(4, 21, b6=n) for n in (0, 1)],
+     says=[scalar(U32), refusal(20), scalar(BOOL), refusal(20), vector(4, U32)] + [scalar(U32)] * 3 + [scalar(BOOL)] * 2)
+case('special-types', [t_scalar(), t_struct(0, 0)], items=[put(3, 7, w2=1), put(3, 8)], rows=[put(4, 28), put(4, 30)],
+     says=[number(0), number(1)])
+case('special-intersection', [t_scalar()], items=[put(3, 7)], rows=[put(4, 28), put(4, 30)], says=[refusal(20), number(0)])
+case('special-vertices', [t_scalar()], items=[put(3, 8)], rows=[put(4, 28), put(4, 30)], says=[number(0), refusal(20)])
+case('named-types', [t_scalar(), unknown(), t_struct(0, 0)], rows=[put(4, kind, w2=n) for kind in (4, 25, 26, 32) for n in range(3)])
+case('items', [t_scalar(), t_vector(2), unknown()],
+     items=[put(3, 1, w2=1), put(3, 1, w2=2), put(3, 2, w2=1), put(3, 4, w2=2), put(3, 4, w2=1), put(3, 5, w2=2), put(3, 5, w2=0),
+            put(3, 6, w2=2, b4=1), put(3, 6), put(3, 6, w2=1, b4=1)],
+     rows=[put(4, 2), put(4, 2, w2=1), put(4, 3), put(4, 10), put(4, 10, d12=1), put(4, 10, d12=2), put(4, 10, d12=65536),
+           local_row(0), local_row(1), put(4, 24), put(4, 24, w2=1), put(4, 24, w2=2)])
+case('globals', [t_scalar(), unknown()], items=[put(3, 3, b6=n) for n in range(10)] + [put(3, 3, b6=4, b7=n) for n in range(8)] + [put(3, 3, w2=1, b6=5), put(3, 3, w2=1)],
+     rows=[put(4, 11, w2=n) for n in range(20)] + [load(n) for n in range(20)])
+case('math-and-unknown-rows', [t_scalar()], rows=[put(4, kind, d2=0xffffffff, d12=0xffffffff) for kind in (22, 0, 35, 99, 255)] + [over(17, n) for n in range(5)])
+case('items-only', [t_scalar()], items=[put(3, 1)], says=[])
+case('image-dimensions', [put(1, 10, b2=d, b3=a, b4=c) for d in (1, 2, 3, 4) for a in (0, 1) for c in range(4)],
+     rows=[zero(n) for n in range(32)] + [over(kind, n, **more) for kind, more in ((14, {}), (14, dict(b6=1)), (15, {}), (16, {})) for n in range(32)])
+case('image-kinds', [put(1, 10, b2=2, b5=k, b6=m) for k in range(6) for m in (0, 1)],
+     rows=[zero(n) for n in range(12)] + [over(kind, n, **more) for kind, more in ((14, {}), (14, dict(b6=1)), (15, {})) for n in range(12)])
+case('image-formats', [put(1, 10, b2=1, b4=3, b5=f, b7=f % 8) for f in range(41)],
+     rows=[zero(n) for n in range(41)] + [over(14, n, b6=1) for n in range(41)] + [over(15, n) for n in range(41)])
+case('scalar-widths', [t_scalar((k, w)) for k in range(6) for w in (0, 1, 3, 255)] + [t_vector(2, (3, 255)), t_atomic((5, 0)), t_pointer(25)],
+     rows=[zero(n) for n in range(27)] + [over(8, n, b6=2) for n in range(24)] + [binary(14, n, 0) for n in range(24)] +
+     [access(24), over(23, 24, b6=2), load(26)])
+case('chain', [t_scalar()] + [t_array(n, 2) if n % 2 else t_struct(n // 2, 1) for n in range(40)] + [t_pointer(40)],
+     [member(2 * n) for n in range(20)], items=[local(40)],
+     rows=[local_row(0)] + [index(n, 0) for n in range(40)] + [load(40), zero(40)] + [index(42 + n, 0) for n in range(40)] +
+     [over((17, 19, 20)[n % 3], 82 + n) for n in range(40)])
+case('compose-alike', [t_scalar(), t_scalar(), t_vector(2), t_array(0, 2), t_array(1, 2), t_array(3, 1), t_pointer(0), t_pointer(1), t_array(6, 2), t_atomic(),
+                       t_atomic(), t_pointer(9), t_pointer(10), t_array(11, 1), t_matrix(2, 2), t_struct(0, 1), t_struct(0, 1), t_array(15, 1)], [member(0)],
+     rows=[zero(n) for n in range(18)] + [literal(1), over(8, 18, b6=2),
+           compose(3, 2, 0), compose(4, 2, 0), compose(5, 1, 2), compose(5, 1, 3), compose(8, 2, 4), compose(13, 1, 6), compose(13, 1, 7),
+           compose(14, 2, 8), compose(15, 1, 0), compose(17, 1, 10), compose(17, 1, 11), compose(2, 2, 12), compose(2, 1, 13)],
+     parts=[part(n) for n in (0, 1, 3, 4, 6, 7, 11, 12, 2, 19, 15, 16, 18, 1)])
+
+SEEDS = [(1, 20), (2, 20), (3, 40), (4, 40), (5, 60), (6, 60), (7, 80), (8, 80), (9, 120), (11, 160), (12, 160), (13, 250), (14, 250), (15, 400), (16, 400)]
+
+
+def main():
+    oracle = sys.argv[1]
+    home = pathlib.Path(__file__).parent / 'stored'
+    home.mkdir(exist_ok=True)
+    for old in home.iterdir():
+        old.unlink()
+    for seed, frames in SEEDS:
+        maker = generate.Maker(seed, frames)
+        name = 'seed-%d-frames-%d' % (seed, frames)
+        CASES[name] = maker.frames(), None
+        if frames in (60, 160, 400):
+            PAIRS[name] = [(*maker.pair(), None) for _ in range(60)]
+    met = set()
+    for name, (frames, says) in CASES.items():
+        text = ''.join(frame.hex() + '\n' for frame in frames).encode()
+        file = model.read(text)
+        out = subprocess.run([oracle], input=text, capture_output=True, check=True).stdout.decode()
+        assert out == model.lines(file), name
+        if says is not None:
+            assert out == ''.join(map(model.marked, says)), name
+        (home / (name + '.in')).write_bytes(text)
+        (home / (name + '.out')).write_text(out)
+        for row in file.rows:
+            known = model.known_row(row)
+            met.add(('row', row[1] if known or row[1] == 22 else 'unknown', row[6] if known and row[1] in (1, 14, 16, 18, 21) else 0))
+        for line in out.split():
+            frame = bytes.fromhex(line.lstrip('!'))
+            if frame[0] > 9:
+                met.add((('refusal', 'verdict')[frame[0] - 10], frame[1]))
+        pairs = PAIRS.get(name)
+        if pairs:
+            words = ''.join('%s %s\n' % (left.hex(), right.hex()) for left, right, _ in pairs)
+            (home / (name + '.pairs')).write_text(words)
+            same = subprocess.run([oracle, 'compare-many', str(home / (name + '.pairs'))], input=text, capture_output=True,
+                                  check=True).stdout.decode()
+            for (left, right, says), line in zip(pairs, same.split()):
+                assert line == model.compare(file, left, right) and says in (None, line), (name, left.hex(), right.hex(), line)
+            (home / (name + '.same')).write_text(same)
+    wanted = {('row', n, 0) for n in range(1, 35)} | {('row', 'unknown', 0), ('row', 14, 1)}
+    wanted |= {('row', kind, n) for kind, many in ((1, 12), (16, 4), (18, 18), (21, 4)) for n in range(many)}
+    wanted |= {('refusal', n) for n in (*range(10, 21), 22)} | {('verdict', n) for n in (0, 22, 30, 31, 32, 33)}
+    assert not wanted - met, wanted - met
+    print(len(CASES), 'files,', len(PAIRS), 'with pairs')
+
+
+if __name__ == '__main__':
+    main()
