@@ -200,8 +200,8 @@ fn sound(frame: &Frame) -> bool {
     let wide = |at: usize| matches!(frame[at], 8 | 16);
     let space = match frame[6] {
         4 => frame[7] <= 7,
-        6.. if frame[6] > 9 => false,
-        _ => frame[7] == 0,
+        0..=9 => frame[7] == 0,
+        _ => false,
     };
     let count = match frame[4] {
         0 => four(frame, 8) != 0,
