@@ -14,7 +14,8 @@ use Rattle.archive.specs.Names.{namesOk}
 use Rattle.archive.specs.Parts.{earlyOk}
 use Rattle.archive.specs.Checks.{indexOk, checkFrames}
 use Rattle.rule.specs.Answers.{Result, Typed, newer, rowFrame}
-use Rattle.rule.specs.Things.{listed, typeAt, rowAt, see}
+use Rattle.archive.specs.Access.{typeIn, rowIn}
+use Rattle.rule.specs.Things.{listed, see}
 use Rattle.rule.specs.Claim.{answers}
 use Rattle.typifier.specs.Typed.{typing}
 use Rattle.typifier.specs.Lines.{Case, fileOf, wanted}
@@ -25,7 +26,7 @@ abbrev given : List ℕ → ℕ → List (List ℕ)
 given file n = map (λ (a : Result Typed). bytesOf (rowFrame a)) (answers (see file) typing (λ m. newer) n)
 
 worked : map (λ (c : Case). given (fileOf c) (length (wanted c))) table ≡ map wanted table
-unfolding listed typeAt rowAt frameAt typeOf memberOf itemOf rowOf componentOf start startsOf lowest allBelow build sumBelow
+unfolding listed typeIn rowIn frameAt typeOf memberOf itemOf rowOf componentOf start startsOf lowest allBelow build sumBelow
 worked = refl
 
 -- each file passes checks 4 to 6
