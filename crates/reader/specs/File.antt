@@ -5,19 +5,25 @@ use lib.ListN.{length}
 use Rattle.answers.specs.declared.Outcome.{Outcome}
 use Rattle.answers.specs.declared.Outcome.the-variants.{Accepted, Long, Torn, Short, Order, Field, Index}
 use Rattle.text.specs.declared.AnswerRoom.{AnswerRoom}
+use Rattle.reader.specs.declared.OptionUsize.{OptionUsize}
+use Rattle.reader.specs.declared.OptionUsize.the-variants as Ou
 use Rattle.text.specs.Lines.{decoded}
 use Rattle.text.specs.Reading.{readText, framesRead}
 use Rattle.archive.specs.Checks.{checkFrames}
 
+-- what follows on the frames of a text that was accepted; every other outcome is handed on
+abbrev pub overFile : {A : Type 0} → (Outcome → A) → (List ℕ → A) → List ℕ → Outcome → A
+overFile refused given t (Accepted n) = given (decoded t n)
+overFile refused given t Long = refused Long
+overFile refused given t (Torn k) = refused (Torn k)
+overFile refused given t Short = refused Short
+overFile refused given t (Order k) = refused (Order k)
+overFile refused given t (Field k) = refused (Field k)
+overFile refused given t (Index k) = refused (Index k)
+
 -- checks 4 to 6 follow on the frames where checks 1 to 3 pass
 abbrev pub thenFrames : List ℕ → Outcome → Outcome
-thenFrames t (Accepted n) = checkFrames (decoded t n)
-thenFrames t Long = Long
-thenFrames t (Torn k) = Torn k
-thenFrames t Short = Short
-thenFrames t (Order k) = Order k
-thenFrames t (Field k) = Field k
-thenFrames t (Index k) = Index k
+thenFrames t o = overFile (λ (r : Outcome). r) checkFrames t o
 
 -- what reading a text gives, with a frame buffer of f bytes, and an answer buffer where one is lent
 unfoldable pub readFile : List ℕ → ℕ → AnswerRoom → Outcome
@@ -26,3 +32,13 @@ readFile t f room = thenFrames t (readText t f room)
 -- the frame buffer after it: as it was after numbers 1 to 3, else the frames at its front, also after numbers 4 to 6
 unfoldable pub framesAfter : List ℕ → List ℕ → AnswerRoom → List ℕ
 framesAfter t fr room = framesRead (readText t (length fr) room) t fr
+
+-- how many frames an outcome says were accepted
+abbrev pub framesIn : Outcome → OptionUsize
+framesIn (Accepted n) = Ou.Some n
+framesIn Long = Ou.None
+framesIn (Torn k) = Ou.None
+framesIn Short = Ou.None
+framesIn (Order k) = Ou.None
+framesIn (Field k) = Ou.None
+framesIn (Index k) = Ou.None
