@@ -1,11 +1,10 @@
--- Every case of the table is what the definitions cited by `read_file`'s contract give: both sides compute to the same. Assumes nothing.
+-- Every case of the table is what the definitions cited by the contracts of `read_file` and `same_type` give: both sides compute to the same. Assumes nothing.
 use mathlib.Core.Path.{_≡_, refl}
 use mathlib.Core.List.{List, map}
 use Prim.Native.Nat.{ℕ}
 use lib.ListN.{length}
 use Rattle.scan.specs.Lowest.{lowest, allBelow}
 use Rattle.scan.specs.Lists.{build, sumBelow}
-use Rattle.answers.specs.declared.Outcome.{Outcome}
 use Rattle.text.specs.declared.AnswerRoom.the-variants.{NotLent}
 use Rattle.text.specs.Hex.{digitValue}
 use Rattle.text.specs.Lines.{lineOk, byteOf}
@@ -17,19 +16,29 @@ use Rattle.archive.specs.Starts.{start, startsOf}
 use Rattle.archive.specs.Names.{namesOk}
 use Rattle.archive.specs.Parts.{earlyOk}
 use Rattle.archive.specs.Checks.{indexOk, checkFrames}
+use Rattle.archive.specs.Access.{typeIn}
+use Rattle.rule.specs.Things.{listed}
+use Rattle.type_methods.specs.Canonical.{equalTypes, identical}
+use Rattle.type_methods.specs.Comparison.{sameIn, sameType}
 use Rattle.reader.specs.File.{readFile, framesAfter}
-use Rattle.cases.specs.Table.{Case, table}
+use Rattle.reader.specs.Types.{sameTypes}
+use Rattle.cases.specs.Table.{Asked, read, same, Answered, outcome, sameness, Case, table}
 
 abbrev Output : Type 0
-Output = Outcome × List ℕ
+Output = Answered × List ℕ
 
--- what reading a case's text gives, and the frame buffer after it
+-- what is answered, by the definitions that the contracts of `read_file` and `same_type` cite
+abbrev answered : Case → Asked → Answered
+answered c read = outcome (readFile (c .text) (length (c .lent)) NotLent)
+answered c (same l r) = sameness (sameTypes (c .text) (length (c .lent)) l r)
+
+-- and the frame buffer after it
 abbrev given : Case → Output
-given c = (readFile (c .text) (length (c .lent)) NotLent, framesAfter (c .text) (c .lent) NotLent)
+given c = (answered c (c .asked), framesAfter (c .text) (c .lent) NotLent)
 
 abbrev wanted : Case → Output
-wanted c = (c .outcome, c .after)
+wanted c = (c .answer, c .after)
 
 worked : map given table ≡ map wanted table
-unfolding lowest allBelow build sumBelow digitValue lineOk byteOf answerFrames tooShort readText frameAt typeOf itemOf rowOf memberOf componentOf fieldsFit orderOk start startsOf namesOk earlyOk indexOk checkFrames readFile framesAfter
+unfolding lowest allBelow build sumBelow digitValue lineOk byteOf answerFrames tooShort readText frameAt typeOf itemOf rowOf memberOf componentOf fieldsFit orderOk start startsOf namesOk earlyOk indexOk checkFrames readFile framesAfter listed typeIn equalTypes identical sameIn sameType sameTypes
 worked = refl

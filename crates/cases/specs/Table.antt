@@ -1,5 +1,5 @@
--- Document 01, "Cases", P: worked cases, each the whole text and the whole output, written by hand from the document. `file` has one more:
--- a frame of each kind.
+-- Document 01, "Cases", P: worked cases, each the whole text and the whole output, written by hand from the document. `file` and
+-- the other order of the value pointer are more.
 use Prim.Native.Nat.{ℕ, _+_, _*_, _-_}
 use Prim.Native.Char.{code}
 use Prim.Native.String.{String}
@@ -10,6 +10,10 @@ use lib.Dec.{ltb}
 use lib.ListN.{replicate}
 use Rattle.answers.specs.declared.Outcome.{Outcome}
 use Rattle.answers.specs.declared.Outcome.the-variants.{Accepted, Long, Field}
+use Rattle.answers.specs.declared.Sameness.{Sameness}
+use Rattle.answers.specs.declared.Sameness.the-variants.{Same, Different}
+use Rattle.frames.specs.declared.Frame.{Frame}
+use Rattle.frames.specs.Bytes.{frameAt}
 
 -- the characters of a text, by their numbers
 abbrev bytes : String → List ℕ
@@ -35,11 +39,25 @@ abbrev frames : List String → List ℕ
 frames [] = []
 frames (s ∷ ss) = paired (bytes s) ++ frames ss
 
--- a case: the text and the frame buffer lent; the outcome and the frame buffer after
+-- the frame that one such line stands for
+abbrev frame : String → Frame
+frame s = frameAt (frames (s ∷ [])) 0
+
+-- what is asked of a text: to read it, or whether two frames are the same type
+pub data Asked : Type 0 where
+  read : Asked
+  same : Frame → Frame → Asked
+
+pub data Answered : Type 0 where
+  outcome : Outcome → Answered
+  sameness : Sameness → Answered
+
+-- a case: the text, the frame buffer lent and what is asked; the answer and the frame buffer after
 pub record Case : Type 0 where
   pub text : List ℕ
   pub lent : List ℕ
-  pub outcome : Outcome
+  pub asked : Asked
+  pub answer : Answered
   pub after : List ℕ
 
 -- the file whose rows the document types
@@ -62,6 +80,20 @@ abbrev noCount : List String
 noCount =
     "01010000020400000000000000000000" ∷
     "01080000000000000000000010000000" ∷ []
+
+-- a scalar type, a pointer to it in Function, and two alike structs of one member
+abbrev forms : List String
+forms =
+    "01010000020400000000000000000000" ∷
+    "01060000000000000000000000000000" ∷
+    "01090000010000000000000000000000" ∷
+    "01090000010000000000000000000000" ∷
+    "02000000000000000000000000000000" ∷ []
+
+-- two frames compared over that file
+abbrev compared : String → String → Sameness → Case
+compared l r answer =
+    record { text = lines forms; lent = replicate 81 7; asked = same (frame l) (frame r); answer = sameness answer; after = frames forms ++ 7 ∷ [] }
 
 -- the fourteen kinds of type, two members, the eight kinds of item, the thirty-four kinds of row, three components
 abbrev file : List String
@@ -131,13 +163,18 @@ file =
 abbrev pub table : List Case
 table =
     -- empty file, no lines
-    record { text = []; lent = 7 ∷ []; outcome = Accepted 0; after = 7 ∷ [] }
+    record { text = []; lent = 7 ∷ []; asked = read; answer = outcome (Accepted 0); after = 7 ∷ [] }
     -- the constant array count 0 number 5
-    ∷ record { text = lines noCount; lent = replicate 33 7; outcome = Field 1; after = frames noCount ++ 7 ∷ [] }
+    ∷ record { text = lines noCount; lent = replicate 33 7; asked = read; answer = outcome (Field 1); after = frames noCount ++ 7 ∷ [] }
     -- 1,025 lines number 1
-    ∷ record { text = lines (replicate 1025 "01010000020400000000000000000000"); lent = 7 ∷ []; outcome = Long; after = 7 ∷ [] }
+    ∷ record { text = lines (replicate 1025 "01010000020400000000000000000000"); lent = 7 ∷ []; asked = read; answer = outcome Long; after = 7 ∷ [] }
+    -- pointer to a scalar type equals the value pointer, in either order
+    ∷ compared "08000100000000000000000000000000" "09070000020400000000000000000000" Same
+    ∷ compared "09070000020400000000000000000000" "08000100000000000000000000000000" Same
+    -- two alike structs differ
+    ∷ compared "08000200000000000000000000000000" "08000300000000000000000000000000" Different
     -- the paper's file is read to its last row
-    ∷ record { text = lines paper; lent = replicate 176 7; outcome = Accepted 11; after = frames paper }
+    ∷ record { text = lines paper; lent = replicate 176 7; asked = read; answer = outcome (Accepted 11); after = frames paper }
     -- a frame of each kind
-    ∷ record { text = lines file; lent = replicate 976 7; outcome = Accepted 61; after = frames file }
+    ∷ record { text = lines file; lent = replicate 976 7; asked = read; answer = outcome (Accepted 61); after = frames file }
     ∷ []

@@ -25,18 +25,22 @@ returns : tie.Need-returns
 unfolding pointerBaseType
 returns c =
     let e = c .before .before .before .before .before .read-file .ensures in
-    let g = c .before .before .before .before .before .before .before .before .before .args in
-    (refused-over Res.NotAccepted (λ (x : List ℕ). pointerBaseIn x (startsOf x) (g .n)) (g .text .now) _ (sym (c .before .before .frames-in .ensures) ∙ c .enum-told .given .1)
-    ∙ ap (λ o. overFile Res.NotAccepted (λ (x : List ℕ). pointerBaseIn x (startsOf x) (g .n)) (g .text .now) o) (e .0), e .1)
+    let g = c .before .before .before .before .before .before .before .before .before .args in (
+      refused-over Res.NotAccepted (λ (x : List ℕ). pointerBaseIn x (startsOf x) (g .n)) (g .text .now) _ (sym (c .before .before .frames-in .ensures) ∙ c .enum-told .given .1)
+          ∙ ap (λ o. overFile Res.NotAccepted (λ (x : List ℕ). pointerBaseIn x (startsOf x) (g .n)) (g .text .now) o) (e .0),
+      e .1,
+    )
 
 returns-2 : tie.Need-returns-2
 unfolding pointerBaseType
 returns-2 c =
     let e = c .before .before .before .before .before .before .before .before .before .before .read-file .ensures in
-    let g = c .before .before .before .before .before .before .before .before .before .before .before .before .before .before .args in
-    (c .pointer-base .ensures
-    ∙ given-over _ _ _ _ _ (e .0) (e .1) (sym (c .before .before .before .before .before .before .before .frames-in .ensures) ∙ c .before .before .before .before .before .k .given .1)
-    Res.NotAccepted (λ (x : List ℕ) (s : Starts). pointerBaseIn x s (g .n)) _ (c .before .before .find-starts .ensures), e .1)
+    let g = c .before .before .before .before .before .before .before .before .before .before .before .before .before .before .args in (
+      c .pointer-base .ensures
+          ∙ given-over _ _ _ _ _ (e .0) (e .1) (sym (c .before .before .before .before .before .before .before .frames-in .ensures) ∙ c .before .before .before .before .before .k .given .1)
+          Res.NotAccepted (λ (x : List ℕ) (s : Starts). pointerBaseIn x s (g .n)) _ (c .before .before .find-starts .ensures),
+      e .1,
+    )
 
 pub pointer-base-spec : {M : Type 1} → statement M
 pointer-base-spec =
