@@ -6,7 +6,7 @@ use mathlib.Core.Path.{_≡_, refl, sym, ap, _∙_}
 use mathlib.Core.Bool.{Bool, true, false, _&&_}
 use mathlib.Core.List.{[], _∷_}
 use lib.Dec.{eqb}
-use borrow.Author.Tests.{eqb-true, eq-eqb}
+use borrow.Author.Tests.{eqb-true, eq-eqb, ne-eqb}
 use Rattle.ir.specs.declared.RowNumber.{RowNumber}
 use Rattle.ir.specs.declared.TypeKind.{TypeKind}
 use Rattle.ir.specs.declared.TypeKind.the-variants as Tk
@@ -58,3 +58,10 @@ module _ (f : Frame) (below : Below f) where
   -- any frame, as a verdict
   pub verdict-choice : (r : RowNumber) → verdictFrame r (chosenJudgement f) ≡ f
   verdict-choice r = refl
+
+-- a chosen refusal with number 22 is newer whatever its other bytes, and stays as it stands; every other refusal is one, whatever its bytes
+pub chosen-newer : (f : Frame) → byte f 0 ≡ 10 → byte f 1 ≡ 22 → rowAnswerOf f ≡ newer (A.chosen f)
+chosen-newer f e d = rw (eq-eqb (byte f 0) 10 e, eq-eqb (byte f 1) 22 d)
+
+pub chosen-refused : (f : Frame) → byte f 0 ≡ 10 → (byte f 1 ≡ 22 → ⊥) → rowAnswerOf f ≡ told (A.chosenRefusal f)
+chosen-refused f e d = rw (eq-eqb (byte f 0) 10 e, ne-eqb (byte f 1) 22 d)
