@@ -1,0 +1,1 @@
+// No code yet: the verdict on a compose as a rule stands in specs/.
