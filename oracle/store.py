@@ -246,6 +246,51 @@ case('compose-alike', [t_scalar(), t_scalar(), t_vector(2), t_array(0, 2), t_arr
            compose(14, 2, 8), compose(15, 1, 0), compose(17, 1, 10), compose(17, 1, 11), compose(2, 2, 12), compose(2, 1, 13)],
      parts=[part(n) for n in (0, 1, 3, 4, 6, 7, 11, 12, 2, 19, 15, 16, 18, 1)])
 
+# Where the source parts from WGSL (docs/DIFFERENCES.md): the smallest input for each difference.
+
+SAMPLER, F16, RUNTIME = put(1, 11), (2, 2), put(1, 8, b4=2, d12=4)
+
+
+def global_row(n): return put(4, 11, w2=n)
+def in_handle(ty): return put(3, 3, w2=ty, b6=5)
+def image(dim, **more): return put(1, 10, b2=dim, **more)
+
+
+case('differs-literal', rows=[literal(0)])
+case('differs-zero-value', [SAMPLER], rows=[zero(0)])
+case('differs-index-past-array', [t_scalar(), t_array(0, 2, 4)], rows=[zero(1), index(0, 2)])
+case('differs-load-rule', [t_scalar()], items=[local(0)], rows=[local_row(0), over(8, 0, b6=2)])
+case('differs-load-runtime-array', [t_scalar(), RUNTIME], items=[put(3, 3, w2=1, b6=4, b7=1)], rows=[global_row(0), load(0)])
+case('differs-load-write-only', [t_scalar()], items=[put(3, 3, b6=4, b7=2)], rows=[global_row(0), load(0)])
+case('differs-sample-uint', [image(2, b5=1)], items=[in_handle(0)], rows=[global_row(0), over(14, 0)])
+case('differs-gather-storage', [image(2, b4=3, b5=32, b7=1)], items=[in_handle(0)], rows=[global_row(0), over(14, 0, b6=1)])
+case('differs-load-cube', [image(4, b5=2)], items=[in_handle(0)], rows=[global_row(0), over(15, 0)])
+case('differs-operand-unread', rows=[put(4, 16, b6=n) for n in (1, 2, 3)] + [put(4, 21, b6=n) for n in (0, 1)] + [put(4, 27)])
+case('differs-unary', [t_scalar(), t_array(0, 2, 4)], rows=[zero(1), over(17, 0)])
+case('differs-scalar-plus-vector', [t_scalar(), t_vector(2)], rows=[zero(0), zero(1), binary(0, 0, 1)])
+case('differs-right-unread', rows=[literal(1), put(4, 10), binary(0, 0, 1)])
+case('differs-add-bools', rows=[literal(9), binary(0, 0, 0)])
+case('differs-abstract-plus-float', rows=[literal(10), literal(1), binary(0, 0, 1)])
+case('differs-matrix-product', [t_matrix(2, 2), t_matrix(3, 4)], rows=[zero(0), zero(1), binary(2, 0, 1)])
+case('differs-matrix-times-vector', [t_matrix(2, 3), t_vector(4)], rows=[zero(0), zero(1), binary(2, 0, 1), binary(2, 1, 0)])
+case('differs-vector-product', [t_vector(2), t_vector(3)], rows=[zero(0), zero(1), binary(2, 0, 1)])
+case('differs-scalar-times-any', [t_scalar(), t_array(0, 2, 4)], rows=[zero(0), zero(1), binary(2, 0, 1), binary(2, 1, 0)])
+case('differs-less-bools', rows=[literal(9), binary(7, 0, 0)])
+case('differs-compare-kinds', rows=[literal(1), literal(9), binary(5, 0, 1)])
+case('differs-logical-right', rows=[literal(9), literal(5), binary(14, 0, 1)])
+case('differs-bits-of-floats', rows=[literal(1), binary(11, 0, 0), binary(16, 0, 0)])
+case('differs-select', [t_scalar(), t_array(0, 2, 4)], rows=[zero(1), over(19, 0)])
+case('differs-derivative', rows=[literal(5), over(20, 0)])
+case('differs-is-nan', rows=[literal(5), over(21, 0, b6=2)])
+case('differs-as-matrix', [t_matrix(2, 2)], rows=[zero(0), over(23, 0, b6=0, b7=1, b8=4)])
+case('differs-as-bits-bool', rows=[literal(9), over(23, 0, b6=1)])
+case('differs-as-bits-halves', [t_vector(2, F16)], rows=[zero(0), over(23, 0, b6=1)])
+case('differs-as-abstract', rows=[literal(1), over(23, 0, b6=4, b7=1, b8=8)])
+case('differs-as-width', rows=[literal(1), over(23, 0, b6=2, b7=1, b8=3)])
+case('differs-named-result', [SAMPLER], rows=[put(4, kind) for kind in (25, 26, 32)])
+case('differs-width', [t_scalar((2, 3))], rows=[zero(0), over(8, 0, b6=2)])
+case('differs-not-carried', [t_vector(2)], rows=[zero(0), access(0), over(9, 0, b6=4)])
+
 SEEDS = [(1, 20), (2, 20), (3, 40), (4, 40), (5, 60), (6, 60), (7, 80), (8, 80), (9, 120), (11, 160), (12, 160), (13, 250), (14, 250), (15, 400), (16, 400)]
 
 
