@@ -8,6 +8,7 @@ use mathlib.Core.List.{List, [], _∷_, _++_}
 use mathlib.Core.Option.{Option, none, some}
 use Rattle.ir.specs.declared.TypeInner.{TypeInner}
 use Rattle.ir.specs.declared.TypeInner.the-variants as Ti
+use Rattle.ir.specs.declared.RowNumber.{RowNumber}
 use Rattle.answers.specs.Numbers.{refusalValues}
 use Rattle.answers.specs.declared.Refusal.{Refusal}
 use Rattle.answers.specs.declared.Refusal.the-variants as R
@@ -27,10 +28,15 @@ TypeInRange s (number t) = isType s t ≡ true
 TypeInRange s (value t) = valueFault s t ≡ Fa.Sound
 TypeInRange s (malformed f) = ⊥
 
+-- a refusal's number is from 10 to 20
+pub record RefusalInRange (e : Refusal) : Type 0 where
+  pub low : 10 ≤ refusalValues e .number
+  pub high : refusalValues e .number ≤ 20
+
 -- a row's answer other than newer: such a type, or one of the refusals 10 to 20
 abbrev pub TypedInRange : Starts → Typed → Type 0
 TypedInRange s (given a) = TypeInRange s a
-TypedInRange s (refused e) = (10 ≤ refusalValues e .number) × (refusalValues e .number ≤ 20)
+TypedInRange s (refused e) = RefusalInRange e
 TypedInRange s (chosenRefusal f) = ⊥
 
 -- the place of a newer thing: row m or an earlier one
@@ -97,21 +103,22 @@ pub record FormInRange (s : Starts) (x : Form) : Type 0 where
 
 -- a rule of row m, along what it sees in a file: it ends in range, comes to things that are there, at row m or an earlier one, and reads earlier rows
 -- only, whose newer things keep their places; over answers of theirs that are in range
-abbrev pub Within : List ℕ → ℕ → Rule Typed → Type 0
-Within fr m (done t) = TypedInRange (startsOf fr) t
-Within fr m (come p c k) = StepInRange fr m (step p c) × ((s : Seen c) → see fr c ≡ some s → Within fr m (k s))
-Within fr m (past n at k) = (n .0 < m) × ((p : Place) → at p ≡ p) × ((t : Typed) → TypedInRange (startsOf fr) t → Within fr m (k t))
+pub data Within (fr : List ℕ) (m : ℕ) : Rule Typed → Type 0 where
+  ends : {t : Typed} → TypedInRange (startsOf fr) t → Within fr m (done t)
+  comes : (p : Place) (c : Thing) {k : Seen c → Rule Typed} → PlaceInRange m p → There fr c → ((s : Seen c) → see fr c ≡ some s → Within fr m (k s))
+      → Within fr m (come p c k)
+  reads : {n : RowNumber} {k : Typed → Rule Typed} → n .0 < m → ((t : Typed) → TypedInRange (startsOf fr) t → Within fr m (k t)) → Within fr m (past n (λ p. p) k)
 
 -- every refusal of ours has a number from 10 to 20
-pub refusal-number : (s : Starts) (e : Refusal) → TypedInRange s (refused e)
-refusal-number s (R.OutOfBoundsIndex r i) = (omega arith, omega arith)
-refusal-number s (R.InvalidAccess r q) = (omega arith, omega arith)
-refusal-number s (R.InvalidSubAccess t q) = (omega arith, omega arith)
-refusal-number s (R.InvalidScalar r) = (omega arith, omega arith)
-refusal-number s (R.InvalidVector r) = (omega arith, omega arith)
-refusal-number s (R.InvalidPointer r) = (omega arith, omega arith)
-refusal-number s (R.InvalidImage r) = (omega arith, omega arith)
-refusal-number s R.FunctionReturnsVoid = (omega arith, omega arith)
-refusal-number s R.IncompatibleOperands = (omega arith, omega arith)
-refusal-number s (R.FunctionArgumentNotFound i) = (omega arith, omega arith)
-refusal-number s R.MissingSpecialType = (omega arith, omega arith)
+pub refusal-number : (e : Refusal) → RefusalInRange e
+refusal-number (R.OutOfBoundsIndex r i) = record { low = omega arith; high = omega arith }
+refusal-number (R.InvalidAccess r q) = record { low = omega arith; high = omega arith }
+refusal-number (R.InvalidSubAccess t q) = record { low = omega arith; high = omega arith }
+refusal-number (R.InvalidScalar r) = record { low = omega arith; high = omega arith }
+refusal-number (R.InvalidVector r) = record { low = omega arith; high = omega arith }
+refusal-number (R.InvalidPointer r) = record { low = omega arith; high = omega arith }
+refusal-number (R.InvalidImage r) = record { low = omega arith; high = omega arith }
+refusal-number R.FunctionReturnsVoid = record { low = omega arith; high = omega arith }
+refusal-number R.IncompatibleOperands = record { low = omega arith; high = omega arith }
+refusal-number (R.FunctionArgumentNotFound i) = record { low = omega arith; high = omega arith }
+refusal-number R.MissingSpecialType = record { low = omega arith; high = omega arith }
