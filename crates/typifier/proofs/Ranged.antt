@@ -3,7 +3,7 @@
 use Prim.Native.Nat.{ℕ, _≤_, _<_}
 use native.Mathlib.Omega.{arith}
 use mathlib.Core.Path.{_≡_, refl}
-use mathlib.Core.Bool.{true}
+use mathlib.Core.Bool.{Bool, true, false}
 use mathlib.Core.List.{List, [], _∷_, _++_}
 use mathlib.Core.Option.{Option, none, some}
 use Rattle.ir.specs.declared.TypeInner.{TypeInner}
@@ -22,10 +22,27 @@ use Rattle.rule.specs.Rule.{Rule, done, come, past, Step, step}
 
 -- ANSWERS
 
--- a type answer: the number of a type of the file, or a value that a comparison gives neither 5 nor 6; so no struct is one
+-- the values that rules make: scalars, vectors, matrices, cooperative matrices and pointers
+abbrev pub isMade : TypeInner → Bool
+isMade (Ti.Scalar k) = true
+isMade (Ti.Vector z k) = true
+isMade (Ti.Matrix c r k) = true
+isMade (Ti.CooperativeMatrix c r k o) = true
+isMade (Ti.Atomic k) = false
+isMade (Ti.Pointer b p) = true
+isMade (Ti.ValuePointer z k p) = true
+isMade (Ti.Array b z t) = false
+isMade (Ti.Struct m n t) = false
+isMade (Ti.Image d a c) = false
+isMade (Ti.Sampler q) = false
+isMade (Ti.AccelerationStructure q) = false
+isMade (Ti.RayQuery q) = false
+isMade (Ti.BindingArray b z) = false
+
+-- a type answer: the number of a type of the file, or a value that a rule makes and that a comparison gives neither 5 nor 6; so no struct is one
 abbrev pub TypeInRange : Starts → TypeAnswer → Type 0
 TypeInRange s (number t) = isType s t ≡ true
-TypeInRange s (value t) = valueFault s t ≡ Fa.Sound
+TypeInRange s (value t) = (valueFault s t ≡ Fa.Sound) × (isMade t ≡ true)
 TypeInRange s (malformed f) = ⊥
 
 -- a refusal's number is from 10 to 20

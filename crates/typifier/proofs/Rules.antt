@@ -13,6 +13,7 @@ use Rattle.scan.proofs.Laws.{by-test}
 use Rattle.ir.specs.declared.TypeNumber.{TypeNumber}
 use Rattle.ir.specs.declared.RowNumber.{RowNumber}
 use Rattle.ir.specs.declared.VectorSize.{VectorSize}
+use Rattle.ir.specs.declared.VectorSize.the-variants as Vs
 use Rattle.ir.specs.declared.OptionVectorSize.{OptionVectorSize}
 use Rattle.ir.specs.declared.OptionVectorSize.the-variants as Ov
 use Rattle.ir.specs.declared.CooperativeSize.{CooperativeSize}
@@ -37,7 +38,7 @@ use Rattle.ir.specs.declared.OptionBytes.{OptionBytes}
 use Rattle.ir.specs.declared.TypeInner.{TypeInner}
 use Rattle.ir.specs.declared.TypeInner.the-variants as Ti
 use Rattle.ir.specs.Numbers.{vectorSizeNumber}
-use Rattle.ir.specs.Scalars.{BOOL}
+use Rattle.ir.specs.Scalars.{U32, F32, BOOL}
 use Rattle.answers.specs.declared.Refusal.{Refusal}
 use Rattle.archive.specs.declared.Starts.{Starts}
 use Rattle.archive.specs.Starts.{startsOf}
@@ -50,8 +51,8 @@ use Rattle.rule.specs.Things.{Shown, Form, kind, form, texels, inRange, see}
 use Rattle.rule.specs.Rule.{Rule, done}
 use Rattle.typifier.specs.Steps.{passOn, operand, look, sameAs, byType, throughBase, byBase}
 use Rattle.typifier.specs.Access.{accessComponent, accessInto, accessThrough, bounded, member, memberPointer, indexComponent, indexInto, indexThrough, splatOf, swizzleOf}
-use Rattle.typifier.specs.Variables.{argument, variable, pointee, loadThrough, loadInto}
-use Rattle.typifier.specs.Images.{gatheredOf, sampledOf, sampledFrom, sampled, imageSample, sizeOf, imageSizeOf, imageQuery}
+use Rattle.typifier.specs.Variables.{literalScalar, argument, variable, pointee, loadThrough, loadInto}
+use Rattle.typifier.specs.Images.{sampledScalar, gatheredScalar, gatheredOf, sampledOf, sampledFrom, sampled, imageSample, sizeOf, imageSizeOf, imageQuery}
 use Rattle.typifier.specs.Operators.{timesScalar, matrixTimes, vectorTimes, cooperativeTimes, product, multiply, boolsOf, equalScalars, logicalOf, binary, relational, castOf}
 use Rattle.typifier.specs.Results.{resultOf, special, scalarOf, cooperativeOf, pointeeScalar}
 use Rattle.typifier.specs.Typed.{resolve, typing}
@@ -69,19 +70,34 @@ module _ (s : Starts) where
   no-type e = refusal-number e
 
   pointer-in : (b : TypeNumber) (p : AddressSpace) → isType s b ≡ true → In (given (value (Ti.Pointer b p)))
-  pointer-in b p h = ap inRange h
+  pointer-in b p h = (ap inRange h, refl)
+
+  scalar-in : (k : Scalar) → In (given (value (Ti.Scalar k)))
+  scalar-in k = (refl, refl)
+
+  vector-in : (z : VectorSize) (k : Scalar) → In (given (value (Ti.Vector z k)))
+  vector-in z k = (refl, refl)
+
+  matrix-in : (c r : VectorSize) (k : Scalar) → In (given (value (Ti.Matrix c r k)))
+  matrix-in c r k = (refl, refl)
+
+  cooperative-in : (c r : CooperativeSize) (k : Scalar) (o : CooperativeRole) → In (given (value (Ti.CooperativeMatrix c r k o)))
+  cooperative-in c r k o = (refl, refl)
+
+  value-pointer-in : (z : OptionVectorSize) (k : Scalar) (p : AddressSpace) → In (given (value (Ti.ValuePointer z k p)))
+  value-pointer-in z k p = (refl, refl)
 
   -- ACCESS
 
   access-component : (base : RowNumber) (k : Scalar) (p : AddressSpace) (z : OptionVectorSize) → In (accessComponent base k p z)
-  access-component base k p (Ov.Some z) = refl
+  access-component base k p (Ov.Some z) = value-pointer-in Ov.None k p
   access-component base k p Ov.None = no-type _
 
   access-into : (base : RowNumber) (t : TypeInner) → BaseInRange s t → In (accessInto base t)
   access-into base t w =
       by-array s In t w (λ b h. h)
-      (by-matrix In t (λ c r k. refl)
-      (by-vector In t (λ z k. refl)
+      (by-matrix In t (λ c r k. vector-in r k)
+      (by-vector In t (λ z k. scalar-in k)
       (by-value-pointer In t (λ z k p. access-component base k p z)
       (by-binding-array s In t w (λ b h. h)
       (no-type _)))))
@@ -89,8 +105,8 @@ module _ (s : Starts) where
   access-through : (base : TypeNumber) (p : AddressSpace) (t : TypeInner) → BaseInRange s t → In (accessThrough base p t)
   access-through base p t w =
       by-array s In t w (λ b h. pointer-in b p h)
-      (by-vector In t (λ z k. refl)
-      (by-matrix In t (λ c r k. refl)
+      (by-vector In t (λ z k. value-pointer-in Ov.None k p)
+      (by-matrix In t (λ c r k. value-pointer-in (Ov.Some r) k p)
       (by-binding-array s In t w (λ b h. pointer-in b p h)
       (no-type _))))
 
@@ -108,13 +124,13 @@ module _ (s : Starts) where
   member-pointer base i p none h = no-type _
 
   index-component : (base : RowNumber) (i : ℕ) (k : Scalar) (p : AddressSpace) (z : OptionVectorSize) → In (indexComponent base i k p z)
-  index-component base i k p (Ov.Some z) = bounded-in base i _ (value (Ti.ValuePointer Ov.None k p)) refl
+  index-component base i k p (Ov.Some z) = bounded-in base i _ (value (Ti.ValuePointer Ov.None k p)) (value-pointer-in Ov.None k p)
   index-component base i k p Ov.None = no-type _
 
   index-into : (base : RowNumber) (i : ℕ) (members : List TypeNumber) (t : TypeInner) → BaseInRange s t → Each (λ t. isType s t ≡ true) members → In (indexInto base i members t)
   index-into base i members t w all =
-      by-vector In t (λ z k. bounded-in base i _ (value (Ti.Scalar k)) refl)
-      (by-matrix In t (λ c r k. bounded-in base i _ (value (Ti.Vector r k)) refl)
+      by-vector In t (λ z k. bounded-in base i _ (value (Ti.Scalar k)) (scalar-in k))
+      (by-matrix In t (λ c r k. bounded-in base i _ (value (Ti.Vector r k)) (vector-in r k))
       (by-array s In t w (λ b h. h)
       (by-struct In t (member-in base i (getElem? members i) (each-at _ members i all))
       (by-value-pointer In t (λ z k p. index-component base i k p z)
@@ -125,8 +141,8 @@ module _ (s : Starts) where
       → In (indexThrough base i ty p members t)
   index-through base i ty p members t w all =
       by-array s In t w (λ b h. pointer-in b p h)
-      (by-vector In t (λ z k. bounded-in base i _ (value (Ti.ValuePointer Ov.None k p)) refl)
-      (by-matrix In t (λ c r k. bounded-in base i _ (value (Ti.ValuePointer (Ov.Some r) k p)) refl)
+      (by-vector In t (λ z k. bounded-in base i _ (value (Ti.ValuePointer Ov.None k p)) (value-pointer-in Ov.None k p))
+      (by-matrix In t (λ c r k. bounded-in base i _ (value (Ti.ValuePointer (Ov.Some r) k p)) (value-pointer-in (Ov.Some r) k p))
       (by-struct In t (member-pointer base i p (getElem? members i) (each-at _ members i all))
       (by-binding-array s In t w (λ b h. pointer-in b p h)
       (no-type _)))))
@@ -134,10 +150,10 @@ module _ (s : Starts) where
   -- SPLAT, SWIZZLE
 
   splat-of : (z : VectorSize) (n : RowNumber) (t : TypeInner) → In (splatOf z n t)
-  splat-of z n t = by-scalar In t (λ k. refl) (no-type _)
+  splat-of z n t = by-scalar In t (λ k. vector-in z k) (no-type _)
 
   swizzle-of : (z : VectorSize) (n : RowNumber) (t : TypeInner) → In (swizzleOf z n t)
-  swizzle-of z n t = by-vector In t (λ y k. refl) (no-type _)
+  swizzle-of z n t = by-vector In t (λ y k. vector-in z k) (no-type _)
 
   -- ARGUMENTS, VARIABLES, LOAD
 
@@ -158,11 +174,11 @@ module _ (s : Starts) where
   variable-in t Sp.IncomingRayPayload h = pointer-in t Sp.IncomingRayPayload h
 
   pointee-in : (k : Scalar) (z : OptionVectorSize) → In (given (value (pointee k z)))
-  pointee-in k Ov.None = refl
-  pointee-in k (Ov.Some z) = refl
+  pointee-in k Ov.None = scalar-in k
+  pointee-in k (Ov.Some z) = vector-in z k
 
   load-through : (base : TypeNumber) (t : TypeInner) → isType s base ≡ true → In (loadThrough base t)
-  load-through base t h = by-atomic In t (λ k. refl) h
+  load-through base t h = by-atomic In t (λ k. scalar-in k) h
 
   load-into : (pointer : RowNumber) (t : TypeInner) → In (loadInto pointer t)
   load-into pointer t = by-value-pointer In t (λ z k p. pointee-in k z) (no-type _)
@@ -170,19 +186,19 @@ module _ (s : Starts) where
   -- IMAGES
 
   gathered-of : (image : RowNumber) (t : TypeInner) → In (gatheredOf image t)
-  gathered-of image t = by-image In t (λ d c. refl) (no-type _)
+  gathered-of image t = by-image In t (λ d c. vector-in Vs.Quad (gatheredScalar c)) (no-type _)
 
   sampled-of : (image : RowNumber) (c : ImageClass) → In (sampledOf image c)
-  sampled-of image (Ic.Depth m) = refl
-  sampled-of image (Ic.Sampled k m) = refl
-  sampled-of image Ic.External = refl
+  sampled-of image (Ic.Depth m) = scalar-in F32
+  sampled-of image (Ic.Sampled k m) = vector-in Vs.Quad (sampledScalar k)
+  sampled-of image Ic.External = vector-in Vs.Quad F32
   sampled-of image (Ic.Storage f a) = no-type _
 
   size-of : (d : ImageDimension) → In (given (value (sizeOf d)))
-  size-of Id.D1 = refl
-  size-of Id.D2 = refl
-  size-of Id.Cube = refl
-  size-of Id.D3 = refl
+  size-of Id.D1 = scalar-in U32
+  size-of Id.D2 = vector-in Vs.Bi U32
+  size-of Id.Cube = vector-in Vs.Bi U32
+  size-of Id.D3 = vector-in Vs.Tri U32
 
   image-size-of : (image : RowNumber) (t : TypeInner) → In (imageSizeOf image t)
   image-size-of image t = by-image In t (λ d c. size-of d) (no-type _)
@@ -194,20 +210,20 @@ module _ (s : Starts) where
 
   product-in : (a b : TypeAnswer) (x y : TypeInner) → TypeInRange s a → TypeInRange s b → In (product a b x y)
   product-in a b x y g h =
-      by-matrix In x (λ c r k. by-matrix In y (λ d q j. refl) (by-vector In y (λ z j. refl) (times-scalar a y g)))
-      (by-vector In x (λ z k. by-matrix In y (λ d q j. refl) (by-vector In y (λ z j. g) (times-scalar a y g)))
+      by-matrix In x (λ c r k. by-matrix In y (λ d q j. matrix-in d r k) (by-vector In y (λ z j. vector-in r k) (times-scalar a y g)))
+      (by-vector In x (λ z k. by-matrix In y (λ d q j. vector-in d j) (by-vector In y (λ z j. g) (times-scalar a y g)))
       (by-scalar In x (λ k. h)
-      (by-cooperative-matrix In x (λ c r k o. by-cooperative-matrix In y (λ d q j w. refl) (times-scalar a y g))
+      (by-cooperative-matrix In x (λ c r k o. by-cooperative-matrix In y (λ d q j w. cooperative-in d r k o) (times-scalar a y g))
       (times-scalar a y g))))
 
   bools-of : (t : TypeInner) → In (boolsOf t)
-  bools-of t = by-scalar In t (λ k. refl) (by-vector In t (λ z k. refl) (no-type _))
+  bools-of t = by-scalar In t (λ k. scalar-in BOOL) (by-vector In t (λ z k. vector-in z BOOL) (no-type _))
 
   logical-of : (t : TypeInner) → In (logicalOf t)
-  logical-of t = by-scalar In t (λ k. by-test In (equalScalars k BOOL) (λ q. refl) (λ q. no-type _)) (no-type _)
+  logical-of t = by-scalar In t (λ k. by-test In (equalScalars k BOOL) (λ q. scalar-in BOOL) (λ q. no-type _)) (no-type _)
 
   cast-of : (to : ScalarKind) (convert : OptionBytes) (t : TypeInner) → In (castOf to convert t)
-  cast-of to convert t = by-scalar In t (λ k. refl) (by-vector In t (λ z k. refl) (by-matrix In t (λ c r k. refl) (no-type _)))
+  cast-of to convert t = by-scalar In t (λ k. scalar-in k) (by-vector In t (λ z k. vector-in z k) (by-matrix In t (λ c r k. matrix-in c r k) (no-type _)))
 
   -- RESULTS
 
@@ -220,7 +236,7 @@ module _ (s : Starts) where
   special-in none h = no-type _
 
   cooperative-of : (c r : CooperativeSize) (o : CooperativeRole) (pointer : RowNumber) (k : Option Scalar) → In (cooperativeOf c r o pointer k)
-  cooperative-of c r o pointer (some k) = refl
+  cooperative-of c r o pointer (some k) = cooperative-in c r k o
   cooperative-of c r o pointer none = no-type _
 
 module _ (fr : List ℕ) (good : Good fr) (here : RowNumber) where
@@ -266,9 +282,9 @@ module _ (fr : List ℕ) (good : Good fr) (here : RowNumber) where
 
   query-keeps : (n : RowNumber) (q : ImageQuery) → queryNames here n q ≡ true → Keeps (imageQuery here n q)
   query-keeps n Iq.Size h = type-keeps n _ (ltb-true _ _ h) (image-size-of (startsOf fr) n)
-  query-keeps n Iq.NumLevels h = ends refl
-  query-keeps n Iq.NumLayers h = ends refl
-  query-keeps n Iq.NumSamples h = ends refl
+  query-keeps n Iq.NumLevels h = ends (scalar-in (startsOf fr) U32)
+  query-keeps n Iq.NumLayers h = ends (scalar-in (startsOf fr) U32)
+  query-keeps n Iq.NumSamples h = ends (scalar-in (startsOf fr) U32)
 
   multiply-keeps : (l r : RowNumber) → l .0 < here .0 → r .0 < here .0 → Keeps (multiply here l r)
   multiply-keeps l r g h =
@@ -295,14 +311,14 @@ module _ (fr : List ℕ) (good : Good fr) (here : RowNumber) where
   binary-keeps Bo.ShiftRight l r g h = same-keeps l g
 
   relational-keeps : (f : RelationalFunction) (n : RowNumber) → relationalNames here f n ≡ true → Keeps (relational here f n)
-  relational-keeps Rf.All n h = ends refl
-  relational-keeps Rf.Any n h = ends refl
+  relational-keeps Rf.All n h = ends (scalar-in (startsOf fr) BOOL)
+  relational-keeps Rf.Any n h = ends (scalar-in (startsOf fr) BOOL)
   relational-keeps Rf.IsNan n h = type-keeps n _ (ltb-true _ _ h) (bools-of (startsOf fr))
   relational-keeps Rf.IsInf n h = type-keeps n _ (ltb-true _ _ h) (bools-of (startsOf fr))
 
   -- the rule of what a row shows
   resolve-keeps : (x : Shown) → ShownInRange (startsOf fr) here x → Keeps (resolve here x)
-  resolve-keeps (Row.literal l) h = ends refl
+  resolve-keeps (Row.literal l) h = ends (scalar-in (startsOf fr) (literalScalar l))
   resolve-keeps (Row.constant t) h = ends h
   resolve-keeps (Row.override t) h = ends h
   resolve-keeps (Row.zeroValue t) h = ends h
@@ -330,11 +346,11 @@ module _ (fr : List ℕ) (good : Good fr) (here : RowNumber) where
   resolve-keeps (Row.callResult r) h = ends (result-of (startsOf fr) r h)
   resolve-keeps (Row.atomicResult t) h = ends h
   resolve-keeps (Row.workGroupUniformLoadResult t) h = ends h
-  resolve-keeps Row.arrayLength h = ends refl
+  resolve-keeps Row.arrayLength h = ends (scalar-in (startsOf fr) U32)
   resolve-keeps (Row.rayQueryVertexPositions t) h = ends (special-in (startsOf fr) t h)
-  resolve-keeps Row.rayQueryProceedResult h = ends refl
+  resolve-keeps Row.rayQueryProceedResult h = ends (scalar-in (startsOf fr) BOOL)
   resolve-keeps (Row.rayQueryGetIntersection t) h = ends (special-in (startsOf fr) t h)
-  resolve-keeps Row.subgroupBallotResult h = ends refl
+  resolve-keeps Row.subgroupBallotResult h = ends (vector-in (startsOf fr) Vs.Quad U32)
   resolve-keeps (Row.subgroupOperationResult t) h = ends h
   resolve-keeps (Row.cooperativeLoad c r o n) h =
       base-keeps n _ _ h (λ b p x w j. cooperative-of (startsOf fr) c r o n (scalarOf (x .inner))) (λ x j. cooperative-of (startsOf fr) c r o n (pointeeScalar (x .inner)))

@@ -213,5 +213,5 @@ module _ (fr : List ℕ) (good : Good fr) where
   -- what a type in range shows is in range
   pub form-seen : (a : TypeAnswer) → TypeInRange (startsOf fr) a → IfSome (FormInRange (startsOf fr)) (see fr (form a))
   form-seen (number n) here = form-shows n here (typeIn fr (startsOf fr) n) (type-named fr good n here)
-  form-seen (value t) e = rw (value-shows fr t e) (record { base = value-base (startsOf fr) t e; members = tt })
+  form-seen (value t) h = rw (value-shows fr t (h .0)) (record { base = value-base (startsOf fr) t (h .0); members = tt })
   form-seen (malformed f) e = absurd e
