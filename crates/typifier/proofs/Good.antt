@@ -5,15 +5,17 @@ use native.Mathlib.Omega.{arith}
 use mathlib.Core.Path.{_≡_, refl, sym, ap, _∙_}
 use mathlib.Core.Bool.{Bool, true, false, cond, not, _&&_, _||_}
 use mathlib.Core.List.{List}
+use mathlib.Core.Logic.{_↔_}
 use lib.Dec.{leb, ltb, eqb}
 use borrow.Author.Tests.{eqb-true, eqb-false, ltb-true, leb-true}
 use Rattle.scan.proofs.Laws.{and-first, and-second}
 use Rattle.frames.specs.declared.Frame.{Frame}
 use Rattle.frames.specs.Bytes.{byte, frameAt, frameCount}
 use Rattle.archive.specs.Order.{rankOf, isKnown, orderOk}
-use Rattle.archive.specs.Checks.{fieldOk, indexOk}
+use Rattle.answers.specs.declared.Outcome.the-variants.{Accepted}
+use Rattle.archive.specs.Checks.{fieldOk, indexOk, checkFrames}
 use Rattle.archive.specs.Starts.{start}
-use Rattle.archive.proofs.Checked.{Holds}
+use Rattle.archive.proofs.Checked.{Holds, accepted-when}
 use Rattle.archive.proofs.Ranks.{begins}
 use Rattle.archive.proofs.Files.{from-start}
 
@@ -22,6 +24,13 @@ pub record Good (fr : List ℕ) : Type 0 where
   pub order : Holds orderOk fr
   pub fields : Holds fieldOk fr
   pub index : Holds indexOk fr
+
+-- exactly these are what checks 4 to 6 accept
+pub good-when : (fr : List ℕ) → frameCount fr ≤ 1024 → (checkFrames fr ≡ Accepted (frameCount fr)) ↔ Good fr
+good-when fr few = (
+  λ e. let a = accepted-when fr few (frameCount fr) .0 e in record { order = a .1; fields = a .2; index = a .3 },
+  λ good. accepted-when fr few (frameCount fr) .1 (refl, good .order, good .fields, good .index),
+)
 
 -- frame k of a file is there, and is of a family
 pub record OfFamily (fr : List ℕ) (family k : ℕ) : Type 0 where

@@ -171,7 +171,7 @@ module _ (fr : List ℕ) (good : Good fr) where
     row-there Rk.CooperativeMultiplyAdd e h = ltb-true _ _ h
 
   -- row n is frame n of the rows
-  row-frame : (n : RowNumber) → isRow (startsOf fr) n ≡ true → OfFamily fr 4 (startsOf fr .rows + n .0)
+  pub row-frame : (n : RowNumber) → isRow (startsOf fr) n ≡ true → OfFamily fr 4 (startsOf fr .rows + n .0)
   unfolding startsOf
   row-frame n here = let l : n .0 < startsOf fr .components - startsOf fr .rows = ltb-true _ _ here in row-at fr good _ (omega arith) (omega arith)
 
