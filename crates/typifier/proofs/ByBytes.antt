@@ -2,7 +2,7 @@
 -- kind of each frame that is named. The ranges are what check 6 has of the row. Assumes nothing.
 use Prim.Native.Nat.{ℕ, _+_, _-_, _≤_, _<_}
 use native.Mathlib.Omega.{arith}
-use mathlib.Core.Path.{_≡_, refl, sym, ap, _∙_, subst}
+use mathlib.Core.Path.{_≡_, sym, ap, _∙_, subst}
 use mathlib.Core.Bool.{true}
 use mathlib.Core.List.{List}
 use mathlib.Core.Option.{none, some}
@@ -22,7 +22,7 @@ use Rattle.archive.specs.Names.{isType, isRow, rowFormNames}
 use Rattle.archive.specs.Access.{typeIn, rowIn}
 use Rattle.archive.proofs.Files.{row-names}
 use Rattle.rule.specs.Answers.{number}
-use Rattle.rule.specs.Things.{listed, Shown, constant, override, compose, functionArgument, globalVariable, localVariable, callResult, rayQueryVertexPositions, rayQueryGetIntersection, Form, kind, form, see}
+use Rattle.rule.specs.Things.{listed, Shown, constant, override, compose, functionArgument, globalVariable, localVariable, callResult, rayQueryVertexPositions, rayQueryGetIntersection, kind, form, see}
 use Rattle.rule.proofs.Named.{constant-named, override-named, global-named, local-named, function-named, argument-named, no-argument, intersection-named, no-intersection}
 use Rattle.rule.proofs.Named.{vertex-return-named, no-vertex-return, components-named, members-named}
 use Rattle.typifier.proofs.Good.{Good, IsItem}

@@ -4,22 +4,18 @@ use Prim.Native.Nat.{ℕ, _+_, _-_, _≤_, _<_}
 use native.Mathlib.Decide.{decLt}
 use native.Mathlib.Omega.{arith}
 use mathlib.Core.Path.{_≡_, refl, sym, ap, _∙_, subst}
-use mathlib.Core.Bool.{Bool, true, false, cond, _&&_}
+use mathlib.Core.Bool.{Bool, true, cond, _&&_}
 use mathlib.Core.List.{List}
 use mathlib.Core.Logic.{inr}
-use lib.Dec.{leb, ltb, eqb}
-use borrow.Author.Tests.{eq-eqb, ltb-true, lt-ltb, leb-true}
+use lib.Dec.{ltb}
+use borrow.Author.Tests.{eq-eqb, ltb-true, leb-true}
 use Rattle.scan.proofs.Laws.{and-first, and-second}
 use Rattle.ir.specs.declared.TypeNumber.{TypeNumber}
 use Rattle.ir.specs.declared.RowNumber.{RowNumber}
 use Rattle.ir.specs.declared.TypeKind.{TypeKind}
 use Rattle.ir.specs.declared.TypeKind.the-variants as Tk
-use Rattle.ir.specs.declared.TypeForm.{TypeForm}
-use Rattle.ir.specs.declared.TypeForm.the-variants as Tf
 use Rattle.ir.specs.declared.RowKind.{RowKind}
 use Rattle.ir.specs.declared.RowKind.the-variants as Rk
-use Rattle.ir.specs.declared.RowForm.{RowForm}
-use Rattle.ir.specs.declared.RowForm.the-variants as Ro
 use Rattle.ir.specs.Numbers.{typeKindOf, typeKindNumber, rowKindOf, rowKindNumber}
 use Rattle.ir.proofs.Numbered.{typeKind-number, rowKind-number, unknown-type, unknown-row}
 use Rattle.frames.specs.declared.Frame.{Frame}
@@ -28,10 +24,9 @@ use Rattle.frames.specs.Forms.{typeAs, typeOf, rowAs, rowOf, memberOf, componen
 use Rattle.archive.specs.declared.Starts.{Starts}
 use Rattle.archive.specs.declared.Held.{Held}
 use Rattle.archive.specs.Starts.{start, startsOf}
-use Rattle.archive.specs.Names.{isType, isRow, typeFormNames, rowFormNames, queryNames, relationalNames}
-use Rattle.archive.specs.Parts.{isStruct, isCompose, heldBy, membersOf, componentsOf, partNumber}
+use Rattle.archive.specs.Names.{isType, isRow, typeFormNames, rowFormNames}
+use Rattle.archive.specs.Parts.{isCompose, heldBy, membersOf, componentsOf, partNumber}
 use Rattle.archive.specs.Access.{typeIn, rowIn}
-use Rattle.archive.proofs.Ranks.{begins}
 use Rattle.archive.proofs.Files.{type-names, row-names, part-early}
 use Rattle.typifier.proofs.Good.{Good, OfFamily, IsItem, type-at, member-at, item-at, last-item-at, row-at, component-at}
 use Rattle.typifier.proofs.There.{IsMember, IsComponent, TypeThere, RowThere}

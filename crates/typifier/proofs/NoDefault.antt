@@ -17,9 +17,9 @@ use Rattle.ir.specs.declared.RelationalFunction.{RelationalFunction}
 use Rattle.ir.specs.declared.RelationalFunction.the-variants as Rf
 use Rattle.archive.specs.Starts.{startsOf, rowCount}
 use Rattle.archive.specs.Names.{isRow, queryNames, relationalNames}
-use Rattle.rule.specs.Answers.{Typed, Place, Result, told, newer}
+use Rattle.rule.specs.Answers.{Typed, Result, told, newer}
 use Rattle.rule.specs.Things as Row
-use Rattle.rule.specs.Things.{Shown, Thing, Seen, kind, see}
+use Rattle.rule.specs.Things.{Shown, Seen, kind, see}
 use Rattle.rule.specs.Rule.{Rule, come, past, Step, step, Reading, Readings, run, follow, placed}
 use Rattle.rule.specs.Claim.{absent, among, amongReadings, answers, readings}
 use Rattle.typifier.specs.Reads.{reads, sampleReads, queryReads, binaryReads, relationalReads}
@@ -27,7 +27,8 @@ use Rattle.typifier.specs.Typed.{typing}
 use Rattle.typifier.proofs.Good.{Good}
 use Rattle.typifier.proofs.Ranged as Ranged
 use Rattle.typifier.proofs.Ranged.{TypedInRange, StepInRange, Each, IfSome, Within, ends, comes}
-use Rattle.typifier.proofs.Seen.{ShownInRange, each-append, row-seen}
+use Rattle.typifier.proofs.There.{ShownInRange}
+use Rattle.typifier.proofs.Seen.{each-append, row-seen}
 use Rattle.typifier.proofs.Rules.{rule-keeps}
 use Rattle.typifier.proofs.InOrder.{in-order-all, in-order-there}
 use Rattle.typifier.proofs.Range.{place-later, row-there}

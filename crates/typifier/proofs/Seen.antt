@@ -3,9 +3,8 @@
 use Prim.Native.Nat.{ℕ, zero, suc, _+_, _-_, _<_}
 use native.Mathlib.Omega.{arith}
 use mathlib.Core.Path.{_≡_, refl, sym, ap, _∙_}
-use mathlib.Core.Bool.{Bool, true, false, cond}
+use mathlib.Core.Bool.{Bool, true, false}
 use mathlib.Core.List.{List, [], _∷_, _++_}
-use mathlib.Core.Option.{Option, none, some}
 use lib.Dec.{ltb}
 use lib.ListN.{getElem?}
 use borrow.Author.Tests.{ltb-true, lt-ltb}
@@ -26,17 +25,15 @@ use Rattle.frames.specs.Bytes.{frameAt}
 use Rattle.frames.specs.Forms.{itemAs, itemOf}
 use Rattle.archive.specs.declared.Starts.{Starts}
 use Rattle.archive.specs.Starts.{startsOf, typeCount}
-use Rattle.archive.specs.Names.{isType, isRow, sizeNames, itemNames, resultNames, queryNames, relationalNames}
+use Rattle.archive.specs.Names.{isType, isRow, sizeNames, itemNames, resultNames}
 use Rattle.archive.specs.Access.{typeIn, rowIn}
-use Rattle.archive.proofs.Files.{item-names, member-names}
-use Rattle.rule.specs.declared.Fault.{Fault}
+use Rattle.archive.proofs.Files.{item-names}
 use Rattle.rule.specs.declared.Fault.the-variants as Fa
 use Rattle.rule.specs.Answers.{TypeAnswer, number, value, malformed}
-use Rattle.rule.specs.Things as Row
-use Rattle.rule.specs.Things.{listed, itemType, itemResult, maybeItem, Shown, shown, Form, kind, form, isCount, inRange, arrayFault, valueFault, seeForm, seeRow, see}
+use Rattle.rule.specs.Things.{listed, itemType, itemResult, maybeItem, shown, kind, form, isCount, inRange, arrayFault, valueFault, seeForm, seeRow, see}
 use Rattle.rule.proofs.Shows.{value-shows}
 use Rattle.typifier.proofs.Good.{Good, IsItem}
-use Rattle.typifier.proofs.There.{TypeThere, RowThere, InnerThere, ExpressionThere}
+use Rattle.typifier.proofs.There.{TypeThere, RowThere, InnerThere, ExpressionThere, ShownInRange}
 use Rattle.typifier.proofs.Ranged.{Each, IfSome, TypeInRange, BaseInRange, FormInRange}
 use Rattle.typifier.proofs.Named.{type-named, row-named}
 
@@ -60,42 +57,6 @@ module _ {A : Type 0} (P : A → Type 0) where
   each-at [] i a = tt
   each-at (x ∷ l) zero a = a .0
   each-at (x ∷ l) (suc i) a = each-at l i (a .1)
-
--- WHAT A ROW SHOWS is in range: its types are types of the file, the rows that it reads are earlier than row n, and so are its components
-abbrev pub ShownInRange : Starts → RowNumber → Shown → Type 0
-ShownInRange s n (Row.literal l) = Unit {0}
-ShownInRange s n (Row.constant t) = isType s t ≡ true
-ShownInRange s n (Row.override t) = isType s t ≡ true
-ShownInRange s n (Row.zeroValue t) = isType s t ≡ true
-ShownInRange s n (Row.compose t parts) = (isType s t ≡ true) × Each (λ (r : RowNumber). r .0 < n .0) parts
-ShownInRange s n (Row.access m) = m .0 < n .0
-ShownInRange s n (Row.accessIndex m i) = m .0 < n .0
-ShownInRange s n (Row.splat z m) = m .0 < n .0
-ShownInRange s n (Row.swizzle z m) = m .0 < n .0
-ShownInRange s n (Row.functionArgument i t) = IfSome (λ t. isType s t ≡ true) t
-ShownInRange s n (Row.globalVariable t p) = isType s t ≡ true
-ShownInRange s n (Row.localVariable t) = isType s t ≡ true
-ShownInRange s n (Row.load m) = m .0 < n .0
-ShownInRange s n (Row.imageSample m g) = m .0 < n .0
-ShownInRange s n (Row.imageLoad m) = m .0 < n .0
-ShownInRange s n (Row.imageQuery m q) = queryNames n m q ≡ true
-ShownInRange s n (Row.unary m) = m .0 < n .0
-ShownInRange s n (Row.binary o l r) = (l .0 < n .0) × (r .0 < n .0)
-ShownInRange s n (Row.select m) = m .0 < n .0
-ShownInRange s n (Row.derivative m) = m .0 < n .0
-ShownInRange s n (Row.relational f m) = relationalNames n f m ≡ true
-ShownInRange s n (Row.cast m k c) = m .0 < n .0
-ShownInRange s n (Row.callResult r) = resultNames s r ≡ true
-ShownInRange s n (Row.atomicResult t) = isType s t ≡ true
-ShownInRange s n (Row.workGroupUniformLoadResult t) = isType s t ≡ true
-ShownInRange s n Row.arrayLength = Unit {0}
-ShownInRange s n (Row.rayQueryVertexPositions t) = IfSome (λ t. isType s t ≡ true) t
-ShownInRange s n Row.rayQueryProceedResult = Unit {0}
-ShownInRange s n (Row.rayQueryGetIntersection t) = IfSome (λ t. isType s t ≡ true) t
-ShownInRange s n Row.subgroupBallotResult = Unit {0}
-ShownInRange s n (Row.subgroupOperationResult t) = isType s t ≡ true
-ShownInRange s n (Row.cooperativeLoad c r o m) = m .0 < n .0
-ShownInRange s n (Row.cooperativeMultiplyAdd m) = m .0 < n .0
 
 -- a value's base is a type of the file where a comparison gives it neither 5 nor 6
 range-sound : (b : Bool) → inRange b ≡ Fa.Sound → b ≡ true

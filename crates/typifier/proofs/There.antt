@@ -18,7 +18,7 @@ use Rattle.frames.specs.Bytes.{frameAt}
 use Rattle.frames.specs.Forms.{memberOf, componentOf}
 use Rattle.archive.specs.declared.Starts.{Starts}
 use Rattle.archive.specs.Starts.{startsOf}
-use Rattle.archive.specs.Names.{isType, sizeNames, queryNames, relationalNames}
+use Rattle.archive.specs.Names.{isType, sizeNames, resultNames, queryNames, relationalNames}
 use Rattle.rule.specs.Things as Row
 use Rattle.rule.specs.Things.{Shown}
 use Rattle.typifier.proofs.Good.{OfFamily, IsItem}
@@ -96,3 +96,39 @@ ExpressionThere fr n (Ex.CooperativeMultiplyAdd m) = m .0 < n .0
 abbrev pub RowThere : List ℕ → RowNumber → RowForm → Type 0
 RowThere fr n (Ro.Known e) = ExpressionThere fr n e
 RowThere fr n Ro.Unknown = Unit {0}
+
+-- WHAT A ROW SHOWS is in range: its types are types of the file, the rows that it reads are earlier than row n, and so are its components
+abbrev pub ShownInRange : Starts → RowNumber → Shown → Type 0
+ShownInRange s n (Row.literal l) = Unit {0}
+ShownInRange s n (Row.constant t) = isType s t ≡ true
+ShownInRange s n (Row.override t) = isType s t ≡ true
+ShownInRange s n (Row.zeroValue t) = isType s t ≡ true
+ShownInRange s n (Row.compose t parts) = (isType s t ≡ true) × Each (λ (r : RowNumber). r .0 < n .0) parts
+ShownInRange s n (Row.access m) = m .0 < n .0
+ShownInRange s n (Row.accessIndex m i) = m .0 < n .0
+ShownInRange s n (Row.splat z m) = m .0 < n .0
+ShownInRange s n (Row.swizzle z m) = m .0 < n .0
+ShownInRange s n (Row.functionArgument i t) = IfSome (λ t. isType s t ≡ true) t
+ShownInRange s n (Row.globalVariable t p) = isType s t ≡ true
+ShownInRange s n (Row.localVariable t) = isType s t ≡ true
+ShownInRange s n (Row.load m) = m .0 < n .0
+ShownInRange s n (Row.imageSample m g) = m .0 < n .0
+ShownInRange s n (Row.imageLoad m) = m .0 < n .0
+ShownInRange s n (Row.imageQuery m q) = queryNames n m q ≡ true
+ShownInRange s n (Row.unary m) = m .0 < n .0
+ShownInRange s n (Row.binary o l r) = (l .0 < n .0) × (r .0 < n .0)
+ShownInRange s n (Row.select m) = m .0 < n .0
+ShownInRange s n (Row.derivative m) = m .0 < n .0
+ShownInRange s n (Row.relational f m) = relationalNames n f m ≡ true
+ShownInRange s n (Row.cast m k c) = m .0 < n .0
+ShownInRange s n (Row.callResult r) = resultNames s r ≡ true
+ShownInRange s n (Row.atomicResult t) = isType s t ≡ true
+ShownInRange s n (Row.workGroupUniformLoadResult t) = isType s t ≡ true
+ShownInRange s n Row.arrayLength = Unit {0}
+ShownInRange s n (Row.rayQueryVertexPositions t) = IfSome (λ t. isType s t ≡ true) t
+ShownInRange s n Row.rayQueryProceedResult = Unit {0}
+ShownInRange s n (Row.rayQueryGetIntersection t) = IfSome (λ t. isType s t ≡ true) t
+ShownInRange s n Row.subgroupBallotResult = Unit {0}
+ShownInRange s n (Row.subgroupOperationResult t) = isType s t ≡ true
+ShownInRange s n (Row.cooperativeLoad c r o m) = m .0 < n .0
+ShownInRange s n (Row.cooperativeMultiplyAdd m) = m .0 < n .0
