@@ -94,11 +94,11 @@ module _ (fr : List ℕ) (good : Good fr) where
       let q = from-start fr (good .order) 512 k w .0 l in
       record { within = w; family-is = by-rank _ (frameAt fr k) (known-at k w) (λ i. absurd (omega arith)) (λ o. omega arith) }
 
-  -- the items of kind j stand before those of the next rank, which is the rows' after the last kind
-  pub item-at : (j next k : ℕ) → 769 ≤ 768 + j → (next ≡ 769 + j) → start fr (768 + j) ≤ k → k < start fr next → next ≤ 776 → IsItem fr j k
-  item-at j next k a e l h b =
-      let w : k < frameCount fr = omega (arith, begins fr next .within) in
-      let r = begins fr next .lower k h in
+  -- the items of kind j stand before those of the next kind, and those of the last kind before the rows
+  pub item-at : (j k : ℕ) → 1 ≤ j → j ≤ 7 → start fr (768 + j) ≤ k → k < start fr (769 + j) → IsItem fr j k
+  item-at j k a b l h =
+      let w : k < frameCount fr = omega (arith, begins fr (769 + j) .within) in
+      let r = begins fr (769 + j) .lower k h in
       let q = from-start fr (good .order) (768 + j) k w .0 l in
       record {
         within = w;

@@ -125,7 +125,7 @@ module _ (fr : List ℕ) (good : Good fr) where
 
     -- item i of kind j, whose family begins at its own start and ends at the next one
     item-there : (j i : ℕ) → 1 ≤ j → j ≤ 7 → i < start fr (769 + j) - start fr (768 + j) → IsItem fr j (start fr (768 + j) + i)
-    item-there j i a b l = item-at fr good j (769 + j) _ (omega arith) refl (omega arith) (omega arith) (omega arith)
+    item-there j i a b l = item-at fr good j _ a b (omega arith) (omega arith)
 
     row-there : (k : RowKind) → rowKindOf (byte of-row 1) ≡ k → rowFormNames (startsOf fr) n (rowAs k of-row) ≡ true → RowThere fr n (rowAs k of-row)
     unfolding startsOf

@@ -21,7 +21,7 @@ use Rattle.rule.specs.Answers.{Typed, Result, told, newer}
 use Rattle.rule.specs.Things as Row
 use Rattle.rule.specs.Things.{Shown, Seen, kind, see}
 use Rattle.rule.specs.Rule.{Rule, come, past, Step, step, Reading, Readings, run, follow, placed}
-use Rattle.rule.specs.Claim.{absent, among, amongReadings, answers, readings}
+use Rattle.rule.specs.Claim.{absent, among, amongReadings, answers, readings, reading}
 use Rattle.typifier.specs.Reads.{reads, sampleReads, queryReads, binaryReads, relationalReads}
 use Rattle.typifier.specs.Typed.{typing}
 use Rattle.typifier.proofs.Good.{Good}
@@ -80,6 +80,13 @@ pub no-default : (fr : List ℕ) → Good fr → (n : ℕ) → n ≤ rowCount (s
 no-default fr good =
     in-order-all (ReadingInRange fr) (λ earlier m. follow (see fr) (amongReadings earlier) (typing m)) (record { steps = []; end = some absent }) (rowCount (startsOf fr))
     (λ n l w all. follows fr n (amongReadings l) (λ r q. reading-later fr (r .0) n (omega arith) (amongReadings l r) (all (r .0) q)) (rule-keeps fr good n (row-there fr n w)))
+
+-- and so of the reading that the claim on later readers speaks of
+pub reading-in-range : (fr : List ℕ) → Good fr → (n : ℕ) → n < rowCount (startsOf fr) → Each (StepInRange fr n) (reading (see fr) typing n (typing n))
+reading-in-range fr good n w =
+    let earlier = readings (see fr) typing n in
+    follows fr n (amongReadings earlier) (λ r q. reading-later fr (r .0) n (omega arith) (amongReadings earlier r) (no-default fr good n (omega arith) (r .0) q))
+    (rule-keeps fr good n (row-there fr n w)) .steps
 
 -- OPERANDS
 
