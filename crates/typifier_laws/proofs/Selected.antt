@@ -15,8 +15,8 @@ use Rattle.ir.specs.declared.TypeInner.the-variants as Ti
 use Rattle.archive.specs.declared.Starts.{Starts}
 use Rattle.archive.specs.Names.{isType}
 use Rattle.type_methods.specs.Canonical.{ifPointer}
 use Rattle.typifier.specs.Selectors.{ifScalar, ifVector, ifMatrix, ifCooperativeMatrix, ifAtomic, ifValuePointer, ifArray, ifStruct, ifImage, ifBindingArray}
-use Rattle.typifier.proofs.Ranged.{BaseInRange}
+use Rattle.typifier_laws.proofs.Ranged.{BaseInRange}
 
 module _ {X : Type 0} (P : X → Type 0) where
   pub by-scalar : (t : TypeInner) {f : Scalar → X} {rest : X} → ((k : Scalar) → P (f k)) → P rest → P (ifScalar t f rest)

@@ -25,18 +25,18 @@ use Rattle.rule.specs.Answers.{TypeAnswer, number, Typed, given, refused, chose
 use Rattle.rule.specs.Things as Row
 use Rattle.rule.specs.Things.{Shown, Form, kind, form, texels}
 use Rattle.rule.specs.Rule.{Rule}
 use Rattle.typifier.specs.Steps.{passOn, operand, look, sameAs, byType, byBase}
 use Rattle.typifier.specs.Variables.{literalScalar}
 use Rattle.typifier.specs.Images.{sampled, imageSample, imageQuery}
 use Rattle.typifier.specs.Operators.{multiply, binary, relational}
 use Rattle.typifier.specs.Results.{scalarOf, pointeeScalar}
 use Rattle.typifier.specs.Typed.{resolve, typing}
-use Rattle.typifier.proofs.Good.{Good}
-use Rattle.typifier.proofs.Ranged.{TypeInRange, TypedInRange, FormInRange, Within, ends, comes, reads, refusal-number}
-use Rattle.typifier.proofs.Selected.{by-image, by-pointer}
-use Rattle.typifier.proofs.There.{ShownInRange}
-use Rattle.typifier.proofs.Made.{pointer-in, scalar-in, vector-in, access-into, access-through, index-into, index-through, splat-of, swizzle-of, argument-in, variable-in, load-through, load-into, gathered-of, sampled-of, image-size-of, product-in, bools-of, logical-of, cast-of, result-of, special-in, cooperative-of}
-use Rattle.typifier.proofs.Seen.{row-seen, form-seen}
+use Rattle.typifier_laws.proofs.Good.{Good}
+use Rattle.typifier_laws.proofs.Ranged.{TypeInRange, TypedInRange, FormInRange, Within, ends, comes, reads, refusal-number}
+use Rattle.typifier_laws.proofs.Selected.{by-image, by-pointer}
+use Rattle.typifier_laws.proofs.There.{ShownInRange}
+use Rattle.typifier_laws.proofs.Made.{pointer-in, scalar-in, vector-in, access-into, access-through, index-into, index-through, splat-of, swizzle-of, argument-in, variable-in, load-through, load-into, gathered-of, sampled-of, image-size-of, product-in, bools-of, logical-of, cast-of, result-of, special-in, cooperative-of}
+use Rattle.typifier_laws.proofs.Seen.{row-seen, form-seen}
 
 module _ (fr : List ℕ) (good : Good fr) (here : RowNumber) where
   abbrev Keeps : Rule Typed → Type 0

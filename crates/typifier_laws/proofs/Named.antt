@@ -28,8 +28,8 @@ use Rattle.archive.specs.Names.{isType, isRow, typeFormNames, rowFormNames}
 use Rattle.archive.specs.Parts.{isCompose, heldBy, membersOf, componentsOf, partNumber}
 use Rattle.archive.specs.Access.{typeIn, rowIn}
 use Rattle.archive.proofs.Files.{type-names, row-names, part-early}
-use Rattle.typifier.proofs.Good.{Good, OfFamily, IsItem, type-at, member-at, item-at, last-item-at, row-at, component-at}
-use Rattle.typifier.proofs.There.{IsMember, IsComponent, TypeThere, RowThere}
+use Rattle.typifier_laws.proofs.Good.{Good, OfFamily, IsItem, type-at, member-at, item-at, last-item-at, row-at, component-at}
+use Rattle.typifier_laws.proofs.There.{IsMember, IsComponent, TypeThere, RowThere}
 
 never : {X : Type 0} → _≡_ {A = ℕ} 0 1 → X
 never z = absurd (omega arith)

@@ -21,8 +21,8 @@ use Rattle.archive.specs.Starts.{startsOf}
 use Rattle.archive.specs.Names.{isType, sizeNames, resultNames, queryNames, relationalNames}
 use Rattle.rule.specs.Things as Row
 use Rattle.rule.specs.Things.{Shown}
-use Rattle.typifier.proofs.Good.{OfFamily, IsItem}
-use Rattle.typifier.proofs.Ranged.{Each, IfSome}
+use Rattle.typifier_laws.proofs.Good.{OfFamily, IsItem}
+use Rattle.typifier_laws.proofs.Ranged.{Each, IfSome}
 
 -- frame k is a member, and its type is earlier than type n
 pub record IsMember (fr : List ℕ) (n : TypeNumber) (k : ℕ) : Type 0 where

@@ -25,9 +25,9 @@ use Rattle.rule.specs.Answers.{number}
 use Rattle.rule.specs.Things.{listed, Shown, constant, override, compose, functionArgument, globalVariable, localVariable, callResult, rayQueryVertexPositions, rayQueryGetIntersection, kind, form, see}
 use Rattle.rule.proofs.Named.{constant-named, override-named, global-named, local-named, function-named, argument-named, no-argument, intersection-named, no-intersection}
 use Rattle.rule.proofs.Named.{vertex-return-named, no-vertex-return, components-named, members-named}
-use Rattle.typifier.proofs.Good.{Good, IsItem}
-use Rattle.typifier.proofs.There.{IsMember, IsComponent, RowThere, TypeThere}
-use Rattle.typifier.proofs.Named.{row-frame, row-named, type-named}
+use Rattle.typifier_laws.proofs.Good.{Good, IsItem}
+use Rattle.typifier_laws.proofs.There.{IsMember, IsComponent, RowThere, TypeThere}
+use Rattle.typifier_laws.proofs.Named.{row-frame, row-named, type-named}
 
 -- the frame of row n
 abbrev pub rowFrame : List ℕ → RowNumber → Frame

@@ -17,11 +17,11 @@ use Rattle.rule.specs.Answers.{TypeAnswer, number, value, malformed, Typed, Pla
 use Rattle.rule.specs.Things.{Seen, inRange, faultOf, see}
 use Rattle.rule.specs.Rule.{Rule, come, past, Answers, run}
 use Rattle.rule.specs.Claim.{absent, among, answers, ours}
 use Rattle.typifier.specs.Typed.{typing}
-use Rattle.typifier.proofs.Good.{Good}
-use Rattle.typifier.proofs.Ranged.{TypeInRange, TypedInRange, PlaceInRange, InRange, Within, ends, comes, reads}
-use Rattle.typifier.proofs.InOrder.{in-order-all}
-use Rattle.typifier.proofs.Rules.{rule-keeps}
+use Rattle.typifier_laws.proofs.Good.{Good}
+use Rattle.typifier_laws.proofs.Ranged.{TypeInRange, TypedInRange, PlaceInRange, InRange, Within, ends, comes, reads}
+use Rattle.typifier_laws.proofs.InOrder.{in-order-all}
+use Rattle.typifier_laws.proofs.Rules.{rule-keeps}
 
 -- ONE RULE
 

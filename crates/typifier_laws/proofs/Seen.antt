@@ -32,10 +32,10 @@ use Rattle.rule.specs.declared.Fault.the-variants as Fa
 use Rattle.rule.specs.Answers.{TypeAnswer, number, value, malformed}
 use Rattle.rule.specs.Things.{listed, itemType, itemResult, maybeItem, shown, kind, form, isCount, inRange, arrayFault, valueFault, seeForm, seeRow, see}
 use Rattle.rule.proofs.Shows.{value-shows}
-use Rattle.typifier.proofs.Good.{Good, IsItem}
-use Rattle.typifier.proofs.There.{TypeThere, RowThere, InnerThere, ExpressionThere, ShownInRange}
-use Rattle.typifier.proofs.Ranged.{Each, IfSome, TypeInRange, BaseInRange, FormInRange}
-use Rattle.typifier.proofs.Named.{type-named, row-named}
+use Rattle.typifier_laws.proofs.Good.{Good, IsItem}
+use Rattle.typifier_laws.proofs.There.{TypeThere, RowThere, InnerThere, ExpressionThere, ShownInRange}
+use Rattle.typifier_laws.proofs.Ranged.{Each, IfSome, TypeInRange, BaseInRange, FormInRange}
+use Rattle.typifier_laws.proofs.Named.{type-named, row-named}
 
 never : {X : Type 0} → _≡_ {A = ℕ} 0 1 → X
 never z = absurd (omega arith)

@@ -22,16 +22,16 @@ use Rattle.rule.specs.Things as Row
 use Rattle.rule.specs.Things.{Shown, Seen, kind, see}
 use Rattle.rule.specs.Rule.{Rule, come, past, Step, step, Reading, Readings, run, follow, placed}
 use Rattle.rule.specs.Claim.{absent, among, amongReadings, answers, readings, reading}
 use Rattle.typifier.specs.Reads.{reads, sampleReads, queryReads, binaryReads, relationalReads}
 use Rattle.typifier.specs.Typed.{typing}
-use Rattle.typifier.proofs.Good.{Good}
-use Rattle.typifier.proofs.Ranged as Ranged
-use Rattle.typifier.proofs.Ranged.{TypedInRange, StepInRange, Each, IfSome, Within, ends, comes}
-use Rattle.typifier.proofs.There.{ShownInRange}
-use Rattle.typifier.proofs.Seen.{each-append, row-seen}
-use Rattle.typifier.proofs.Rules.{rule-keeps}
-use Rattle.typifier.proofs.InOrder.{in-order-all, in-order-there}
-use Rattle.typifier.proofs.Range.{place-later, row-there}
+use Rattle.typifier_laws.proofs.Good.{Good}
+use Rattle.typifier_laws.proofs.Ranged as Ranged
+use Rattle.typifier_laws.proofs.Ranged.{TypedInRange, StepInRange, Each, IfSome, Within, ends, comes}
+use Rattle.typifier_laws.proofs.There.{ShownInRange}
+use Rattle.typifier_laws.proofs.Seen.{each-append, row-seen}
+use Rattle.typifier_laws.proofs.Rules.{rule-keeps}
+use Rattle.typifier_laws.proofs.InOrder.{in-order-all, in-order-there}
+use Rattle.typifier_laws.proofs.Range.{place-later, row-there}
 
 -- READINGS
 

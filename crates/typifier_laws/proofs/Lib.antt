@@ -1,0 +1,12 @@
+pub mod Good
+pub mod Ranged
+pub mod Selected
+pub mod There
+pub mod Named
+pub mod Seen
+pub mod Made
+pub mod Rules
+pub mod InOrder
+pub mod Range
+pub mod NoDefault
+pub mod ByBytes
