@@ -1,15 +1,25 @@
 // Typed access to what a file holds, over its frames and where its families begin.
 use super::Starts;
+use frames::Frame;
 use frames::frame_at;
+use frames::frame_count;
 use ir::ArraySize;
+use ir::Item;
 use ir::ItemNumber;
+use ir::MemberNumber;
+use ir::RowForm;
+use ir::RowNumber;
+use ir::StructMember;
 use ir::TypeForm;
 use ir::TypeNumber;
+use rows::item_of;
+use rows::row_form;
 ghost use mathlib.Core.Path.{_≡_};
-ghost use Prim.Native.Nat.{_-_};
+ghost use Prim.Native.Nat.{_+_, _-_};
 ghost use lib.Dec.{ltb};
-ghost use Rattle.archive.specs.Names.{isType, sizeNames};
-ghost use Rattle.archive.specs.Access.{typeIn};
+ghost use Rattle.frames.specs.Bytes.{frameAt};
+ghost use Rattle.archive.specs.Names.{isType, isRow, sizeNames};
+ghost use Rattle.archive.specs.Access.{typeIn, memberIn, itemIn, rowIn};
 
 // a - b, and 0 where b is more.
 pub(crate) fn minus(a: usize, b: usize) -> usize
@@ -25,8 +35,15 @@ pub fn is_type(s: Starts, n: TypeNumber) -> bool
     (n.0 as usize) < s.members
 }
 
+// Whether there is a row of this number.
+pub fn is_row(s: Starts, n: RowNumber) -> bool
+    ensures { λ r. ⌜ r ≡ isRow s n ⌝ }
+{
+    (n.0 as usize) < minus(s.components, s.rows)
+}
+
 // An item of the frames from `first` up to `last`.
-pub(crate) fn is_item(first: usize, last: usize, n: ItemNumber) -> bool
+pub fn is_item(first: usize, last: usize, n: ItemNumber) -> bool
     ensures { λ r. ⌜ r ≡ ltb (n .0) (last - first) ⌝ }
 {
     (n.0 as usize) < minus(last, first)
@@ -52,5 +69,43 @@ pub fn type_at(frames: &[u8], s: Starts, n: TypeNumber) -> TypeForm
         f.type_form()
     } else {
         TypeForm::Unknown
+    }
+}
+
+// Frame i of those from `first` on; zeros where there is none.
+fn frame_after(frames: &[u8], first: usize, i: usize) -> Frame
+    ensures { λ r. ⌜ r ≡ frameAt (now (frames .entry)) (first + i) ⌝ }
+{
+    let count = frame_count(frames);
+    if i < minus(count, first) {
+        frame_at(frames, first + i)
+    } else {
+        frame_at(frames, count)
+    }
+}
+
+// Member i of the struct whose members begin at member `first`.
+pub fn member_at(frames: &[u8], s: Starts, first: MemberNumber, i: u32) -> StructMember
+    ensures { λ r. ⌜ r ≡ memberIn (now (frames .entry)) s first i ⌝ }
+{
+    let f = frame_after(frames, s.members, (first.0 as usize) + (i as usize));
+    f.member()
+}
+
+// Item n of those whose frames begin at `first`.
+pub fn item_at(frames: &[u8], first: usize, n: ItemNumber) -> Item
+    ensures { λ r. ⌜ r ≡ itemIn (now (frames .entry)) first n ⌝ }
+{
+    item_of(frame_after(frames, first, n.0 as usize))
+}
+
+// Row n; where there is none, a row of unknown kind.
+pub fn row_at(frames: &[u8], s: Starts, n: RowNumber) -> RowForm
+    ensures { λ r. ⌜ r ≡ rowIn (now (frames .entry)) s n ⌝ }
+{
+    if is_row(s, n) {
+        row_form(frame_after(frames, s.rows, n.0 as usize))
+    } else {
+        RowForm::Unknown
     }
 }

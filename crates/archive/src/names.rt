@@ -1,6 +1,7 @@
 // Number 6: what each frame names.
 use super::Starts;
 use super::access::is_item;
+use super::access::is_row;
 use super::access::is_type;
 use super::access::minus;
 use super::access::size_names;
@@ -28,13 +29,7 @@ ghost use lib.Dec.{leb, ltb};
 ghost use Rattle.scan.specs.Lowest.{lowest};
 ghost use Rattle.frames.specs.Bytes.{frameCount};
 ghost use Rattle.archive.specs.Starts.{startsOf};
-ghost use Rattle.archive.specs.Names.{isType, isRow, sizeNames, typeNames, typeFormNames, resultNames, itemNames, isEarlier, queryNames, relationalNames, rowNames, rowFormNames, namesOf, namesOk};
-
-fn is_row(s: Starts, n: RowNumber) -> bool
-    ensures { λ r. ⌜ r ≡ isRow s n ⌝ }
-{
-    (n.0 as usize) < minus(s.components, s.rows)
-}
+ghost use Rattle.archive.specs.Names.{isType, sizeNames, typeNames, typeFormNames, resultNames, itemNames, isEarlier, queryNames, relationalNames, rowNames, rowFormNames, namesOf, namesOk};
 
 // Row m is earlier than row n.
 fn is_earlier(n: RowNumber, m: RowNumber) -> bool
