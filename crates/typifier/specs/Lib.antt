@@ -6,6 +6,7 @@ pub mod Images
 pub mod Operators
 pub mod Results
 pub mod Typed
+pub mod Past
 pub mod Lines
 pub mod AccessCases
 pub mod Cases

@@ -6,16 +6,20 @@ use Rattle.ir.specs.declared.RowNumber.{RowNumber}
 use Rattle.ir.specs.declared.VectorSize.the-variants as Vs
 use Rattle.ir.specs.declared.CooperativeSize.{CooperativeSize}
 use Rattle.ir.specs.declared.CooperativeRole.{CooperativeRole}
-use Rattle.ir.specs.declared.Scalar.{Scalar}
+use Rattle.ir.specs.declared.OptionScalar.{OptionScalar}
+use Rattle.ir.specs.declared.OptionScalar.the-variants as Os
 use Rattle.ir.specs.declared.FunctionResult.{FunctionResult}
 use Rattle.ir.specs.declared.FunctionResult.the-variants as Fr
-use Rattle.ir.specs.declared.TypeInner.{TypeInner}
 use Rattle.ir.specs.declared.TypeInner.the-variants as Ti
+use Rattle.ir.specs.declared.TypeResolution.{TypeResolution}
+use Rattle.ir.specs.declared.TypeResolution.the-variants as Tr
+use Rattle.ir.specs.declared.OptionTypeResolution.{OptionTypeResolution}
+use Rattle.ir.specs.declared.OptionTypeResolution.the-variants as Ot
+use Rattle.ir.specs.TypeMethods.{scalarIn, pointerBase}
 use Rattle.ir.specs.Scalars.{U32, BOOL}
 use Rattle.answers.specs.declared.Refusal.the-variants.{InvalidPointer, FunctionReturnsVoid, MissingSpecialType}
 use Rattle.rule.specs.Answers.{number, value, Typed, given, refused}
 use Rattle.rule.specs.Rule.{Rule, done}
-use Rattle.typifier.specs.Selectors.{ifScalar, ifVector, ifMatrix, ifCooperativeMatrix, ifValuePointer}
 use Rattle.typifier.specs.Steps.{sameAs, byBase}
 
 -- ATOMICRESULT: the type that the row names. WGSL: "Atomic Built-in Functions".
@@ -68,29 +72,25 @@ subgroupBallotResult = done (given (value (Ti.Vector Vs.Quad U32)))
 
 -- COOPERATIVELOAD. The source decides.
 
--- the scalar of a scalar, vector, matrix or cooperative matrix: the source's TypeInner::scalar (type_methods.rs)
-abbrev pub scalarOf : TypeInner → Option Scalar
-scalarOf t =
-    ifScalar t (λ k. some k)
-    (ifVector t (λ z k. some k)
-    (ifMatrix t (λ c r k. some k)
-    (ifCooperativeMatrix t (λ c r k o. some k)
-    none)))
-
 -- the cooperative matrix of the scalar pointed at; without one number 15
-abbrev pub cooperativeOf : CooperativeSize → CooperativeSize → CooperativeRole → RowNumber → Option Scalar → Typed
-cooperativeOf columns rows role pointer (some k) = given (value (Ti.CooperativeMatrix columns rows k role))
-cooperativeOf columns rows role pointer none = refused (InvalidPointer pointer)
+abbrev pub cooperativeOf : CooperativeSize → CooperativeSize → CooperativeRole → RowNumber → OptionScalar → Typed
+cooperativeOf columns rows role pointer (Os.Some k) = given (value (Ti.CooperativeMatrix columns rows k role))
+cooperativeOf columns rows role pointer Os.None = refused (InvalidPointer pointer)
 
--- the scalar of what a value pointer points at; what is no pointer has none
-abbrev pub pointeeScalar : TypeInner → Option Scalar
-pointeeScalar t = ifValuePointer t (λ z k s. some k) none
+-- the scalar of what a value pointer points at; what is no pointer has none. No reading comes to a number: of a Pointer the base is looked into.
+abbrev pub valueScalar : TypeResolution → OptionScalar
+valueScalar (Tr.Value t) = scalarIn t
+valueScalar (Tr.Handle n) = Os.None
+
+abbrev pub baseScalar : OptionTypeResolution → OptionScalar
+baseScalar (Ot.Some t) = valueScalar t
+baseScalar Ot.None = Os.None
 
 -- reads the pointer, looks into its type and, of a Pointer, the type pointed at
 abbrev pub cooperativeLoad : RowNumber → CooperativeSize → CooperativeSize → CooperativeRole → RowNumber → Rule Typed
 cooperativeLoad here columns rows role pointer =
-    byBase here pointer (λ b s x. cooperativeOf columns rows role pointer (scalarOf (x .inner)))
-    (λ x. cooperativeOf columns rows role pointer (pointeeScalar (x .inner)))
+    byBase here pointer (λ b s x. cooperativeOf columns rows role pointer (scalarIn (x .inner)))
+    (λ x. cooperativeOf columns rows role pointer (baseScalar (pointerBase (x .inner))))
 
 -- COOPERATIVEMULTIPLYADD: the type of c. The source decides.
 abbrev pub cooperativeMultiplyAdd : RowNumber → Rule Typed

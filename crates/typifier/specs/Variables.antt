@@ -5,8 +5,6 @@ use mathlib.Core.List.{List}
 use mathlib.Core.Option.{Option, none, some}
 use Rattle.ir.specs.declared.TypeNumber.{TypeNumber}
 use Rattle.ir.specs.declared.RowNumber.{RowNumber}
-use Rattle.ir.specs.declared.OptionVectorSize.{OptionVectorSize}
-use Rattle.ir.specs.declared.OptionVectorSize.the-variants as Ov
 use Rattle.ir.specs.declared.Scalar.{Scalar}
 use Rattle.ir.specs.declared.AddressSpace.{AddressSpace}
 use Rattle.ir.specs.declared.AddressSpace.the-variants as Sp
@@ -14,11 +12,14 @@ use Rattle.ir.specs.declared.Literal.{Literal}
 use Rattle.ir.specs.declared.Literal.the-variants as Li
 use Rattle.ir.specs.declared.TypeInner.{TypeInner}
 use Rattle.ir.specs.declared.TypeInner.the-variants as Ti
+use Rattle.ir.specs.declared.OptionTypeResolution.{OptionTypeResolution}
+use Rattle.ir.specs.declared.OptionTypeResolution.the-variants as Ot
+use Rattle.ir.specs.TypeMethods.{pointerBase}
 use Rattle.ir.specs.Scalars.{I16, U16, I32, U32, F16, F32, F64, I64, U64, BOOL, ABSTRACT-INT, ABSTRACT-FLOAT}
 use Rattle.answers.specs.declared.Refusal.the-variants.{InvalidPointer, FunctionArgumentNotFound}
-use Rattle.rule.specs.Answers.{number, value, Typed, given, refused}
+use Rattle.rule.specs.Answers.{number, value, resolved, Typed, given, refused}
 use Rattle.rule.specs.Rule.{Rule, done}
-use Rattle.typifier.specs.Selectors.{ifAtomic, ifValuePointer}
+use Rattle.typifier.specs.Selectors.{ifAtomic}
 use Rattle.typifier.specs.Steps.{byBase}
 
 -- LITERAL. WGSL: "Literal Value Expressions".
@@ -93,18 +94,18 @@ localVariable t = done (given (value (Ti.Pointer t Sp.Function)))
 
 -- LOAD. WGSL: "Memory Views", the load rule, and "Atomic Built-in Functions", atomicLoad.
 
--- what a value pointer points at: a scalar, or a vector of it
-abbrev pub pointee : Scalar → OptionVectorSize → TypeInner
-pointee k Ov.None = Ti.Scalar k
-pointee k (Ov.Some z) = Ti.Vector z k
-
 -- through a Pointer: of an Atomic its scalar by value; another base gives its number
 abbrev pub loadThrough : TypeNumber → TypeInner → Typed
 loadThrough base t = ifAtomic t (λ k. given (value (Ti.Scalar k))) (given (number base))
 
+-- what a pointer points at, a value (ir/specs/TypeMethods.antt); what is no pointer is number 15
+abbrev pub loaded : RowNumber → OptionTypeResolution → Typed
+loaded pointer (Ot.Some t) = given (resolved t)
+loaded pointer Ot.None = refused (InvalidPointer pointer)
+
 -- through a value pointer what it points at; every other type is number 15
 abbrev pub loadInto : RowNumber → TypeInner → Typed
-loadInto pointer t = ifValuePointer t (λ z k s. given (value (pointee k z))) (refused (InvalidPointer pointer))
+loadInto pointer t = loaded pointer (pointerBase t)
 
 -- reads the pointer, looks into its type and, of a Pointer, the type pointed at
 abbrev pub load : RowNumber → RowNumber → Rule Typed

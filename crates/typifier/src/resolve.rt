@@ -1,0 +1,175 @@
+// ResolveContext::resolve: the rule of every row.
+use super::access::access;
+use super::access::access_index;
+use super::access::splat;
+use super::access::swizzle;
+use super::images::image_query;
+use super::images::image_sample;
+use super::images::sampled;
+use super::operators::binary;
+use super::operators::cast;
+use super::operators::relational;
+use super::past::past;
+use super::results::call_result;
+use super::results::cooperative_load;
+use super::results::special;
+use super::variables::declared;
+use super::variables::function_argument;
+use super::variables::global_variable;
+use super::variables::literal;
+use super::variables::load;
+use super::variables::local_variable;
+use answers::Answer;
+use archive::Starts;
+use archive::access::row_at;
+use ir::Expression;
+use ir::RowForm;
+use ir::RowNumber;
+use ir::Scalar;
+use ir::TypeInner;
+use ir::TypeResolution;
+use ir::VectorSize;
+ghost use mathlib.Core.Path.{_≡_};
+ghost use Rattle.rule.specs.Things.{shown};
+ghost use Rattle.typifier.specs.Typed.{typed};
+ghost use Rattle.typifier.specs.Past.{toResult, ruled, ruledShown};
+
+// The type of the row `here`, whose expression is e, in the order of the source's arms. Math is newer.
+pub fn resolve(
+    frames: &[u8],
+    s: Starts,
+    answers: &[u8],
+    places: &[u16],
+    here: RowNumber,
+    e: Expression,
+) -> Answer
+    ensures { λ r. ⌜ toResult r ≡ ruledShown (now (frames .entry)) s (now (answers .entry)) (now (places .entry)) here (shown (now (frames .entry)) s e) ⌝ }
+{
+    match e {
+        Expression::Access { base } => access(frames, s, answers, places, here, base),
+        Expression::AccessIndex { base, index } => access_index(
+            frames,
+            s,
+            answers,
+            places,
+            here,
+            base,
+            index,
+        ),
+        Expression::Splat { size, value } => splat(frames, s, answers, places, here, size, value),
+        Expression::Swizzle { size, vector } => swizzle(
+            frames,
+            s,
+            answers,
+            places,
+            here,
+            size,
+            vector,
+        ),
+        Expression::Literal(l) => literal(l),
+        Expression::Constant(n) => declared(frames, s.constants, n),
+        Expression::Override(n) => declared(frames, s.overrides, n),
+        Expression::ZeroValue(ty) => Answer::Resolved(TypeResolution::Handle(ty)),
+        Expression::Compose {
+            ty,
+            count: _,
+            first: _,
+        } => Answer::Resolved(TypeResolution::Handle(ty)),
+        Expression::FunctionArgument(index) => function_argument(frames, s, index),
+        Expression::GlobalVariable(n) => global_variable(frames, s, n),
+        Expression::LocalVariable(n) => local_variable(frames, s, n),
+        Expression::Load { pointer } => load(frames, s, answers, places, here, pointer),
+        Expression::ImageSample { image, gather } => image_sample(
+            frames,
+            s,
+            answers,
+            places,
+            here,
+            image,
+            gather,
+        ),
+        Expression::ImageLoad { image } => sampled(frames, s, answers, places, here, image),
+        Expression::ImageQuery { image, query } => image_query(
+            frames,
+            s,
+            answers,
+            places,
+            here,
+            image,
+            query,
+        ),
+        Expression::Unary { expr } => past(answers, places, expr),
+        Expression::Binary { op, left, right } => binary(
+            frames,
+            s,
+            answers,
+            places,
+            here,
+            op,
+            left,
+            right,
+        ),
+        Expression::AtomicResult { ty } => Answer::Resolved(TypeResolution::Handle(ty)),
+        Expression::SubgroupOperationResult { ty } => Answer::Resolved(TypeResolution::Handle(ty)),
+        Expression::WorkGroupUniformLoadResult { ty } => Answer::Resolved(TypeResolution::Handle(
+            ty,
+        )),
+        Expression::Select { accept } => past(answers, places, accept),
+        Expression::Derivative { expr } => past(answers, places, expr),
+        Expression::Relational { fun, argument } => relational(
+            frames,
+            s,
+            answers,
+            places,
+            here,
+            fun,
+            argument,
+        ),
+        Expression::Math => Answer::Newer { row: here },
+        Expression::As {
+            expr,
+            kind,
+            convert,
+        } => cast(frames, s, answers, places, here, expr, kind, convert),
+        Expression::CallResult(n) => call_result(frames, s, n),
+        Expression::ArrayLength => Answer::Resolved(TypeResolution::Value(TypeInner::Scalar(
+            Scalar::U32,
+        ))),
+        Expression::RayQueryProceedResult =>
+            Answer::Resolved(TypeResolution::Value(TypeInner::Scalar(Scalar::BOOL))),
+        Expression::RayQueryGetIntersection => special(frames, s.intersections, s.vertex_returns),
+        Expression::RayQueryVertexPositions => special(frames, s.vertex_returns, s.rows),
+        Expression::SubgroupBallotResult =>
+            Answer::Resolved(TypeResolution::Value(TypeInner::Vector {
+                size: VectorSize::Quad,
+                scalar: Scalar::U32,
+            })),
+        Expression::CooperativeLoad {
+            columns,
+            rows,
+            role,
+            pointer,
+        } => cooperative_load(
+            frames,
+            s,
+            answers,
+            places,
+            here,
+            columns,
+            rows,
+            role,
+            pointer,
+        ),
+        Expression::CooperativeMultiplyAdd { c } => past(answers, places, c),
+    }
+}
+
+// The type of a row, by its frame and the answers so far; an unknown kind is newer.
+pub fn type_row(frames: &[u8], s: Starts, answers: &[u8], places: &[u16], row: RowNumber) -> Answer
+    ensures { λ r. ⌜ toResult r ≡ ruled (now (frames .entry)) s (now (answers .entry)) (now (places .entry)) (typed row) ⌝ }
+{
+    match row_at(frames, s, row) {
+        RowForm::Known(e) => resolve(frames, s, answers, places, row, e),
+        RowForm::Unknown => Answer::Newer { row },
+    }
+}
