@@ -7,6 +7,7 @@ use Rattle.ir.specs.declared.TypeNumber.{TypeNumber}
 use Rattle.ir.specs.declared.MemberNumber.{MemberNumber}
 use Rattle.ir.specs.declared.ItemNumber.{ItemNumber}
 use Rattle.ir.specs.declared.RowNumber.{RowNumber}
+use Rattle.ir.specs.declared.ComponentNumber.{ComponentNumber}
 use Rattle.ir.specs.declared.StructMember.{StructMember}
 use Rattle.ir.specs.declared.Item.{Item}
 use Rattle.ir.specs.declared.TypeForm.{TypeForm}
@@ -14,7 +15,7 @@ use Rattle.ir.specs.declared.TypeForm.the-variants as Tf
 use Rattle.ir.specs.declared.RowForm.{RowForm}
 use Rattle.ir.specs.declared.RowForm.the-variants as Ro
 use Rattle.frames.specs.Bytes.{frameAt}
-use Rattle.frames.specs.Forms.{typeOf, memberOf, itemOf, rowOf}
+use Rattle.frames.specs.Forms.{typeOf, memberOf, itemOf, rowOf, componentOf}
 use Rattle.archive.specs.declared.Starts.{Starts}
 use Rattle.archive.specs.Starts.{startsOf}
 use Rattle.archive.specs.Names.{isType, isRow}
@@ -30,6 +31,10 @@ memberIn fr s first i = memberOf (frameAt fr (s .members + first .0 + i))
 -- item n of those whose frames begin at `first`
 abbrev pub itemIn : List ℕ → ℕ → ItemNumber → Item
 itemIn fr first n = itemOf (frameAt fr (first + n .0))
+
+-- component i of those from `first` on: the row that it names
+abbrev pub componentIn : List ℕ → Starts → ComponentNumber → ℕ → RowNumber
+componentIn fr s first i = componentOf (frameAt fr (s .components + first .0 + i))
 
 -- row n
 unfoldable pub rowIn : List ℕ → Starts → RowNumber → RowForm

@@ -4,6 +4,7 @@ use frames::Frame;
 use frames::frame_at;
 use frames::frame_count;
 use ir::ArraySize;
+use ir::ComponentNumber;
 use ir::Item;
 use ir::ItemNumber;
 use ir::MemberNumber;
@@ -19,7 +20,7 @@ ghost use Prim.Native.Nat.{_+_, _-_};
 ghost use lib.Dec.{ltb};
 ghost use Rattle.frames.specs.Bytes.{frameAt};
 ghost use Rattle.archive.specs.Names.{isType, isRow, sizeNames};
-ghost use Rattle.archive.specs.Access.{typeIn, memberIn, itemIn, rowIn};
+ghost use Rattle.archive.specs.Access.{typeIn, memberIn, itemIn, componentIn, rowIn};
 
 // a - b, and 0 where b is more.
 pub(crate) fn minus(a: usize, b: usize) -> usize
@@ -108,4 +109,12 @@ pub fn row_at(frames: &[u8], s: Starts, n: RowNumber) -> RowForm
     } else {
         RowForm::Unknown
     }
+}
+
+// Component i of those from component `first` on: the row that it names.
+pub fn component_at(frames: &[u8], s: Starts, first: ComponentNumber, i: u32) -> RowNumber
+    ensures { λ r. ⌜ r ≡ componentIn (now (frames .entry)) s first i ⌝ }
+{
+    let f = frame_after(frames, s.components, (first.0 as usize) + (i as usize));
+    f.component()
 }
