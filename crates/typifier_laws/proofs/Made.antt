@@ -35,7 +35,10 @@ use Rattle.archive.specs.Names.{isType, resultNames}
 use Rattle.rule.specs.Answers.{TypeAnswer, value, Typed, given, refused}
 use Rattle.rule.specs.Things.{inRange}
 use Rattle.typifier.specs.Access.{accessComponent, accessInto, accessThrough, bounded, member, memberPointer, indexComponent, indexInto, indexThrough, splatOf, swizzleOf}
-use Rattle.typifier.specs.Variables.{argument, variable, pointee, loadThrough, loadInto}
+use Rattle.ir.specs.TypeMethods.{valueBase}
+use Rattle.ir.specs.declared.OptionScalar.{OptionScalar}
+use Rattle.ir.specs.declared.OptionScalar.the-variants as Os
+use Rattle.typifier.specs.Variables.{argument, variable, loadThrough, loadInto}
 use Rattle.typifier.specs.Images.{sampledScalar, gatheredScalar, gatheredOf, sampledOf, sizeOf, imageSizeOf}
 use Rattle.typifier.specs.Operators.{timesScalar, product, boolsOf, equalScalars, logicalOf, castOf}
 use Rattle.typifier.specs.Results.{resultOf, special, cooperativeOf}
@@ -154,15 +157,28 @@ module _ (s : Starts) where
   variable-in t Sp.RayPayload h = pointer-in t Sp.RayPayload h
   variable-in t Sp.IncomingRayPayload h = pointer-in t Sp.IncomingRayPayload h
 
-  pub pointee-in : (k : Scalar) (z : OptionVectorSize) → In (given (value (pointee k z)))
+  pub pointee-in : (k : Scalar) (z : OptionVectorSize) → In (given (value (valueBase z k)))
   pointee-in k Ov.None = scalar-in k
   pointee-in k (Ov.Some z) = vector-in z k
 
   pub load-through : (base : TypeNumber) (t : TypeInner) → isType s base ≡ true → In (loadThrough base t)
   load-through base t h = by-atomic In t (λ k. scalar-in k) h
 
-  pub load-into : (pointer : RowNumber) (t : TypeInner) → In (loadInto pointer t)
-  load-into pointer t = by-value-pointer In t (λ z k p. pointee-in k z) (no-type _)
+  pub load-into : (pointer : RowNumber) (t : TypeInner) → BaseInRange s t → In (loadInto pointer t)
+  load-into pointer (Ti.Scalar x0) h = no-type _
+  load-into pointer (Ti.Vector x0 x1) h = no-type _
+  load-into pointer (Ti.Matrix x0 x1 x2) h = no-type _
+  load-into pointer (Ti.CooperativeMatrix x0 x1 x2 x3) h = no-type _
+  load-into pointer (Ti.Atomic x0) h = no-type _
+  load-into pointer (Ti.Pointer b p) h = h
+  load-into pointer (Ti.ValuePointer z k p) h = pointee-in k z
+  load-into pointer (Ti.Array x0 x1 x2) h = no-type _
+  load-into pointer (Ti.Struct x0 x1 x2) h = no-type _
+  load-into pointer (Ti.Image x0 x1 x2) h = no-type _
+  load-into pointer (Ti.Sampler x0) h = no-type _
+  load-into pointer (Ti.AccelerationStructure x0) h = no-type _
+  load-into pointer (Ti.RayQuery x0) h = no-type _
+  load-into pointer (Ti.BindingArray x0 x1) h = no-type _
 
   -- IMAGES
 
@@ -216,6 +232,6 @@ module _ (s : Starts) where
   special-in (some t) h = h
   special-in none h = no-type _
 
-  pub cooperative-of : (c r : CooperativeSize) (o : CooperativeRole) (pointer : RowNumber) (k : Option Scalar) → In (cooperativeOf c r o pointer k)
-  cooperative-of c r o pointer (some k) = cooperative-in c r k o
-  cooperative-of c r o pointer none = no-type _
+  pub cooperative-of : (c r : CooperativeSize) (o : CooperativeRole) (pointer : RowNumber) (k : OptionScalar) → In (cooperativeOf c r o pointer k)
+  cooperative-of c r o pointer (Os.Some k) = cooperative-in c r k o
+  cooperative-of c r o pointer Os.None = no-type _

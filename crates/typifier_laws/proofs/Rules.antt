@@ -29,7 +29,8 @@ use Rattle.typifier.specs.Steps.{passOn, operand, look, sameAs, byType, byBase}
 use Rattle.typifier.specs.Variables.{literalScalar}
 use Rattle.typifier.specs.Images.{sampled, imageSample, imageQuery}
 use Rattle.typifier.specs.Operators.{multiply, binary, relational}
-use Rattle.typifier.specs.Results.{scalarOf, pointeeScalar}
+use Rattle.ir.specs.TypeMethods.{scalarIn, pointerBase}
+use Rattle.typifier.specs.Results.{baseScalar}
 use Rattle.typifier.specs.Typed.{resolve, typing}
 use Rattle.typifier_laws.proofs.Good.{Good}
 use Rattle.typifier_laws.proofs.Ranged.{TypeInRange, TypedInRange, FormInRange, Within, ends, comes, reads, refusal-number}
@@ -132,7 +133,7 @@ module _ (fr : List ℕ) (good : Good fr) (here : RowNumber) where
   resolve-keeps (Row.functionArgument i t) h = ends (argument-in (startsOf fr) i t h)
   resolve-keeps (Row.globalVariable t p) h = ends (variable-in (startsOf fr) t p h)
   resolve-keeps (Row.localVariable t) h = ends (pointer-in (startsOf fr) t Sp.Function h)
-  resolve-keeps (Row.load n) h = base-keeps n _ _ h (λ b p x w j. load-through (startsOf fr) b (x .inner) w) (λ x j. load-into (startsOf fr) n (x .inner))
+  resolve-keeps (Row.load n) h = base-keeps n _ _ h (λ b p x w j. load-through (startsOf fr) b (x .inner) w) (λ x j. load-into (startsOf fr) n (x .inner) (j .base))
   resolve-keeps (Row.imageSample n g) h = sample-keeps n g h
   resolve-keeps (Row.imageLoad n) h = sampled-keeps n h
   resolve-keeps (Row.imageQuery n q) h = query-keeps n q h
@@ -152,7 +153,7 @@ module _ (fr : List ℕ) (good : Good fr) (here : RowNumber) where
   resolve-keeps Row.subgroupBallotResult h = ends (vector-in (startsOf fr) Vs.Quad U32)
   resolve-keeps (Row.subgroupOperationResult t) h = ends h
   resolve-keeps (Row.cooperativeLoad c r o n) h =
-      base-keeps n _ _ h (λ b p x w j. cooperative-of (startsOf fr) c r o n (scalarOf (x .inner))) (λ x j. cooperative-of (startsOf fr) c r o n (pointeeScalar (x .inner)))
+      base-keeps n _ _ h (λ b p x w j. cooperative-of (startsOf fr) c r o n (scalarIn (x .inner))) (λ x j. cooperative-of (startsOf fr) c r o n (baseScalar (pointerBase (x .inner))))
   resolve-keeps (Row.cooperativeMultiplyAdd n) h = same-keeps n h
 
 -- the rule of every row of an accepted file keeps within it
