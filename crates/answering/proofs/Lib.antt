@@ -1,2 +1,4 @@
+pub mod Bytes
 pub mod Same
+pub mod Placed
 pub mod Worked
