@@ -1,7 +1,7 @@
 -- Document 01, "Cases", P: whole files and all that is handed back of them, by hand from the document.
 use Prim.Native.Nat.{ℕ}
 use mathlib.Core.List.{List, [], _∷_, _++_}
-use Rattle.typifier.specs.Lines.{full, short, plain, indexed, binary, numbered, scalar, vector, refusal, bound}
+use Rattle.row_cases.specs.Lines.{full, short, plain, indexed, binary, numbered, scalar, vector, refusal, bound}
 
 -- a file by its frames, and what is handed back
 pub record Case : Type 0 where

@@ -8,7 +8,7 @@ use Rattle.archive.specs.Starts.{startsOf, rowCount}
 use Rattle.rule.specs.Answers.{Typed, Judgement, Result, rowFrame, verdictFrame}
 use Rattle.rule.specs.Things.{Sight, see}
 use Rattle.rule.specs.Claim.{ours}
-use Rattle.typifier.specs.Typed.{typing}
+use Rattle.row_rules.specs.Typed.{typing}
 use Rattle.compose.specs.Rows.{verdictOf}
 
 -- our answer of row n, over the answers of the rows before it

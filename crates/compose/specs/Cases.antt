@@ -2,7 +2,7 @@
 use Prim.Native.Nat.{ℕ}
 use mathlib.Core.List.{List, [], _∷_, _++_}
 use mathlib.Core.Option.{Option, none, some}
-use Rattle.typifier.specs.Lines.{full, short, plain, indexed}
+use Rattle.row_cases.specs.Lines.{full, short, plain, indexed}
 
 -- a compose of a type from so many components, the first of them given
 abbrev composes : ℕ → ℕ → ℕ → List ℕ

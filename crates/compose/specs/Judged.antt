@@ -28,7 +28,7 @@ use Rattle.type_methods.specs.declared.OptionBool.{OptionBool}
 use Rattle.type_methods.specs.declared.OptionBool.the-variants as Ob
 use Rattle.type_methods.specs.Canonical.{equalTypes}
 use Rattle.type_methods.specs.Comparison.{likeness}
-use Rattle.typifier.specs.Past.{answerIn, pastIn}
+use Rattle.operands.specs.Past.{answerIn, pastIn}
 use Rattle.compose.specs.declared.Part.{Part}
 use Rattle.compose.specs.declared.Part.the-variants as Pa
 use Rattle.compose.specs.declared.OptionVerdict.{OptionVerdict}

@@ -8,7 +8,7 @@ use Rattle.rule.specs.Things.{Shown, Sight, kind}
 use Rattle.rule.specs.Things as Row
 use Rattle.rule.specs.Rule.{Rule}
 use Rattle.rule.specs.Claim.{ours}
-use Rattle.typifier.specs.Typed.{typing}
+use Rattle.row_rules.specs.Typed.{typing}
 use Rattle.compose.specs.Verdict.{verdict}
 
 -- the rule of a row's verdict, by what the row shows

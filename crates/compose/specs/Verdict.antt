@@ -20,8 +20,8 @@ use Rattle.rule.specs.Things.{Form, form}
 use Rattle.rule.specs.Rule.{Rule, done, come, past}
 use Rattle.type_methods.specs.Canonical.{equalTypes}
 use Rattle.type_methods.specs.Comparison.{compare}
-use Rattle.typifier.specs.Selectors.{ifScalar, ifVector}
-use Rattle.typifier.specs.Operators.{equalScalars}
+use Rattle.row_rules.specs.Selectors.{ifScalar, ifVector}
+use Rattle.row_rules.specs.Operators.{equalScalars}
 
 -- COMPONENTS
 

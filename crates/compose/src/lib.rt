@@ -19,14 +19,14 @@ use rule::form_of;
 use type_methods::OptionBool;
 use type_methods::compare::compare_types;
 use type_methods::compare::equal_types;
-use typifier::past::past;
+use operands::past::past;
 ghost use mathlib.Core.Path.{_≡_};
 ghost use mathlib.Core.Bool.{cond};
 ghost use mathlib.Core.Option.{none, some};
 ghost use Rattle.rule.specs.Answers.{resolved};
 ghost use Rattle.rule.specs.Things.{memberTypes};
 ghost use Rattle.type_methods.specs.Comparison.{found};
-ghost use Rattle.typifier.specs.Operators.{equalScalars};
+ghost use Rattle.row_rules.specs.Operators.{equalScalars};
 ghost use Rattle.compose.specs.Verdict.{verdict, byForm, eachPart, vectorParts, counted, arrayParts, adds};
 ghost use Rattle.compose.specs.Judged.{toJudged, judgedBy, partsIn, askedOf, columnSeen, memberType, partIs, partSaid, partJudged, countAdded, formAdded, addedBy};
 

@@ -1,24 +1,6 @@
 // ResolveContext::resolve: the rule of every row.
-use super::access::access;
-use super::access::access_index;
-use super::access::splat;
-use super::access::swizzle;
-use super::images::image_query;
-use super::images::image_sample;
-use super::images::sampled;
 use super::operators::binary;
-use super::operators::cast;
 use super::operators::relational;
-use super::past::past;
-use super::results::call_result;
-use super::results::cooperative_load;
-use super::results::special;
-use super::variables::declared;
-use super::variables::function_argument;
-use super::variables::global_variable;
-use super::variables::literal;
-use super::variables::load;
-use super::variables::local_variable;
 use answers::Answer;
 use archive::Starts;
 use archive::access::row_at;
@@ -26,13 +8,33 @@ use ir::Expression;
 use ir::RowForm;
 use ir::RowNumber;
 use ir::Scalar;
-use ir::TypeInner;
-use ir::TypeResolution;
 use ir::VectorSize;
+use operand_rows::access::access;
+use operand_rows::access::access_index;
+use operand_rows::access::cooperative_load;
+use operand_rows::access::load;
+use operand_rows::access::splat;
+use operand_rows::access::swizzle;
+use operand_rows::images::image_query;
+use operand_rows::images::image_sample;
+use operand_rows::images::sampled;
+use operand_rows::operators::cast;
+use operands::past::past;
+use row_rules::results::call_result;
+use row_rules::results::special;
+use row_rules::values::numbered;
+use row_rules::values::scalar_type;
+use row_rules::values::vector_type;
+use row_rules::variables::declared;
+use row_rules::variables::function_argument;
+use row_rules::variables::global_variable;
+use row_rules::variables::literal;
+use row_rules::variables::local_variable;
 ghost use mathlib.Core.Path.{_≡_};
 ghost use Rattle.rule.specs.Things.{shown};
-ghost use Rattle.typifier.specs.Typed.{typed};
-ghost use Rattle.typifier.specs.Past.{toResult, ruled, ruledShown};
+ghost use Rattle.row_rules.specs.Typed.{typed};
+ghost use Rattle.row_rules.specs.Answered.{toResult};
+ghost use Rattle.operands.specs.Past.{ruled, ruledShown};
 
 // The type of the row `here`, whose expression is e, in the order of the source's arms. Math is newer.
 pub fn resolve(
@@ -69,12 +71,12 @@ pub fn resolve(
         Expression::Literal(l) => literal(l),
         Expression::Constant(n) => declared(frames, s.constants, n),
         Expression::Override(n) => declared(frames, s.overrides, n),
-        Expression::ZeroValue(ty) => Answer::Resolved(TypeResolution::Handle(ty)),
+        Expression::ZeroValue(ty) => numbered(ty),
         Expression::Compose {
             ty,
             count: _,
             first: _,
-        } => Answer::Resolved(TypeResolution::Handle(ty)),
+        } => numbered(ty),
         Expression::FunctionArgument(index) => function_argument(frames, s, index),
         Expression::GlobalVariable(n) => global_variable(frames, s, n),
         Expression::LocalVariable(n) => local_variable(frames, s, n),
@@ -109,11 +111,9 @@ pub fn resolve(
             left,
             right,
         ),
-        Expression::AtomicResult { ty } => Answer::Resolved(TypeResolution::Handle(ty)),
-        Expression::SubgroupOperationResult { ty } => Answer::Resolved(TypeResolution::Handle(ty)),
-        Expression::WorkGroupUniformLoadResult { ty } => Answer::Resolved(TypeResolution::Handle(
-            ty,
-        )),
+        Expression::AtomicResult { ty } => numbered(ty),
+        Expression::SubgroupOperationResult { ty } => numbered(ty),
+        Expression::WorkGroupUniformLoadResult { ty } => numbered(ty),
         Expression::Select { accept } => past(answers, places, accept),
         Expression::Derivative { expr } => past(answers, places, expr),
         Expression::Relational { fun, argument } => relational(
@@ -132,18 +132,11 @@ pub fn resolve(
             convert,
         } => cast(frames, s, answers, places, here, expr, kind, convert),
         Expression::CallResult(n) => call_result(frames, s, n),
-        Expression::ArrayLength => Answer::Resolved(TypeResolution::Value(TypeInner::Scalar(
-            Scalar::U32,
-        ))),
-        Expression::RayQueryProceedResult =>
-            Answer::Resolved(TypeResolution::Value(TypeInner::Scalar(Scalar::BOOL))),
+        Expression::ArrayLength => scalar_type(Scalar::U32),
+        Expression::RayQueryProceedResult => scalar_type(Scalar::BOOL),
         Expression::RayQueryGetIntersection => special(frames, s.intersections, s.vertex_returns),
         Expression::RayQueryVertexPositions => special(frames, s.vertex_returns, s.rows),
-        Expression::SubgroupBallotResult =>
-            Answer::Resolved(TypeResolution::Value(TypeInner::Vector {
-                size: VectorSize::Quad,
-                scalar: Scalar::U32,
-            })),
+        Expression::SubgroupBallotResult => vector_type(VectorSize::Quad, Scalar::U32),
         Expression::CooperativeLoad {
             columns,
             rows,

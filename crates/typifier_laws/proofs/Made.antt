@@ -34,14 +34,14 @@ use Rattle.archive.specs.declared.Starts.{Starts}
 use Rattle.archive.specs.Names.{isType, resultNames}
 use Rattle.rule.specs.Answers.{TypeAnswer, value, Typed, given, refused}
 use Rattle.rule.specs.Things.{inRange}
-use Rattle.typifier.specs.Access.{accessComponent, accessInto, accessThrough, bounded, member, memberPointer, indexComponent, indexInto, indexThrough, splatOf, swizzleOf}
+use Rattle.row_rules.specs.Access.{accessComponent, accessInto, accessThrough, bounded, member, memberPointer, indexComponent, indexInto, indexThrough, splatOf, swizzleOf}
 use Rattle.ir.specs.TypeMethods.{valueBase}
 use Rattle.ir.specs.declared.OptionScalar.{OptionScalar}
 use Rattle.ir.specs.declared.OptionScalar.the-variants as Os
-use Rattle.typifier.specs.Variables.{argument, variable, loadThrough, loadInto}
-use Rattle.typifier.specs.Images.{sampledScalar, gatheredScalar, gatheredOf, sampledOf, sizeOf, imageSizeOf}
-use Rattle.typifier.specs.Operators.{timesScalar, product, boolsOf, equalScalars, logicalOf, castOf}
-use Rattle.typifier.specs.Results.{resultOf, special, cooperativeOf}
+use Rattle.row_rules.specs.Variables.{argument, variable, loadThrough, loadInto}
+use Rattle.row_rules.specs.Images.{sampledScalar, gatheredScalar, gatheredOf, sampledOf, sizeOf, imageSizeOf}
+use Rattle.row_rules.specs.Operators.{timesScalar, product, boolsOf, equalScalars, logicalOf, castOf}
+use Rattle.row_rules.specs.Results.{resultOf, special, cooperativeOf}
 use Rattle.typifier_laws.proofs.Ranged.{Each, IfSome, TypeInRange, TypedInRange, BaseInRange, refusal-number}
 use Rattle.typifier_laws.proofs.Selected.{by-scalar, by-vector, by-matrix, by-cooperative-matrix, by-atomic, by-value-pointer, by-image, by-struct, by-array, by-binding-array}
 use Rattle.typifier_laws.proofs.Seen.{each-at}

@@ -22,8 +22,8 @@ use Rattle.rule.specs.Things as Row
 use Rattle.rule.specs.Things.{Shown, Seen, kind, see}
 use Rattle.rule.specs.Rule.{Rule, come, past, Step, step, Reading, Readings, run, follow, placed}
 use Rattle.rule.specs.Claim.{absent, among, amongReadings, answers, readings, reading}
-use Rattle.typifier.specs.Reads.{reads, sampleReads, queryReads, binaryReads, relationalReads}
-use Rattle.typifier.specs.Typed.{typing}
+use Rattle.row_cases.specs.Reads.{reads, sampleReads, queryReads, binaryReads, relationalReads}
+use Rattle.row_rules.specs.Typed.{typing}
 use Rattle.typifier_laws.proofs.Good.{Good}
 use Rattle.typifier_laws.proofs.Ranged as Ranged
 use Rattle.typifier_laws.proofs.Ranged.{TypedInRange, StepInRange, Each, IfSome, Within, ends, comes}

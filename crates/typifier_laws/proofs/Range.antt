@@ -17,7 +17,7 @@ use Rattle.rule.specs.Answers.{TypeAnswer, number, value, malformed, Typed, Pla
 use Rattle.rule.specs.Things.{Seen, inRange, faultOf, see}
 use Rattle.rule.specs.Rule.{Rule, come, past, Answers, run}
 use Rattle.rule.specs.Claim.{absent, among, answers, ours}
-use Rattle.typifier.specs.Typed.{typing}
+use Rattle.row_rules.specs.Typed.{typing}
 use Rattle.typifier_laws.proofs.Good.{Good}
 use Rattle.typifier_laws.proofs.Ranged.{TypeInRange, TypedInRange, PlaceInRange, InRange, Within, ends, comes, reads}
 use Rattle.typifier_laws.proofs.InOrder.{in-order-all}

@@ -25,13 +25,13 @@ use Rattle.rule.specs.Answers.{TypeAnswer, number, Typed, given, refused, chose
 use Rattle.rule.specs.Things as Row
 use Rattle.rule.specs.Things.{Shown, Form, kind, form, texels}
 use Rattle.rule.specs.Rule.{Rule}
-use Rattle.typifier.specs.Steps.{passOn, operand, look, sameAs, byType, byBase}
-use Rattle.typifier.specs.Variables.{literalScalar}
-use Rattle.typifier.specs.Images.{sampled, imageSample, imageQuery}
-use Rattle.typifier.specs.Operators.{multiply, binary, relational}
+use Rattle.row_rules.specs.Steps.{passOn, operand, look, sameAs, byType, byBase}
+use Rattle.row_rules.specs.Variables.{literalScalar}
+use Rattle.row_rules.specs.Images.{sampled, imageSample, imageQuery}
+use Rattle.row_rules.specs.Operators.{multiply, binary, relational}
 use Rattle.ir.specs.TypeMethods.{scalarIn, pointerBase}
-use Rattle.typifier.specs.Results.{baseScalar}
-use Rattle.typifier.specs.Typed.{resolve, typing}
+use Rattle.row_rules.specs.Results.{baseScalar}
+use Rattle.row_rules.specs.Typed.{resolve, typing}
 use Rattle.typifier_laws.proofs.Good.{Good}
 use Rattle.typifier_laws.proofs.Ranged.{TypeInRange, TypedInRange, FormInRange, Within, ends, comes, reads, refusal-number}
 use Rattle.typifier_laws.proofs.Selected.{by-image, by-pointer}

@@ -1,5 +1,5 @@
 -- `binary`: each operator has its rule. Assumes nothing.
-use Rattle.typifier.proofs.Steps.{same-run}
+use Rattle.operands.proofs.Steps.{same-run}
 use Rattle.typifier.proofs.operators.binary.Statement.{statement}
 use Rattle.typifier.proofs.operators.binary.Tie as tie
 

@@ -1,7 +1,7 @@
 -- `look_left`: the left form is known, or newer. Assumes nothing.
 use mathlib.Core.Path.{sym, ap, _∙_}
 use Rattle.rule.specs.Answers.{resolved}
-use Rattle.typifier.specs.Past.{leftBy}
+use Rattle.operands.specs.Past.{leftBy}
 use Rattle.typifier.proofs.operators.look_left.Statement.{statement}
 use Rattle.typifier.proofs.operators.look_left.Tie as tie
 

@@ -1,7 +1,7 @@
 -- `look_right`: the right form is known, or newer. Assumes nothing.
 use mathlib.Core.Path.{sym, ap, _∙_}
 use Rattle.rule.specs.Answers.{resolved}
-use Rattle.typifier.specs.Past.{rightBy}
+use Rattle.operands.specs.Past.{rightBy}
 use Rattle.typifier.proofs.operators.look_right.Statement.{statement}
 use Rattle.typifier.proofs.operators.look_right.Tie as tie
 

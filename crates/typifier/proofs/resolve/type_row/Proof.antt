@@ -2,8 +2,8 @@
 use mathlib.Core.Path.{sym, ap, _∙_}
 use Rattle.ir.specs.declared.RowForm.{RowForm}
 use Rattle.rule.specs.Things.{seeRow}
-use Rattle.typifier.specs.Past.{ruledShown}
-use Rattle.typifier.proofs.Steps.{row-run}
+use Rattle.operands.specs.Past.{ruledShown}
+use Rattle.operands.proofs.Steps.{row-run}
 use Rattle.typifier.proofs.resolve.type_row.Statement.{statement}
 use Rattle.typifier.proofs.resolve.type_row.Tie as tie
 

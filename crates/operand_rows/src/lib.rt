@@ -1,0 +1,4 @@
+// The rows that read one operand, by the rules of row_rules/specs/.
+pub mod access;
+pub mod images;
+pub mod operators;

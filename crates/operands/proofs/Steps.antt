@@ -1,0 +1,228 @@
+-- What a rule gives, step by step, by what the code found there: the answer in the buffer, the form of a type, a pointer's base, an image's class. For any
+-- frames and answers. By the cases of each. Assumes nothing.
+use Prim.Native.Nat.{ℕ}
+use mathlib.Core.Path.{_≡_, refl, sym, ap, _∙_}
+use mathlib.Core.List.{List}
+use mathlib.Core.Option.{Option, none, some}
+use Rattle.ir.specs.declared.TypeNumber.{TypeNumber}
+use Rattle.ir.specs.declared.RowNumber.{RowNumber}
+use Rattle.ir.specs.declared.AddressSpace.{AddressSpace}
+use Rattle.ir.specs.declared.ImageClass.{ImageClass}
+use Rattle.ir.specs.declared.ImageClass.the-variants as Ic
+use Rattle.ir.specs.declared.TypeInner.{TypeInner}
+use Rattle.ir.specs.declared.TypeInner.the-variants as Ti
+use Rattle.ir.specs.declared.TypeForm.{TypeForm}
+use Rattle.ir.specs.declared.TypeForm.the-variants as Tf
+use Rattle.ir.specs.declared.TypeResolution.{TypeResolution}
+use Rattle.ir.specs.declared.RowForm.{RowForm}
+use Rattle.ir.specs.declared.RowForm.the-variants as Ro
+use Rattle.answers.specs.declared.Answer.{Answer}
+use Rattle.answers.specs.declared.Answer.the-variants as An
+use Rattle.archive.specs.declared.Starts.{Starts}
+use Rattle.archive.specs.Access.{typeIn, rowIn}
+use Rattle.rule.specs.Answers.{TypeAnswer, number, resolved, Typed, row, Result, told, newer}
+use Rattle.rule.specs.Things.{Form, formIn, Shown, seeRow}
+use Rattle.rule.specs.Rule.{Rule, done, run}
+use Rattle.operands.specs.declared.Looked.{Looked}
+use Rattle.operands.specs.declared.Looked.the-variants as Lo
+use Rattle.operands.specs.declared.Based.{Based}
+use Rattle.operands.specs.declared.Based.the-variants as Ba
+use Rattle.row_rules.specs.Steps.{operand, look, sameAs, byType, throughBase, byBase}
+use Rattle.row_rules.specs.Images.{sampledFrom, sampled}
+use Rattle.row_rules.specs.Operators.{product, multiply}
+use Rattle.row_rules.specs.Typed.{typed}
+use Rattle.row_rules.specs.Answered.{toResult, sampledIn}
+use Rattle.operands.specs.Past.{answerIn, ruled, ruledShown, formed, lookedAt, lookedBy, lookedIn, basedOn, basedAt, basedBy, basedIn, rightBy, leftBy, rightRead, leftRead}
+
+-- by what was found
+abbrev onForm : {X : Type 0} → TypeForm → (TypeInner → X) → X → X
+onForm (Tf.Known t) f rest = f t
+onForm Tf.Unknown f rest = rest
+
+abbrev onAnswer : Answer → (TypeResolution → Result Typed) → Result Typed
+onAnswer (An.Resolved t) f = f t
+onAnswer (An.Refused e) f = toResult (An.Refused e)
+onAnswer (An.Newer r) f = toResult (An.Newer r)
+
+abbrev onLooked : Looked → (TypeInner → Result Typed) → Result Typed
+onLooked (Lo.Seen i) f = f i
+onLooked (Lo.Ended a) f = toResult a
+
+abbrev onBased : Based → (TypeInner → Result Typed) → (TypeNumber → AddressSpace → TypeInner → Result Typed) → Result Typed
+onBased (Ba.Into t) into through = into t
+onBased (Ba.Through b p t) into through = through b p t
+onBased (Ba.Ended a) into through = toResult a
+
+module _ (fr : List ℕ) (s : Starts) (an pl : List ℕ) where
+  abbrev ran : Rule Typed → Result Typed
+  ran r = ruled fr s an pl r
+
+  pub done-run : (t : Typed) → ran (done t) ≡ told t
+  unfolding ruled
+  done-run t = refl
+
+  -- AN OPERAND is read
+
+  read : (n : RowNumber) (k : TypeAnswer → Rule Typed) (x : Answer) → answerIn an pl n ≡ x → ran (operand n k) ≡ onAnswer x (λ t. ran (k (resolved t)))
+  unfolding ruled
+  read n k (An.Resolved t) q = rw (q, run)
+  read n k (An.Refused e) q = rw (q, run)
+  read n k (An.Newer r) q = rw (q, run)
+
+  -- and its answer is the row's
+  pub same-run : (n : RowNumber) → ran (sameAs n) ≡ toResult (answerIn an pl n)
+  unfolding ruled
+  same-run n = go (answerIn an pl n) refl
+    where
+      go : (x : Answer) → answerIn an pl n ≡ x → ran (sameAs n) ≡ toResult x
+      go (An.Resolved t) q = rw (q, run)
+      go (An.Refused e) q = rw (q, run)
+      go (An.Newer r) q = rw (q, run)
+
+  module _ (here : RowNumber) where
+    -- A TYPE is looked into
+
+    into : (a : TypeAnswer) (k : Form → Rule Typed) (f : TypeForm) → formIn fr s a ≡ f
+        → ran (look here a k) ≡ onForm f (λ i. ran (k (formed fr s i))) (newer (row here))
+    unfolding ruled
+    into a k (Tf.Known i) q = rw (q, run)
+    into a k Tf.Unknown q = rw (q, run)
+
+    looked-form : (f : TypeForm) (g : TypeInner → Result Typed) → onForm f g (newer (row here)) ≡ onLooked (lookedAt here f) g
+    looked-form (Tf.Known i) g = refl
+    looked-form Tf.Unknown g = refl
+
+    looked-answer : (k : Form → Rule Typed) (x : Answer)
+        → onAnswer x (λ t. ran (look here (resolved t) k)) ≡ onLooked (lookedBy fr s here x) (λ i. ran (k (formed fr s i)))
+    looked-answer k (An.Resolved t) = into (resolved t) k (formIn fr s (resolved t)) refl ∙ looked-form (formIn fr s (resolved t)) _
+    looked-answer k (An.Refused e) = refl
+    looked-answer k (An.Newer r) = refl
+
+    look-run : (n : RowNumber) (k : Form → Rule Typed)
+        → ran (operand n (λ a. look here a k)) ≡ onLooked (lookedIn fr s an pl here n) (λ i. ran (k (formed fr s i)))
+    unfolding lookedIn
+    look-run n k = read n (λ a. look here a k) (answerIn an pl n) refl ∙ looked-answer k (answerIn an pl n)
+
+    module _ (n : RowNumber) where
+      -- the answer follows from the inner form
+      pub type-seen : (f : TypeInner → Typed) {i : TypeInner} → lookedIn fr s an pl here n ≡ Lo.Seen i → told (f i) ≡ ran (byType here n f)
+      unfolding ruled
+      type-seen f q = sym (look-run n _ ∙ ap (λ (l : Looked). onLooked l (λ j. told (f j))) q)
+
+      pub type-ended : (f : TypeInner → Typed) {a : Answer} → lookedIn fr s an pl here n ≡ Lo.Ended a → toResult a ≡ ran (byType here n f)
+      unfolding ruled
+      type-ended f q = sym (look-run n _ ∙ ap (λ (l : Looked). onLooked l (λ j. told (f j))) q)
+
+      -- OF AN IMAGE its class is come to
+
+      class-run : (t : TypeInner) → ran (sampledFrom here n t) ≡ sampledIn here n t
+      unfolding ruled
+      class-run (Ti.Image d a (Ic.Sampled k m)) = refl
+      class-run (Ti.Image d a (Ic.Depth m)) = refl
+      class-run (Ti.Image d a Ic.External) = refl
+      class-run (Ti.Image d a (Ic.Storage f m)) = refl
+      class-run (Ti.Scalar x0) = refl
+      class-run (Ti.Vector x0 x1) = refl
+      class-run (Ti.Matrix x0 x1 x2) = refl
+      class-run (Ti.CooperativeMatrix x0 x1 x2 x3) = refl
+      class-run (Ti.Atomic x0) = refl
+      class-run (Ti.Pointer x0 x1) = refl
+      class-run (Ti.ValuePointer x0 x1 x2) = refl
+      class-run (Ti.Array x0 x1 x2) = refl
+      class-run (Ti.Struct x0 x1 x2) = refl
+      class-run (Ti.Sampler x0) = refl
+      class-run (Ti.AccelerationStructure x0) = refl
+      class-run (Ti.RayQuery x0) = refl
+      class-run (Ti.BindingArray x0 x1) = refl
+
+      pub sampled-seen : {i : TypeInner} → lookedIn fr s an pl here n ≡ Lo.Seen i → sampledIn here n i ≡ ran (sampled here n)
+      sampled-seen {i} q = sym (look-run n _ ∙ ap (λ (l : Looked). onLooked l (λ j. ran (sampledFrom here n j))) q ∙ class-run i)
+
+      pub sampled-ended : {a : Answer} → lookedIn fr s an pl here n ≡ Lo.Ended a → toResult a ≡ ran (sampled here n)
+      sampled-ended q = sym (look-run n _ ∙ ap (λ (l : Looked). onLooked l (λ j. ran (sampledFrom here n j))) q)
+
+      -- OF A POINTER its base is looked into
+
+      module _ (th : TypeNumber → AddressSpace → Form → Typed) (f : Form → Typed) where
+        abbrev given-of : Based → Result Typed
+        given-of b = onBased b (λ t. told (f (formed fr s t))) (λ b p t. told (th b p (formed fr s t)))
+
+        base-form : (b : TypeNumber) (p : AddressSpace) (c : TypeForm)
+            → onForm c (λ i. told (th b p (formed fr s i))) (newer (row here)) ≡ given-of (basedOn here b p c)
+        base-form b p (Tf.Known t) = refl
+        base-form b p Tf.Unknown = refl
+
+        base-run : (t : TypeInner) → ran (throughBase here th f (formed fr s t)) ≡ given-of (basedAt fr s here t)
+        unfolding ruled
+        base-run (Ti.Pointer b p) = into (number b) (λ c. done (th b p c)) (typeIn fr s b) refl ∙ base-form b p (typeIn fr s b)
+        base-run (Ti.Scalar x0) = refl
+        base-run (Ti.Vector x0 x1) = refl
+        base-run (Ti.Matrix x0 x1 x2) = refl
+        base-run (Ti.CooperativeMatrix x0 x1 x2 x3) = refl
+        base-run (Ti.Atomic x0) = refl
+        base-run (Ti.ValuePointer x0 x1 x2) = refl
+        base-run (Ti.Array x0 x1 x2) = refl
+        base-run (Ti.Struct x0 x1 x2) = refl
+        base-run (Ti.Image x0 x1 x2) = refl
+        base-run (Ti.Sampler x0) = refl
+        base-run (Ti.AccelerationStructure x0) = refl
+        base-run (Ti.RayQuery x0) = refl
+        base-run (Ti.BindingArray x0 x1) = refl
+
+        based-looked : (l : Looked) → onLooked l (λ i. ran (throughBase here th f (formed fr s i))) ≡ given-of (basedBy fr s here l)
+        based-looked (Lo.Seen i) = base-run i
+        based-looked (Lo.Ended a) = refl
+
+        based-run : ran (byBase here n th f) ≡ given-of (basedIn fr s an pl here n)
+        unfolding basedIn
+        based-run = look-run n (throughBase here th f) ∙ based-looked (lookedIn fr s an pl here n)
+
+        pub base-into : {t : TypeInner} → basedIn fr s an pl here n ≡ Ba.Into t → told (f (formed fr s t)) ≡ ran (byBase here n th f)
+        base-into q = sym (based-run ∙ ap given-of q)
+
+        pub base-through : {b : TypeNumber} {p : AddressSpace} {t : TypeInner} → basedIn fr s an pl here n ≡ Ba.Through b p t
+            → told (th b p (formed fr s t)) ≡ ran (byBase here n th f)
+        base-through q = sym (based-run ∙ ap given-of q)
+
+        pub base-ended : {a : Answer} → basedIn fr s an pl here n ≡ Ba.Ended a → toResult a ≡ ran (byBase here n th f)
+        base-ended q = sym (based-run ∙ ap given-of q)
+
+    -- MULTIPLY
+
+    right-form : (a b : TypeAnswer) (x : TypeInner) (c : TypeForm)
+        → onForm c (λ y. told (product a b x y)) (newer (row here)) ≡ rightBy here a x b c
+    right-form a b x (Tf.Known y) = refl
+    right-form a b x Tf.Unknown = refl
+
+    left-form : (a b : TypeAnswer) (c : TypeForm)
+        → onForm c (λ x. ran (look here b (λ y. done (product a b x (y .inner))))) (newer (row here)) ≡ leftBy fr s here a b c
+    unfolding ruled
+    left-form a b (Tf.Known x) = into b (λ y. done (product a b x (y .inner))) (formIn fr s b) refl ∙ right-form a b x (formIn fr s b)
+    left-form a b Tf.Unknown = refl
+
+    abbrev both : TypeAnswer → TypeAnswer → Rule Typed
+    both a b = look here a (λ x. look here b (λ y. done (product a b (x .inner) (y .inner))))
+
+    right-answer : (a : TypeAnswer) (y : Answer) → onAnswer y (λ b. ran (both a (resolved b))) ≡ rightRead fr s here a y
+    right-answer a (An.Resolved b) = into a (λ x. look here (resolved b) (λ y. done (product a (resolved b) (x .inner) (y .inner)))) (formIn fr s a) refl ∙ left-form a (resolved b) (formIn fr s a)
+    right-answer a (An.Refused e) = refl
+    right-answer a (An.Newer r) = refl
+
+    left-answer : (r : RowNumber) (x : Answer)
+        → onAnswer x (λ a. ran (operand r (both (resolved a)))) ≡ leftRead fr s here (answerIn an pl r) x
+    left-answer r (An.Resolved a) = read r (both (resolved a)) (answerIn an pl r) refl ∙ right-answer (resolved a) (answerIn an pl r)
+    left-answer r (An.Refused e) = refl
+    left-answer r (An.Newer q) = refl
+
+    pub multiply-run : (l r : RowNumber) → ran (multiply here l r) ≡ leftRead fr s here (answerIn an pl r) (answerIn an pl l)
+    multiply-run l r = read l (λ a. operand r (both a)) (answerIn an pl l) refl ∙ left-answer r (answerIn an pl l)
+
+  -- A ROW'S OWN KIND
+
+  pub row-run : (r : RowNumber) → ran (typed r) ≡ ruledShown fr s an pl r (seeRow fr s (rowIn fr s r))
+  unfolding ruled
+  row-run r = go (seeRow fr s (rowIn fr s r)) refl
+    where
+      go : (o : Option Shown) → seeRow fr s (rowIn fr s r) ≡ o → ran (typed r) ≡ ruledShown fr s an pl r o
+      go none q = rw (q, run)
+      go (some x) q = rw (q, run)

@@ -1,0 +1,24 @@
+// Earlier answers, read from the answer buffer, and the types of operands, looked into.
+pub mod past;
+
+use answers::Answer;
+use ir::AddressSpace;
+use ir::TypeInner;
+use ir::TypeNumber;
+
+// An operand that was read and looked into: the inner form of its type, or the answer that the row ends with.
+pub enum Looked {
+    Seen(TypeInner),
+    Ended(Answer),
+}
+
+// The same where of a Pointer the base is looked into too: a form that is no Pointer, or a Pointer's base, its space and the base's form.
+pub enum Based {
+    Into(TypeInner),
+    Through {
+        base: TypeNumber,
+        space: AddressSpace,
+        inner: TypeInner,
+    },
+    Ended(Answer),
+}

@@ -1,0 +1,227 @@
+// Access, Splat and Swizzle, by the forms of their operands.
+use answers::Answer;
+use ir::AddressSpace;
+use ir::OptionVectorSize;
+use ir::RowNumber;
+use ir::Scalar;
+use ir::TypeInner;
+use ir::TypeNumber;
+use ir::VectorSize;
+use row_rules::values::invalid_access;
+use row_rules::values::invalid_scalar;
+use row_rules::values::invalid_sub_access;
+use row_rules::values::invalid_vector;
+use row_rules::values::numbered;
+use row_rules::values::pointer_type;
+use row_rules::values::scalar_type;
+use row_rules::values::value_pointer_type;
+use row_rules::values::vector_type;
+ghost use mathlib.Core.Path.{_≡_};
+ghost use Rattle.rule.specs.Answers.{value, told};
+ghost use Rattle.row_rules.specs.Access.{accessComponent, accessInto, accessThrough, splatOf, swizzleOf};
+ghost use Rattle.row_rules.specs.Answered.{toResult};
+
+// A component of what a value pointer points at.
+fn access_component(
+    base: RowNumber,
+    scalar: Scalar,
+    space: AddressSpace,
+    size: OptionVectorSize,
+) -> Answer
+    ensures { λ r. ⌜ toResult r ≡ told (accessComponent base scalar space size) ⌝ }
+{
+    match size {
+        OptionVectorSize::Some(_) => value_pointer_type(OptionVectorSize::None, scalar, space),
+        OptionVectorSize::None => invalid_access(base, false),
+    }
+}
+
+// A part of a value, or of what a value pointer points at.
+pub fn access_into(base: RowNumber, t: TypeInner) -> Answer
+    ensures { λ r. ⌜ toResult r ≡ told (accessInto base t) ⌝ }
+{
+    match t {
+        TypeInner::Scalar(_) => invalid_access(base, false),
+        TypeInner::Vector { size: _, scalar } => scalar_type(scalar),
+        TypeInner::Matrix {
+            columns: _,
+            rows,
+            scalar,
+        } => vector_type(rows, scalar),
+        TypeInner::CooperativeMatrix {
+            columns: _,
+            rows: _,
+            scalar: _,
+            role: _,
+        } => invalid_access(base, false),
+        TypeInner::Atomic(_) => invalid_access(base, false),
+        TypeInner::Pointer { base: _, space: _ } => invalid_access(base, false),
+        TypeInner::ValuePointer {
+            size,
+            scalar,
+            space,
+        } => access_component(base, scalar, space, size),
+        TypeInner::Array {
+            base: ty,
+            size: _,
+            stride: _,
+        } => numbered(ty),
+        TypeInner::Struct {
+            first: _,
+            count: _,
+            span: _,
+        } => invalid_access(base, false),
+        TypeInner::Image {
+            dim: _,
+            arrayed: _,
+            class: _,
+        } => invalid_access(base, false),
+        TypeInner::Sampler { comparison: _ } => invalid_access(base, false),
+        TypeInner::AccelerationStructure { vertex_return: _ } => invalid_access(base, false),
+        TypeInner::RayQuery { vertex_return: _ } => invalid_access(base, false),
+        TypeInner::BindingArray { base: ty, size: _ } => numbered(ty),
+    }
+}
+
+// The pointer to a part of a pointer's base.
+pub fn access_through(ty: TypeNumber, space: AddressSpace, t: TypeInner) -> Answer
+    ensures { λ r. ⌜ toResult r ≡ told (accessThrough ty space t) ⌝ }
+{
+    match t {
+        TypeInner::Scalar(_) => invalid_sub_access(ty, false),
+        TypeInner::Vector { size: _, scalar } => value_pointer_type(
+            OptionVectorSize::None,
+            scalar,
+            space,
+        ),
+        TypeInner::Matrix {
+            columns: _,
+            rows,
+            scalar,
+        } => value_pointer_type(OptionVectorSize::Some(rows), scalar, space),
+        TypeInner::CooperativeMatrix {
+            columns: _,
+            rows: _,
+            scalar: _,
+            role: _,
+        } => invalid_sub_access(ty, false),
+        TypeInner::Atomic(_) => invalid_sub_access(ty, false),
+        TypeInner::Pointer { base: _, space: _ } => invalid_sub_access(ty, false),
+        TypeInner::ValuePointer {
+            size: _,
+            scalar: _,
+            space: _,
+        } => invalid_sub_access(ty, false),
+        TypeInner::Array {
+            base,
+            size: _,
+            stride: _,
+        } => pointer_type(base, space),
+        TypeInner::Struct {
+            first: _,
+            count: _,
+            span: _,
+        } => invalid_sub_access(ty, false),
+        TypeInner::Image {
+            dim: _,
+            arrayed: _,
+            class: _,
+        } => invalid_sub_access(ty, false),
+        TypeInner::Sampler { comparison: _ } => invalid_sub_access(ty, false),
+        TypeInner::AccelerationStructure { vertex_return: _ } => invalid_sub_access(ty, false),
+        TypeInner::RayQuery { vertex_return: _ } => invalid_sub_access(ty, false),
+        TypeInner::BindingArray { base, size: _ } => pointer_type(base, space),
+    }
+}
+
+pub fn splat_of(size: VectorSize, value: RowNumber, t: TypeInner) -> Answer
+    ensures { λ r. ⌜ toResult r ≡ told (splatOf size value t) ⌝ }
+{
+    match t {
+        TypeInner::Scalar(scalar) => vector_type(size, scalar),
+        TypeInner::Vector { size: _, scalar: _ } => invalid_scalar(value),
+        TypeInner::Matrix {
+            columns: _,
+            rows: _,
+            scalar: _,
+        } => invalid_scalar(value),
+        TypeInner::CooperativeMatrix {
+            columns: _,
+            rows: _,
+            scalar: _,
+            role: _,
+        } => invalid_scalar(value),
+        TypeInner::Atomic(_) => invalid_scalar(value),
+        TypeInner::Pointer { base: _, space: _ } => invalid_scalar(value),
+        TypeInner::ValuePointer {
+            size: _,
+            scalar: _,
+            space: _,
+        } => invalid_scalar(value),
+        TypeInner::Array {
+            base: _,
+            size: _,
+            stride: _,
+        } => invalid_scalar(value),
+        TypeInner::Struct {
+            first: _,
+            count: _,
+            span: _,
+        } => invalid_scalar(value),
+        TypeInner::Image {
+            dim: _,
+            arrayed: _,
+            class: _,
+        } => invalid_scalar(value),
+        TypeInner::Sampler { comparison: _ } => invalid_scalar(value),
+        TypeInner::AccelerationStructure { vertex_return: _ } => invalid_scalar(value),
+        TypeInner::RayQuery { vertex_return: _ } => invalid_scalar(value),
+        TypeInner::BindingArray { base: _, size: _ } => invalid_scalar(value),
+    }
+}
+
+pub fn swizzle_of(size: VectorSize, vector: RowNumber, t: TypeInner) -> Answer
+    ensures { λ r. ⌜ toResult r ≡ told (swizzleOf size vector t) ⌝ }
+{
+    match t {
+        TypeInner::Scalar(_) => invalid_vector(vector),
+        TypeInner::Vector { size: _, scalar } => vector_type(size, scalar),
+        TypeInner::Matrix {
+            columns: _,
+            rows: _,
+            scalar: _,
+        } => invalid_vector(vector),
+        TypeInner::CooperativeMatrix {
+            columns: _,
+            rows: _,
+            scalar: _,
+            role: _,
+        } => invalid_vector(vector),
+        TypeInner::Atomic(_) => invalid_vector(vector),
+        TypeInner::Pointer { base: _, space: _ } => invalid_vector(vector),
+        TypeInner::ValuePointer {
+            size: _,
+            scalar: _,
+            space: _,
+        } => invalid_vector(vector),
+        TypeInner::Array {
+            base: _,
+            size: _,
+            stride: _,
+        } => invalid_vector(vector),
+        TypeInner::Struct {
+            first: _,
+            count: _,
+            span: _,
+        } => invalid_vector(vector),
+        TypeInner::Image {
+            dim: _,
+            arrayed: _,
+            class: _,
+        } => invalid_vector(vector),
+        TypeInner::Sampler { comparison: _ } => invalid_vector(vector),
+        TypeInner::AccelerationStructure { vertex_return: _ } => invalid_vector(vector),
+        TypeInner::RayQuery { vertex_return: _ } => invalid_vector(vector),
+        TypeInner::BindingArray { base: _, size: _ } => invalid_vector(vector),
+    }
+}

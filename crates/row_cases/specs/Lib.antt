@@ -1,0 +1,4 @@
+pub mod Lines
+pub mod AccessCases
+pub mod Cases
+pub mod Reads

@@ -1,0 +1,189 @@
+// Comparisons, Relational, logical operators and As, by the form of an operand.
+use answers::Answer;
+use ir::OptionBytes;
+use ir::Scalar;
+use ir::ScalarKind;
+use ir::TypeInner;
+use row_rules::values::incompatible_operands;
+use row_rules::values::matrix_type;
+use row_rules::values::scalar_type;
+use row_rules::values::vector_type;
+ghost use mathlib.Core.Path.{_≡_};
+ghost use Rattle.rule.specs.Answers.{told};
+ghost use Rattle.row_rules.specs.Operators.{boolsOf, equalScalars, logicalOf, widthOr, castOf};
+ghost use Rattle.row_rules.specs.Answered.{toResult};
+
+// A bool for each component.
+pub fn bools_of(t: TypeInner) -> Answer
+    ensures { λ r. ⌜ toResult r ≡ told (boolsOf t) ⌝ }
+{
+    match t {
+        TypeInner::Scalar(_) => scalar_type(Scalar::BOOL),
+        TypeInner::Vector { size, scalar: _ } => vector_type(size, Scalar::BOOL),
+        TypeInner::Matrix {
+            columns: _,
+            rows: _,
+            scalar: _,
+        } => incompatible_operands(),
+        TypeInner::CooperativeMatrix {
+            columns: _,
+            rows: _,
+            scalar: _,
+            role: _,
+        } => incompatible_operands(),
+        TypeInner::Atomic(_) => incompatible_operands(),
+        TypeInner::Pointer { base: _, space: _ } => incompatible_operands(),
+        TypeInner::ValuePointer {
+            size: _,
+            scalar: _,
+            space: _,
+        } => incompatible_operands(),
+        TypeInner::Array {
+            base: _,
+            size: _,
+            stride: _,
+        } => incompatible_operands(),
+        TypeInner::Struct {
+            first: _,
+            count: _,
+            span: _,
+        } => incompatible_operands(),
+        TypeInner::Image {
+            dim: _,
+            arrayed: _,
+            class: _,
+        } => incompatible_operands(),
+        TypeInner::Sampler { comparison: _ } => incompatible_operands(),
+        TypeInner::AccelerationStructure { vertex_return: _ } => incompatible_operands(),
+        TypeInner::RayQuery { vertex_return: _ } => incompatible_operands(),
+        TypeInner::BindingArray { base: _, size: _ } => incompatible_operands(),
+    }
+}
+
+fn equal_scalars(k: Scalar, j: Scalar) -> bool
+    ensures { λ r. ⌜ r ≡ equalScalars k j ⌝ }
+{
+    let kind = k.kind;
+    let other = j.kind;
+    (kind.number() == other.number()) & (k.width == j.width)
+}
+
+// Exactly the scalar type BOOL.
+pub fn logical_of(t: TypeInner) -> Answer
+    ensures { λ r. ⌜ toResult r ≡ told (logicalOf t) ⌝ }
+{
+    match t {
+        TypeInner::Scalar(scalar) => {
+            if equal_scalars(scalar, Scalar::BOOL) {
+                scalar_type(Scalar::BOOL)
+            } else {
+                incompatible_operands()
+            }
+        },
+        TypeInner::Vector { size: _, scalar: _ } => incompatible_operands(),
+        TypeInner::Matrix {
+            columns: _,
+            rows: _,
+            scalar: _,
+        } => incompatible_operands(),
+        TypeInner::CooperativeMatrix {
+            columns: _,
+            rows: _,
+            scalar: _,
+            role: _,
+        } => incompatible_operands(),
+        TypeInner::Atomic(_) => incompatible_operands(),
+        TypeInner::Pointer { base: _, space: _ } => incompatible_operands(),
+        TypeInner::ValuePointer {
+            size: _,
+            scalar: _,
+            space: _,
+        } => incompatible_operands(),
+        TypeInner::Array {
+            base: _,
+            size: _,
+            stride: _,
+        } => incompatible_operands(),
+        TypeInner::Struct {
+            first: _,
+            count: _,
+            span: _,
+        } => incompatible_operands(),
+        TypeInner::Image {
+            dim: _,
+            arrayed: _,
+            class: _,
+        } => incompatible_operands(),
+        TypeInner::Sampler { comparison: _ } => incompatible_operands(),
+        TypeInner::AccelerationStructure { vertex_return: _ } => incompatible_operands(),
+        TypeInner::RayQuery { vertex_return: _ } => incompatible_operands(),
+        TypeInner::BindingArray { base: _, size: _ } => incompatible_operands(),
+    }
+}
+
+// The width converted to, or the own one.
+fn width_or(convert: OptionBytes, own: u8) -> u8
+    ensures { λ r. ⌜ r ≡ widthOr convert own ⌝ }
+{
+    match convert {
+        OptionBytes::Some(width) => width,
+        OptionBytes::None => own,
+    }
+}
+
+// A scalar or a vector takes the kind, a matrix keeps its own.
+pub fn cast_of(kind: ScalarKind, convert: OptionBytes, t: TypeInner) -> Answer
+    ensures { λ r. ⌜ toResult r ≡ told (castOf kind convert t) ⌝ }
+{
+    match t {
+        TypeInner::Scalar(scalar) => {
+            let width = width_or(convert, scalar.width);
+            scalar_type(Scalar { kind, width })
+        },
+        TypeInner::Vector { size, scalar } => {
+            let width = width_or(convert, scalar.width);
+            vector_type(size, Scalar { kind, width })
+        },
+        TypeInner::Matrix {
+            columns,
+            rows,
+            scalar,
+        } => {
+            let own = scalar.kind;
+            let width = width_or(convert, scalar.width);
+            matrix_type(columns, rows, Scalar { kind: own, width })
+        },
+        TypeInner::CooperativeMatrix {
+            columns: _,
+            rows: _,
+            scalar: _,
+            role: _,
+        } => incompatible_operands(),
+        TypeInner::Atomic(_) => incompatible_operands(),
+        TypeInner::Pointer { base: _, space: _ } => incompatible_operands(),
+        TypeInner::ValuePointer {
+            size: _,
+            scalar: _,
+            space: _,
+        } => incompatible_operands(),
+        TypeInner::Array {
+            base: _,
+            size: _,
+            stride: _,
+        } => incompatible_operands(),
+        TypeInner::Struct {
+            first: _,
+            count: _,
+            span: _,
+        } => incompatible_operands(),
+        TypeInner::Image {
+            dim: _,
+            arrayed: _,
+            class: _,
+        } => incompatible_operands(),
+        TypeInner::Sampler { comparison: _ } => incompatible_operands(),
+        TypeInner::AccelerationStructure { vertex_return: _ } => incompatible_operands(),
+        TypeInner::RayQuery { vertex_return: _ } => incompatible_operands(),
+        TypeInner::BindingArray { base: _, size: _ } => incompatible_operands(),
+    }
+}

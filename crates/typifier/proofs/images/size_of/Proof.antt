@@ -1,8 +1,0 @@
--- `size_of`: each arm knows its case, and what its calls ensure. Assumes nothing.
-use Rattle.typifier.proofs.images.size_of.Statement.{statement}
-use Rattle.typifier.proofs.images.size_of.Tie as tie
-
-pub size-of-spec : {M : Type 1} → statement M
-size-of-spec =
-    tie.close
-    (tie.spec (λ c. c .match .keys1) (λ c. c .match .keys2) (λ c. c .match .keys3) (λ c. c .match .keys4) (λ c. rw (c .enum-told .given .1)) (λ c. rw (c .enum-told2 .given .1)) (λ c. rw (c .enum-told3 .given .1)) (λ c. rw (c .enum-told4 .given .1)))

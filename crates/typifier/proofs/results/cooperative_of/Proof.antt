@@ -1,8 +1,0 @@
--- `cooperative_of`: each arm knows its case, and what its calls ensure. Assumes nothing.
-use Rattle.typifier.proofs.results.cooperative_of.Statement.{statement}
-use Rattle.typifier.proofs.results.cooperative_of.Tie as tie
-
-pub cooperative-of-spec : {M : Type 1} → statement M
-cooperative-of-spec =
-    tie.close
-    (tie.spec (λ c. c .match .keys1) (λ c. c .match .keys2) (λ c. rw (c .before .scalar .given .1)) (λ c. rw (c .enum-told .given .1)))

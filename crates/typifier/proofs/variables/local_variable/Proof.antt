@@ -1,8 +1,0 @@
--- `local_variable`: each arm knows its case, and what its calls ensure. Assumes nothing.
-use Rattle.typifier.proofs.variables.local_variable.Statement.{statement}
-use Rattle.typifier.proofs.variables.local_variable.Tie as tie
-
-pub local-variable-spec : {M : Type 1} → statement M
-local-variable-spec =
-    tie.close
-    (tie.spec (λ c κs. tt) (λ c κs. tt) (λ c. rw (c .item-type .ensures, c .before .item-at .ensures)))
