@@ -16,7 +16,8 @@ use Rattle.frames.specs.Out.{answerOf, answerFrame}
 use Rattle.frames.proofs.ReadBack.{answer-back}
 use Rattle.rule.specs.Answers.{Typed, Result, told}
 use Rattle.rule.specs.Claim.{absent, among}
-use Rattle.operands.specs.Past.{toResult, answerIn, pastIn}
+use Rattle.row_rules.specs.Answered.{toResult}
+use Rattle.operands.specs.Past.{answerIn, pastIn}
 use Rattle.answering.specs.Outputs.{framesBytes}
 use Rattle.answering.proofs.Bytes.{bytes-append, frame-after}
 

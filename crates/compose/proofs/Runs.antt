@@ -36,7 +36,8 @@ use Rattle.type_methods.specs.Canonical.{equalTypes}
 use Rattle.type_methods.specs.Comparison.{found}
 use Rattle.type_methods.proofs.Laws.{onBool, compare-run}
 use Rattle.row_rules.specs.Operators.{equalScalars}
-use Rattle.operands.specs.Past.{toResult, answerIn, pastIn}
+use Rattle.row_rules.specs.Answered.{toResult}
+use Rattle.operands.specs.Past.{answerIn, pastIn}
 use Rattle.compose.specs.declared.Part.{Part}
 use Rattle.compose.specs.declared.Part.the-variants as Pa
 use Rattle.compose.specs.Verdict.{comeTo, orPart, eachPart, counted, adds, addPart, vectorParts, memberIs, structParts, byForm, verdict}
