@@ -1,4 +1,5 @@
 pub mod Bytes
 pub mod Same
 pub mod Placed
+pub mod Later
 pub mod Worked
