@@ -7,15 +7,12 @@ use mathlib.Core.Option.{Option, none, some}
 use Rattle.ir.specs.declared.TypeNumber.{TypeNumber}
 use Rattle.ir.specs.declared.RowNumber.{RowNumber}
 use Rattle.ir.specs.declared.AddressSpace.{AddressSpace}
-use Rattle.ir.specs.declared.ImageClass.{ImageClass}
 use Rattle.ir.specs.declared.ImageClass.the-variants as Ic
 use Rattle.ir.specs.declared.TypeInner.{TypeInner}
 use Rattle.ir.specs.declared.TypeInner.the-variants as Ti
 use Rattle.ir.specs.declared.TypeForm.{TypeForm}
 use Rattle.ir.specs.declared.TypeForm.the-variants as Tf
 use Rattle.ir.specs.declared.TypeResolution.{TypeResolution}
-use Rattle.ir.specs.declared.RowForm.{RowForm}
-use Rattle.ir.specs.declared.RowForm.the-variants as Ro
 use Rattle.answers.specs.declared.Answer.{Answer}
 use Rattle.answers.specs.declared.Answer.the-variants as An
 use Rattle.archive.specs.declared.Starts.{Starts}

@@ -1,4 +1,5 @@
--- What the code of a row's rule goes by: earlier answers as they stand in the answer buffer, and the forms of its operands' types (document 01, "What must change shape": the `past` closure is a part of the answer buffer).
+-- What the code of a row's rule goes by: earlier answers as they stand in the answer buffer, and the forms of its operands' types (document 01, "What must
+-- change shape": the `past` closure is a part of the answer buffer).
 use Prim.Native.Nat.{ℕ}
 use mathlib.Core.Bool.{cond}
 use mathlib.Core.List.{List}

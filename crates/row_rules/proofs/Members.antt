@@ -1,5 +1,5 @@
 -- AccessIndex bounds a struct by its members (document 01, "A row's type"): of n members listed in order, part i is the i-th where i is below n, and past
--- them there is none. By the place in the list. Assumes nothing.
+-- them there is none. By the place in the list. On Array and BindingArray no bound is checked: both sides are the same. Assumes nothing.
 use Prim.Native.Nat.{ℕ, zero, suc, _≤_, _<_}
 use native.Mathlib.Omega.{arith}
 use mathlib.Core.Path.{_≡_, refl, ap, _∙_}
@@ -10,6 +10,7 @@ use Rattle.ir.specs.declared.TypeNumber.{TypeNumber}
 use Rattle.ir.specs.declared.RowNumber.{RowNumber}
 use Rattle.ir.specs.declared.MemberNumber.{MemberNumber}
 use Rattle.ir.specs.declared.AddressSpace.{AddressSpace}
+use Rattle.ir.specs.declared.ArraySize.{ArraySize}
 use Rattle.ir.specs.declared.TypeInner.the-variants as Ti
 use Rattle.answers.specs.declared.Refusal.the-variants.{OutOfBoundsIndex}
 use Rattle.rule.specs.Answers.{number, value, given, refused}
@@ -46,3 +47,17 @@ module _ (base : RowNumber) (i : ℕ) (f : ℕ → TypeNumber) (m : MemberNumber
 
   pub pointer-past : (ty : TypeNumber) (s : AddressSpace) → n ≤ i → indexThrough base i ty s (listed f n) (Ti.Struct m n t) ≡ refused (OutOfBoundsIndex base i)
   pointer-past ty s h = ap (memberPointer base i s) (listed-past f n i h)
+
+-- an array and a binding array, at every index, and the pointers to them
+module _ (base : RowNumber) (i : ℕ) (l : List TypeNumber) (b : TypeNumber) (z : ArraySize) (t : ℕ) where
+  pub index-array : indexInto base i l (Ti.Array b z t) ≡ given (number b)
+  index-array = refl
+
+  pub index-binding-array : indexInto base i l (Ti.BindingArray b z) ≡ given (number b)
+  index-binding-array = refl
+
+  pub pointer-array : (ty : TypeNumber) (s : AddressSpace) → indexThrough base i ty s l (Ti.Array b z t) ≡ given (value (Ti.Pointer b s))
+  pointer-array ty s = refl
+
+  pub pointer-binding-array : (ty : TypeNumber) (s : AddressSpace) → indexThrough base i ty s l (Ti.BindingArray b z) ≡ given (value (Ti.Pointer b s))
+  pointer-binding-array ty s = refl

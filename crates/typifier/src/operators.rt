@@ -17,12 +17,11 @@ use rule::form_of;
 ghost use mathlib.Core.Path.{_≡_};
 ghost use Rattle.rule.specs.Answers.{resolved};
 ghost use Rattle.rule.specs.Things.{formIn};
-ghost use Rattle.row_rules.specs.Variables.{argument};
 ghost use Rattle.row_rules.specs.Operators.{multiply, binary, relational};
 ghost use Rattle.row_rules.specs.Answered.{toResult};
 ghost use Rattle.operands.specs.Past.{answerIn, ruled, rightBy, leftBy, rightRead};
 
-// The left operand is looked into first.
+// The left form is known: looks into the right.
 fn look_right(
     frames: &[u8],
     s: Starts,
@@ -39,6 +38,7 @@ fn look_right(
     }
 }
 
+// Both are read: looks into the left.
 fn look_left(
     frames: &[u8],
     s: Starts,
@@ -54,6 +54,7 @@ fn look_left(
     }
 }
 
+// The left operand is read: reads the right.
 fn read_right(
     frames: &[u8],
     s: Starts,
@@ -93,6 +94,7 @@ fn multiply(
     }
 }
 
+// By the operator; all but Multiply read left only.
 pub(crate) fn binary(
     frames: &[u8],
     s: Starts,
