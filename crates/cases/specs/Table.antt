@@ -1,5 +1,5 @@
--- Document 01, "Cases", P: worked cases, each the whole text and the whole output, written by hand from the document. `file` and
--- the other order of the value pointer are more.
+-- Document 01, "Cases", P: worked cases, each the whole text and the whole output, written by hand from the document. `file`,
+-- the other order of the value pointer, and the canonical forms and bases are more.
 use Prim.Native.Nat.{ℕ, _+_, _*_, _-_}
 use Prim.Native.Char.{code}
 use Prim.Native.String.{String}
@@ -12,6 +12,17 @@ use Rattle.answers.specs.declared.Outcome.{Outcome}
 use Rattle.answers.specs.declared.Outcome.the-variants.{Accepted, Long, Field}
 use Rattle.answers.specs.declared.Sameness.{Sameness}
 use Rattle.answers.specs.declared.Sameness.the-variants.{Same, Different}
+use Rattle.answers.specs.declared.CanonicalType.{CanonicalType}
+use Rattle.answers.specs.declared.CanonicalType.the-variants as Ct
+use Rattle.answers.specs.declared.PointerBase.{PointerBase}
+use Rattle.answers.specs.declared.PointerBase.the-variants as Pb
+use Rattle.ir.specs.declared.AddressSpace.the-variants as Sp
+use Rattle.ir.specs.declared.OptionVectorSize.the-variants as Ov
+use Rattle.ir.specs.declared.Scalar.{Scalar}
+use Rattle.ir.specs.declared.ScalarKind.the-variants as Sk
+use Rattle.ir.specs.declared.TypeInner.the-variants as Ti
+use Rattle.ir.specs.declared.TypeResolution.the-variants as Tr
+use Rattle.ir.specs.declared.VectorSize.the-variants as Vs
 use Rattle.frames.specs.declared.Frame.{Frame}
 use Rattle.frames.specs.Bytes.{frameAt}
 
@@ -43,14 +54,17 @@ frames (s ∷ ss) = paired (bytes s) ++ frames ss
 abbrev frame : String → Frame
 frame s = frameAt (frames (s ∷ [])) 0
 
--- what is asked of a text: to read it, or whether two frames are the same type
+-- what is asked of a text: to read it, whether two frames are the same type, the canonical form of a type, or its base
 pub data Asked : Type 0 where
   read : Asked
   same : Frame → Frame → Asked
+  canonical base : ℕ → Asked
 
 pub data Answered : Type 0 where
   outcome : Outcome → Answered
   sameness : Sameness → Answered
+  canonicalIs : CanonicalType → Answered
+  baseIs : PointerBase → Answered
 
 -- a case: the text, the frame buffer lent and what is asked; the answer and the frame buffer after
 pub record Case : Type 0 where
@@ -94,6 +108,28 @@ forms =
 abbrev compared : String → String → Sameness → Case
 compared l r answer =
     record { text = lines forms; lent = replicate 81 7; asked = same (frame l) (frame r); answer = sameness answer; after = frames forms ++ 7 ∷ [] }
+
+-- types 0 to 9: f32, vec3 of it, a pointer to type 0 in Function, one to type 1 in Private, kind 200, a pointer to it, the value pointers to f32 in Function and
+-- to a vec3 of it in Uniform, an atomic of u32, a pointer to it in WorkGroup
+abbrev pointers : List String
+pointers =
+    "01010000020400000000000000000000" ∷
+    "01020300020400000000000000000000" ∷
+    "01060000000000000000000000000000" ∷
+    "01060100000001000000000000000000" ∷
+    "01c80000000000000000000000000000" ∷
+    "01060400000000000000000000000000" ∷
+    "01070000020400000000000000000000" ∷
+    "01070300020403000000000000000000" ∷
+    "01050000010400000000000000000000" ∷
+    "01060800000002000000000000000000" ∷ []
+
+abbrev f32 : Scalar
+f32 = record { kind = Sk.Float; width = 4 }
+
+-- a question about that file's types
+abbrev ofPointers : Asked → Answered → Case
+ofPointers a answer = record { text = lines pointers; lent = replicate 161 7; asked = a; answer = answer; after = frames pointers ++ 7 ∷ [] }
 
 -- the fourteen kinds of type, two members, the eight kinds of item, the thirty-four kinds of row, three components
 abbrev file : List String
@@ -173,6 +209,25 @@ table =
     ∷ compared "09070000020400000000000000000000" "08000100000000000000000000000000" Same
     -- two alike structs differ
     ∷ compared "08000200000000000000000000000000" "08000300000000000000000000000000" Different
+    -- the value pointer of a pointer to a scalar or vector, in its space; every other type is its own, by its number
+    ∷ ofPointers (canonical 2) (canonicalIs (Ct.Form (Tr.Value (Ti.ValuePointer Ov.None f32 Sp.Function))))
+    ∷ ofPointers (canonical 3) (canonicalIs (Ct.Form (Tr.Value (Ti.ValuePointer (Ov.Some Vs.Tri) f32 Sp.Private))))
+    ∷ ofPointers (canonical 9) (canonicalIs (Ct.Form (Tr.Handle (record { 0 = 9 }))))
+    ∷ ofPointers (canonical 6) (canonicalIs (Ct.Form (Tr.Handle (record { 0 = 6 }))))
+    -- 22 where the type, or a pointer's base, is of unknown kind; 6 for a number out of range; the file's own number first
+    ∷ ofPointers (canonical 4) (canonicalIs Ct.Newer)
+    ∷ ofPointers (canonical 5) (canonicalIs Ct.Newer)
+    ∷ ofPointers (canonical 10) (canonicalIs Ct.Index)
+    ∷ record { text = lines noCount; lent = replicate 33 7; asked = canonical 10; answer = canonicalIs (Ct.NotAccepted (Field 1)); after = frames noCount ++ 7 ∷ [] }
+    -- the base: a number, also where its kind is unknown; of a value pointer a scalar or a vector by value; no pointer
+    ∷ ofPointers (base 2) (baseIs (Pb.Base (Tr.Handle (record { 0 = 0 }))))
+    ∷ ofPointers (base 5) (baseIs (Pb.Base (Tr.Handle (record { 0 = 4 }))))
+    ∷ ofPointers (base 6) (baseIs (Pb.Base (Tr.Value (Ti.Scalar f32))))
+    ∷ ofPointers (base 7) (baseIs (Pb.Base (Tr.Value (Ti.Vector Vs.Tri f32))))
+    ∷ ofPointers (base 0) (baseIs Pb.NotPointer)
+    ∷ ofPointers (base 4) (baseIs Pb.Newer)
+    ∷ ofPointers (base 10) (baseIs Pb.Index)
+    ∷ record { text = lines noCount; lent = replicate 33 7; asked = base 10; answer = baseIs (Pb.NotAccepted (Field 1)); after = frames noCount ++ 7 ∷ [] }
     -- the paper's file is read to its last row
     ∷ record { text = lines paper; lent = replicate 176 7; asked = read; answer = outcome (Accepted 11); after = frames paper }
     -- a frame of each kind

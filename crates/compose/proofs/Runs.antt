@@ -36,7 +36,7 @@ use Rattle.type_methods.specs.Canonical.{equalTypes}
 use Rattle.type_methods.specs.Comparison.{found}
 use Rattle.type_methods.proofs.Laws.{onBool, compare-run}
 use Rattle.row_rules.specs.Operators.{equalScalars}
-use Rattle.row_rules.specs.Answered.{toResult}
+use Rattle.row_rules.specs.Answered.{toResult, membersIn}
 use Rattle.operands.specs.Past.{answerIn, pastIn}
 use Rattle.compose.specs.declared.Part.{Part}
 use Rattle.compose.specs.declared.Part.the-variants as Pa
@@ -45,7 +45,7 @@ use Rattle.compose.specs.declared.OptionVerdict.{OptionVerdict}
 use Rattle.compose.specs.declared.OptionVerdict.the-variants as Ov
 use Rattle.compose.specs.declared.Added.{Added}
 use Rattle.compose.specs.declared.Added.the-variants as Ad
-use Rattle.compose.specs.Judged.{toJudged, judgedBy, partsIn, membersIn, askedOf, columnSeen, memberType, partIs, partSaid, partVerdict, answerVerdict, partJudged, answerAdded, countAdded, formAdded, addedBy}
+use Rattle.compose.specs.Judged.{toJudged, judgedBy, partsIn, askedOf, columnSeen, memberType, partIs, partSaid, partVerdict, answerVerdict, partJudged, answerAdded, countAdded, formAdded, addedBy}
 
 -- with the type of a component's row; refused is 33, newer 22 at the component
 abbrev pub onAnswer : ℕ → (TypeResolution → Result Judgement) → Answer → Result Judgement

@@ -28,6 +28,7 @@ use Rattle.type_methods.specs.declared.OptionBool.{OptionBool}
 use Rattle.type_methods.specs.declared.OptionBool.the-variants as Ob
 use Rattle.type_methods.specs.Canonical.{equalTypes}
 use Rattle.type_methods.specs.Comparison.{likeness}
+use Rattle.row_rules.specs.Answered.{membersIn}
 use Rattle.operands.specs.Past.{answerIn, pastIn}
 use Rattle.compose.specs.declared.Part.{Part}
 use Rattle.compose.specs.declared.Part.the-variants as Pa
@@ -54,10 +55,6 @@ judgedBy fr s answers places rule = run (seeIn fr s) (pastIn answers places) new
 -- the components of a compose
 abbrev pub partsIn : List ℕ → Starts → ComponentNumber → ℕ → List RowNumber
 partsIn fr s first n = listed (λ (i : ℕ). componentIn fr s first i) n
-
--- the types of a struct's members
-abbrev pub membersIn : List ℕ → Starts → MemberNumber → ℕ → List TypeNumber
-membersIn fr s first n = listed (λ (i : ℕ). memberIn fr s first i .ty) n
 
 -- WHAT IS ASKED OF EACH COMPONENT: that it is a column, an element of an array, or the struct's member of its index
 
