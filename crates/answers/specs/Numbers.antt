@@ -14,6 +14,11 @@ use Rattle.answers.specs.declared.PointerBase.{PointerBase}
 use Rattle.answers.specs.declared.PointerBase.the-variants as P
 use Rattle.answers.specs.declared.CanonicalType.{CanonicalType}
 use Rattle.answers.specs.declared.CanonicalType.the-variants as C
+use Rattle.answers.specs.declared.Answer.{Answer}
+use Rattle.answers.specs.declared.RowType.{RowType}
+use Rattle.answers.specs.declared.RowType.the-variants as Rt
+use Rattle.answers.specs.declared.ComposeVerdict.{ComposeVerdict}
+use Rattle.answers.specs.declared.ComposeVerdict.the-variants as Cv
 use Rattle.ir.specs.declared.TypeResolution.{TypeResolution}
 
 -- the values of a refusal's frame, family 10: number, place, index, indexed
@@ -98,3 +103,21 @@ canonicalSaid (C.Form t) = type t
 canonicalSaid C.Newer = refused (at 22 0)
 canonicalSaid C.Index = refused (at 6 0)
 canonicalSaid (C.NotAccepted o) = refused (outcomeValues o)
+
+-- what is said of one row, or of one compose: what was asked for, or a number with its place
+pub data SaidOne (A : Type 0) : Type 0 where
+  asked : A → SaidOne A
+  instead : Refused → SaidOne A
+
+-- a row that the file does not have is number 6, place 0
+abbrev pub rowTypeSaid : RowType → SaidOne Answer
+rowTypeSaid (Rt.Answered a) = asked a
+rowTypeSaid Rt.Index = instead (at 6 0)
+rowTypeSaid (Rt.NotAccepted o) = instead (outcomeValues o)
+
+-- and so is a row that is no compose: no compose has that number
+abbrev pub composeVerdictSaid : ComposeVerdict → SaidOne Verdict
+composeVerdictSaid (Cv.Judged v) = asked v
+composeVerdictSaid Cv.NotCompose = instead (at 6 0)
+composeVerdictSaid Cv.Index = instead (at 6 0)
+composeVerdictSaid (Cv.NotAccepted o) = instead (outcomeValues o)

@@ -75,3 +75,18 @@ pub enum CanonicalType {
     Index,
     NotAccepted(Outcome),
 }
+
+// What asking for a row's type gives: its answer, or that the file has no such row.
+pub enum RowType {
+    Answered(Answer),
+    Index,
+    NotAccepted(Outcome),
+}
+
+// What asking for a compose's verdict gives: the verdict, that the row is no compose, or that the file has no such row.
+pub enum ComposeVerdict {
+    Judged(Verdict),
+    NotCompose,
+    Index,
+    NotAccepted(Outcome),
+}
