@@ -1,6 +1,7 @@
 pub mod Bytes
 pub mod Same
 pub mod Placed
+pub mod Buffer
 pub mod Room
 pub mod Later
 pub mod Worked

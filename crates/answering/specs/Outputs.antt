@@ -2,6 +2,8 @@
 use Prim.Native.Nat.{ℕ, zero, suc}
 use mathlib.Core.List.{List, [], _∷_, _++_}
 use mathlib.Core.Option.{Option, none, some}
+use lib.ListN.{length}
+use Rattle.scan.specs.Lists.{build}
 use Rattle.frames.specs.declared.Frame.{Frame}
 use Rattle.frames.specs.Bytes.{bytesOf}
 use Rattle.archive.specs.Starts.{startsOf, rowCount}
@@ -36,3 +38,7 @@ framesBytes (f ∷ l) = bytesOf f ++ framesBytes l
 -- the bytes handed back of a file, whose frames these are
 abbrev pub outputBytes : List ℕ → List ℕ
 outputBytes fr = framesBytes (outputs (see fr) (rowCount (startsOf fr)))
+
+-- at which of these frames the answer of each of the first n rows stands: after all that is handed back of the rows before it
+abbrev pub placesOf : List ℕ → ℕ → List ℕ
+placesOf fr n = build (λ (k : ℕ). length (outputs (see fr) k)) n

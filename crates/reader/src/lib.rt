@@ -1,4 +1,6 @@
 // The public functions over a file. Each checks the file first (document 01, "Numbers handed back").
+pub mod rows;
+
 use answers::CanonicalType;
 use answers::Outcome;
 use answers::PointerBase;
@@ -23,7 +25,7 @@ pub enum OptionUsize {
     Some(usize),
 }
 
-fn frames_in(o: Outcome) -> OptionUsize
+pub(crate) fn frames_in(o: Outcome) -> OptionUsize
     ensures { λ r. ⌜ r ≡ framesIn o ⌝ }
 {
     match o {
@@ -39,7 +41,7 @@ fn frames_in(o: Outcome) -> OptionUsize
 
 // Checks 1 to 6, with the length of the answer buffer where one is lent. Numbers 1 to 3 change no buffer; otherwise the frames stand
 // at the front of the frame buffer, and its bytes past them stay.
-fn read_with(text: &[u8], frames: &mut [u8], room: AnswerRoom) -> Outcome
+pub(crate) fn read_with(text: &[u8], frames: &mut [u8], room: AnswerRoom) -> Outcome
     ensures { λ r. ⌜ (r ≡ readFile (now (text .entry)) (length (now (frames .entry))) room) × (now (frames .exit) ≡ framesAfter (now (text .entry)) (now (frames .entry)) room) ⌝ }
 {
     let read = read_text(text, frames, room);

@@ -1,0 +1,264 @@
+-- One row of a file that is typed in order: its answer, and its verdict where it is a compose, are written after what is handed back of the rows before it. From the
+-- laws of the answer buffer (crate answering). Assumes nothing.
+use Prim.Native.Nat.{ℕ, zero, suc, _+_, _*_, _-_, _≤_, _<_}
+use native.Mathlib.Decide.{decLe}
+use native.Mathlib.Omega.{arith}
+use mathlib.Core.Path.{_≡_, refl, sym, ap, _∙_}
+use mathlib.Core.Bool.{true}
+use mathlib.Core.List.{List, [], _∷_, _++_, append-assoc, append-nil}
+use mathlib.Core.Option.{Option, none, some}
+use native.Mathlib.Numerals.{add-one}
+use lib.ListN.{length, take, drop, length-append, length-take, length-drop, take-append-drop}
+use lib.Seq.{drop-drop, take-at, drop-at}
+use Rattle.ir.specs.declared.TypeNumber.{TypeNumber}
+use Rattle.ir.specs.declared.RowNumber.{RowNumber}
+use Rattle.ir.specs.declared.ComponentNumber.{ComponentNumber}
+use Rattle.ir.specs.declared.Expression.the-variants as Ex
+use Rattle.ir.specs.declared.RowForm.{RowForm}
+use Rattle.ir.specs.declared.RowForm.the-variants as Ro
+use Rattle.ir.specs.declared.TypeResolution.the-variants as Tr
+use Rattle.ir.specs.Numbers.{rowKindOf}
+use Rattle.answers.specs.declared.Answer.{Answer}
+use Rattle.answers.specs.declared.Answer.the-variants as An
+use Rattle.answers.specs.declared.Outcome.the-variants.{Accepted}
+use Rattle.answers.specs.declared.Verdict.{Verdict}
+use Rattle.answers.specs.declared.Verdict.the-variants as Vd
+use Rattle.frames.specs.declared.Frame.{Frame}
+use Rattle.frames.specs.Bytes.{byte, half, word, frameAt, frameCount, putFrame}
+use Rattle.frames.specs.Forms.{rowAs, rowOf}
+use Rattle.frames.specs.Out as Out
+use Rattle.frames.specs.Out.{answerFrame}
+use Rattle.archive.specs.declared.Starts.{Starts}
+use Rattle.archive.specs.Starts.{startsOf, rowCount}
+use Rattle.archive.specs.Names.{isRow}
+use Rattle.archive.specs.Access.{rowIn}
+use Rattle.archive.proofs.Owners.{starts-small}
+use Rattle.rule.specs.Answers.{Judgement, Result, newer, rowFrame, verdictFrame}
+use Rattle.rule.specs.Things.{Sight, seeRow, seeIn, see}
+use Rattle.rule.specs.Rule.{Rule, run}
+use Rattle.rule.specs.Claim.{ours}
+use Rattle.row_rules.specs.Typed.{typed, typing}
+use Rattle.row_rules.specs.Answered.{toResult}
+use Rattle.operands.specs.Past.{pastIn, ruled}
+use Rattle.compose.specs.Verdict.{verdict}
+use Rattle.compose.specs.Rows.{ofShown, verdictRule, judged, verdictOf}
+use Rattle.compose.specs.Judged.{toJudged, judgedBy, partsIn}
+use Rattle.typifier_laws.proofs.Good.{Good, good-when}
+use Rattle.typifier_laws.proofs.Range.{row-there}
+use Rattle.answering.specs.Outputs.{rowAnswer, verdictFrames, rowFrames, outputs, framesBytes, outputBytes, placesOf}
+use Rattle.answering.proofs.Bytes.{bytes-length, bytes-append, put-after}
+use Rattle.answering.proofs.Buffer.{run-buffer}
+use Rattle.answering.proofs.Room.{row-compose, row-is}
+use Rattle.reader.specs.Typing.{Ready, answersWritten}
+
+-- the code's answers and verdicts are written as the definitions have them
+pub answer-framed : (a : Answer) → answerFrame a ≡ rowFrame (toResult a)
+answer-framed (An.Resolved (Tr.Handle n)) = refl
+answer-framed (An.Resolved (Tr.Value t)) = refl
+answer-framed (An.Refused e) = refl
+answer-framed (An.Newer r) = refl
+
+pub verdict-framed : (r : RowNumber) (v : Verdict) → Out.verdictFrame r v ≡ verdictFrame r (toJudged v)
+verdict-framed r Vd.Passes = refl
+verdict-framed r Vd.ComposedType = refl
+verdict-framed r (Vd.ComponentCount e g) = refl
+verdict-framed r (Vd.ComponentType i) = refl
+verdict-framed r (Vd.ComponentRefused i) = refl
+verdict-framed r Vd.NewerComposed = refl
+verdict-framed r (Vd.NewerComponent i) = refl
+
+-- what is handed back grows
+pub grows : (sight : Sight) (m n : ℕ) → m ≤ n → length (outputs sight m) ≤ length (outputs sight n)
+unfolding outputs
+grows sight m zero h = let e : m ≡ 0 = omega arith in rw e (omega arith)
+grows sight m (suc n) h = go (decLe m n) (grows sight m n)
+  where
+    go : Dec (m ≤ n) → (m ≤ n → length (outputs sight m) ≤ length (outputs sight n)) → length (outputs sight m) ≤ length (outputs sight n ++ rowFrames sight n)
+    go (yes l) ih = omega (arith, ih l, length-append (outputs sight n) (rowFrames sight n))
+    go (no l) ih = let e : m ≡ suc n = omega arith in rw e (omega arith)
+
+-- at most two frames a row
+pub two-a-row : (sight : Sight) (m : ℕ) → length (outputs sight m) ≤ 2 * m
+unfolding outputs
+two-a-row sight zero = omega arith
+two-a-row sight (suc m) = omega (arith, two-a-row sight m, go (verdictOf sight m), length-append (outputs sight m) (rowFrames sight m))
+  where
+    go : (v : Option (Result Judgement)) → length (verdictFrames m v) ≤ 1
+    go none = omega arith
+    go (some j) = omega arith
+
+module _ (fr : List ℕ) (a : ℕ) (ready : Ready fr a) where
+  pub good-of : Good fr
+  good-of = good-when fr (ready .1) .0 (ready .0)
+
+  pub few-rows : rowCount (startsOf fr) ≤ 1024
+  few-rows = omega (arith, starts-small fr 1024 (ready .1) .1)
+
+  pub room-for : (m : ℕ) → m ≤ rowCount (startsOf fr) → 16 * length (outputs (see fr) m) ≤ a
+  room-for m h =
+      omega (arith, grows (see fr) m (rowCount (startsOf fr)) h, bytes-length (outputs (see fr) (rowCount (startsOf fr))), ready .2)
+
+-- a row of byte 5 is a compose, and no other has a verdict
+compose-row : (f : Frame) → byte f 1 ≡ 5 → rowOf f ≡ Ro.Known (Ex.Compose (record { 0 = half f 2 }) (half f 4) (record { 0 = word f 12 }))
+unfolding rowOf
+compose-row f e = ap (λ (x : ℕ). rowAs (rowKindOf x) f) e
+
+module _ (fr : List ℕ) (m : ℕ) (here : m < rowCount (startsOf fr)) where
+  abbrev frame : Frame
+  frame = frameAt fr (startsOf fr .rows + m)
+
+  pub compose-rule : byte frame 1 ≡ 5
+      → verdictRule (see fr) m ≡ some (verdict (record { 0 = half frame 2 }) (partsIn fr (startsOf fr) (record { 0 = word frame 12 }) (half frame 4)))
+  compose-rule e = ap (λ (x : RowForm). ofShown (seeRow fr (startsOf fr) x)) (row-is fr (record { 0 = m }) (row-there fr m here) ∙ compose-row frame e)
+
+  pub no-rule : (byte frame 1 ≡ 5 → ⊥) → verdictRule (see fr) m ≡ none
+  no-rule h = go (verdictRule (see fr) m) refl
+    where
+      go : (o : Option (Rule Judgement)) → verdictRule (see fr) m ≡ o → verdictRule (see fr) m ≡ none
+      go none q = q
+      go (some r) q = absurd (h (row-compose fr (rowIn fr (startsOf fr) (record { 0 = m })) r frame (row-is fr (record { 0 = m }) (row-there fr m here)) q))
+
+-- a frame put after those of a list joins them, over a buffer b as it was
+put-next : (l : List Frame) (f : Frame) (an b : List ℕ) → an ≡ framesBytes l ++ drop (16 * length l) b → 16 * length l + 16 ≤ length b
+    → putFrame an (length l) f ≡ framesBytes (l ++ (f ∷ [])) ++ drop (16 * length (l ++ (f ∷ []))) b
+put-next l f an b e h =
+    let n : 16 * length (l ++ (f ∷ [])) ≡ 16 * length l + 16 = omega (arith, length-append l (f ∷ [])) in
+    ap (λ (x : List ℕ). putFrame x (length l) f) e ∙ put-after l f (drop (16 * length l) b) (omega (arith, length-drop (16 * length l) b))
+    ∙ ap (λ (x : List ℕ). framesBytes (l ++ (f ∷ [])) ++ x) (drop-drop 16 (16 * length l) b ∙ ap (λ (k : ℕ). drop k b) (sym n))
+
+-- and the frames before it stay
+pub before : (l : List Frame) (f : Frame) (rest : List ℕ) → take (16 * length l) (framesBytes (l ++ (f ∷ [])) ++ rest) ≡ framesBytes l
+before l f rest =
+    ap (λ (x : List ℕ). take (16 * length l) (x ++ rest)) (bytes-append l (f ∷ []))
+    ∙ ap (take (16 * length l)) (append-assoc (framesBytes l) (framesBytes (f ∷ [])) rest) ∙ take-at (framesBytes l) (framesBytes (f ∷ []) ++ rest) (16 * length l) (bytes-length l)
+
+-- ONE ROW, m, over the buffer as it is before it: the frames handed back so far, and the rest
+module _ (fr an : List ℕ) (m : ℕ) (ready : Ready fr (length an)) (here : m < rowCount (startsOf fr))
+    (et : take (16 * length (outputs (see fr) m)) an ≡ framesBytes (outputs (see fr) m)) where
+  abbrev outs : List Frame
+  outs = outputs (see fr) m
+
+  abbrev at : ℕ
+  at = length (outputs (see fr) m)
+
+  whole : an ≡ framesBytes outs ++ drop (16 * at) an
+  whole = sym (take-append-drop (16 * at) an) ∙ ap (λ (l : List ℕ). l ++ drop (16 * at) an) et
+
+  -- a rule that is run over those frames gives our outcome
+  pub ours-here : {A : Type 0} (s : Starts) (b places : List ℕ) (rule : Rule A) → s ≡ startsOf fr → b ≡ framesBytes outs → places ≡ placesOf fr m
+      → run (seeIn fr s) (pastIn b places) newer rule ≡ ours (see fr) typing m rule
+  ours-here s b places rule es eb ep =
+      rw (es, ep, eb ∙ sym (append-nil (framesBytes outs))) (run-buffer fr (good-of fr (length an) ready) m (omega arith) [] rule)
+
+  pub more : at + 1 ≤ length (outputs (see fr) (suc m))
+  unfolding outputs
+  more = omega (arith, length-append outs (rowFrames (see fr) m))
+
+  module _ (a : Answer) (last : List ℕ) (ea : toResult a ≡ rowAnswer (see fr) m) (el : last ≡ putFrame an (length (outputs (see fr) m)) (answerFrame a)) where
+    abbrev f : Frame
+    f = rowFrame (rowAnswer (see fr) m)
+
+    pub row-put : last ≡ framesBytes (outs ++ (f ∷ [])) ++ drop (16 * length (outs ++ (f ∷ []))) an
+    row-put =
+        el ∙ ap (putFrame an at) (answer-framed a ∙ ap rowFrame ea)
+        ∙ put-next outs f an an whole (omega (arith, room-for fr (length an) ready (suc m) (omega arith), more))
+
+    -- no compose: the row's answer is all
+    pub row-done : verdictRule (see fr) m ≡ none → (at + 1 ≡ length (outputs (see fr) (m + 1))) × (last ≡ framesBytes (outputs (see fr) (m + 1)) ++ drop (16 * (at + 1)) an)
+    unfolding outputs
+    row-done q =
+        let e : outputs (see fr) (m + 1) ≡ outs ++ (f ∷ []) = rw add-one (ap (λ (v : Option (Rule Judgement)). outs ++ (f ∷ verdictFrames m (judged (see fr) m v))) q) in
+        let n : length (outs ++ (f ∷ [])) ≡ at + 1 = length-append outs (f ∷ []) in
+        (sym (ap length e ∙ n), row-put ∙ ap (λ (k : ℕ). framesBytes (outs ++ (f ∷ [])) ++ drop (16 * k) an) n ∙ ap (λ (l : List Frame). framesBytes l ++ drop (16 * (at + 1)) an) (sym e))
+
+    -- a compose: its verdict is put after it
+    pub compose-done : (rule : Rule Judgement) (v : Verdict) (end : List ℕ) → verdictRule (see fr) m ≡ some rule → toJudged v ≡ ours (see fr) typing m rule
+        → end ≡ putFrame last (at + 1) (Out.verdictFrame (record { 0 = m }) v)
+        → (at + 1 + 1 ≡ length (outputs (see fr) (m + 1))) × (end ≡ framesBytes (outputs (see fr) (m + 1)) ++ drop (16 * (at + 1 + 1)) an)
+    unfolding outputs
+    compose-done rule v end q ev ee =
+        let g : Frame = verdictFrame (record { 0 = m }) (ours (see fr) typing m rule) in
+        let both : outs ++ (f ∷ g ∷ []) ≡ (outs ++ (f ∷ [])) ++ (g ∷ []) = sym (append-assoc outs (f ∷ []) (g ∷ [])) in
+        let e : outputs (see fr) (m + 1) ≡ (outs ++ (f ∷ [])) ++ (g ∷ []) = rw add-one (ap (λ (x : Option (Rule Judgement)). outs ++ (f ∷ verdictFrames m (judged (see fr) m x))) q ∙ both) in
+        let n : length (outs ++ (f ∷ [])) ≡ at + 1 = length-append outs (f ∷ []) in
+        let k : length ((outs ++ (f ∷ [])) ++ (g ∷ [])) ≡ at + 1 + 1 = length-append (outs ++ (f ∷ [])) (g ∷ []) ∙ ap (λ (x : ℕ). x + 1) n in
+        let room : 16 * length (outs ++ (f ∷ [])) + 16 ≤ length an = omega (arith, n, k, ap length e, room-for fr (length an) ready (m + 1) (omega arith)) in
+        (
+          sym (ap length e ∙ k),
+          ee ∙ ap (λ (x : ℕ). putFrame last x (Out.verdictFrame (record { 0 = m }) v)) (sym n) ∙ ap (putFrame last (length (outs ++ (f ∷ [])))) (verdict-framed (record { 0 = m }) v ∙ ap (verdictFrame (record { 0 = m })) ev)
+          ∙ put-next (outs ++ (f ∷ [])) g last an row-put room ∙ ap (λ (x : ℕ). framesBytes ((outs ++ (f ∷ [])) ++ (g ∷ [])) ++ drop (16 * x) an) k ∙ ap (λ (l : List Frame). framesBytes l ++ drop (16 * (at + 1 + 1)) an) (sym e),
+        )
+
+-- THE SAME as the code has it: `at` is the next frame, `s` and `places` are as the definitions have them
+module _ (fr an places : List ℕ) (s : Starts) (row : RowNumber) (at : ℕ) (ready : Ready fr (length an)) (es : s ≡ startsOf fr) (below : row .0 < rowCount s)
+    (ea : at ≡ length (outputs (see fr) (row .0))) (et : take (16 * at) an ≡ framesBytes (outputs (see fr) (row .0))) (ep : places ≡ placesOf fr (row .0)) where
+  here : row .0 < rowCount (startsOf fr)
+  here = rw es at below
+
+  outs-there : take (16 * length (outputs (see fr) (row .0))) an ≡ framesBytes (outputs (see fr) (row .0))
+  outs-there = rw ea at et
+
+  pub small-here : at ≤ 2048
+  small-here = omega (arith, ea, two-a-row (see fr) (row .0), here, few-rows fr (length an) ready)
+
+  -- there is room for the row's frames
+  pub room-here : 16 * at + 16 ≤ length an
+  room-here = omega (arith, ea, room-for fr (length an) ready (suc (row .0)) (omega (arith, here)), more fr an (row .0) ready here outs-there)
+
+  module _ (a : Answer) (last : List ℕ) (frame : Frame) (ra : toResult a ≡ ruled fr s (take (16 * at) an) places (typed row)) (el : last ≡ putFrame an at (answerFrame a))
+      (ef : frame ≡ frameAt fr (s .rows + row .0)) where
+    answer-is : toResult a ≡ rowAnswer (see fr) (row .0)
+    unfolding ruled
+    answer-is = ra ∙ ours-here fr an (row .0) ready here outs-there s (take (16 * at) an) places (typed row) es et ep
+
+    last-is : last ≡ putFrame an (length (outputs (see fr) (row .0))) (answerFrame a)
+    last-is = rw ea at el
+
+    frame-is : frame ≡ frameAt fr (startsOf fr .rows + row .0)
+    frame-is = rw es at ef
+
+    -- the frames before the row stay
+    kept : take (16 * at) last ≡ framesBytes (outputs (see fr) (row .0))
+    kept =
+        ap (λ (k : ℕ). take (16 * k) last) ea
+        ∙ ap (take (16 * length (outputs (see fr) (row .0)))) (row-put fr an (row .0) ready here outs-there a last answer-is last-is)
+        ∙ before (outputs (see fr) (row .0)) (rowFrame (rowAnswer (see fr) (row .0))) _
+
+    pub still : 16 * at ≤ length last
+    still = omega (arith, ap length kept, bytes-length (outputs (see fr) (row .0)), ea, length-take (16 * at) last)
+
+    pub step-row : (frame .b1 ≡ 5 → ⊥) → (at + 1 ≡ length (outputs (see fr) (row .0 + 1))) × (last ≡ framesBytes (outputs (see fr) (row .0 + 1)) ++ drop (16 * (at + 1)) an)
+    step-row h =
+        rw ea
+        (row-done fr an (row .0) ready here outs-there a last answer-is last-is (no-rule fr (row .0) here (λ e. h (ap (λ (x : Frame). x .b1) frame-is ∙ e))))
+
+    pub step-compose : frame .b1 ≡ 5 → (v : Verdict) (end : List ℕ)
+        → toJudged v ≡ judgedBy fr s (take (16 * at) last) places (verdict (record { 0 = half frame 2 }) (partsIn fr s (record { 0 = word frame 12 }) (half frame 4)))
+        → end ≡ putFrame last (at + 1) (Out.verdictFrame row v)
+        → (at + 1 + 1 ≡ length (outputs (see fr) (row .0 + 1))) × (end ≡ framesBytes (outputs (see fr) (row .0 + 1)) ++ drop (16 * (at + 1 + 1)) an)
+    unfolding judgedBy
+    step-compose h v end rv ee =
+        let rule : Frame → Starts → Rule Judgement = λ f z. verdict (record { 0 = half f 2 }) (partsIn fr z (record { 0 = word f 12 }) (half f 4)) in
+        let g : Frame = frameAt fr (startsOf fr .rows + row .0) in
+        let j : toJudged v ≡ ours (see fr) typing (row .0) (rule g (startsOf fr)) =
+            rv ∙ ours-here fr an (row .0) ready here outs-there s (take (16 * at) last) places (rule frame s) es kept ep ∙ rw (es, frame-is) in
+        rw ea
+        (compose-done fr an (row .0) ready here outs-there a last answer-is last-is (rule g (startsOf fr)) v end (compose-rule fr (row .0) here (ap (λ (x : Frame). x .b1) (sym frame-is) ∙ h)) j (rw ea at ee))
+
+-- a buffer whose front is made anew is past it as it was
+pub rest-stays : (l an b : List ℕ) (i j : ℕ) → an ≡ l ++ drop i b → length l ≡ i → i ≤ j → drop j an ≡ drop j b
+rest-stays l an b i j e n h =
+    let k : j ≡ i + (j - i) = omega arith in
+    ap (λ (x : ℕ). drop x an) k ∙ sym (drop-drop (j - i) i an) ∙ ap (λ (x : List ℕ). drop (j - i) (drop i x)) e ∙ ap (drop (j - i)) (drop-at l (drop i b) i n) ∙ drop-drop (j - i) i b
+    ∙ ap (λ (x : ℕ). drop x b) (sym k)
+
+-- what is handed back of the first m rows is the front of the buffer
+pub front : (fr an : List ℕ) (m at : ℕ) (b : List ℕ) → at ≡ length (outputs (see fr) m) → an ≡ framesBytes (outputs (see fr) m) ++ b
+    → take (16 * at) an ≡ framesBytes (outputs (see fr) m)
+front fr an m at b ea e =
+    let n : length (framesBytes (outputs (see fr) m)) ≡ 16 * at = omega (arith, bytes-length (outputs (see fr) m), ea) in
+    ap (take (16 * at)) e ∙ take-at (framesBytes (outputs (see fr) m)) b (16 * at) n
+
+-- and so long as it was
+pub long-as-was : (l an b : List ℕ) (i : ℕ) → an ≡ l ++ drop i b → length l ≡ i → i ≤ length b → length an ≡ length b
+long-as-was l an b i e n h = ap length e ∙ length-append l (drop i b) ∙ omega (arith, n, length-drop i b, h)

@@ -1,0 +1,117 @@
+-- Typing the rows of a file, over its text (document 01, the end of "The file", "Numbers handed back" and "Cases"): the file is checked first, with the answer
+-- buffer's length; one that is not accepted gives its number and place and leaves the answer buffer unchanged.
+use Prim.Native.Nat.{ℕ, _*_, _/_, _≤_, min}
+use mathlib.Core.Path.{_≡_}
+use mathlib.Core.Bool.{cond}
+use mathlib.Core.List.{List, _++_}
+use mathlib.Core.Option.{Option, none, some}
+use lib.ListN.{length, drop}
+use Rattle.ir.specs.declared.RowNumber.{RowNumber}
+use Rattle.answers.specs.declared.Outcome.{Outcome}
+use Rattle.answers.specs.declared.Outcome.the-variants.{Accepted}
+use Rattle.answers.specs.declared.RowType.{RowType}
+use Rattle.answers.specs.declared.RowType.the-variants as Rt
+use Rattle.answers.specs.declared.ComposeVerdict.{ComposeVerdict}
+use Rattle.answers.specs.declared.ComposeVerdict.the-variants as Cv
+use Rattle.text.specs.declared.AnswerRoom.the-variants.{Lent}
+use Rattle.text.specs.Lines.{textOf}
+use Rattle.frames.specs.Bytes.{bytesOf, frameCount}
+use Rattle.frames.specs.Out.{outcomeFrame}
+use Rattle.archive.specs.Starts.{startsOf, rowCount}
+use Rattle.archive.specs.Names.{isRow}
+use Rattle.archive.specs.Checks.{checkFrames}
+use Rattle.rule.specs.Answers.{Typed, Judgement, Result}
+use Rattle.rule.specs.Things.{see}
+use Rattle.row_rules.specs.Answered.{toResult}
+use Rattle.compose.specs.Rows.{verdictOf}
+use Rattle.compose.specs.Judged.{toJudged}
+use Rattle.answering.specs.Outputs.{rowAnswer, outputBytes}
+use Rattle.reader.specs.File.{overFile, readFile}
+
+-- the frames of an accepted file, and an answer buffer of a bytes that has room for what is handed back
+abbrev pub Ready : List ℕ → ℕ → Type 0
+Ready fr a = (checkFrames fr ≡ Accepted (frameCount fr)) × (frameCount fr ≤ 1024) × (length (outputBytes fr) ≤ a)
+
+-- TYPE_ROWS
+
+-- an answer buffer with the answers and verdicts of a file at its front, whose frames these are; its bytes past them stay
+abbrev pub answersWritten : List ℕ → List ℕ → List ℕ
+answersWritten an fr = outputBytes fr ++ drop (length (outputBytes fr)) an
+
+-- the answer buffer `an` after `type_rows`, with a frame buffer of f bytes
+unfoldable pub answersAfter : List ℕ → ℕ → List ℕ → List ℕ
+answersAfter t f an = overFile (λ (o : Outcome). an) (λ (fr : List ℕ). answersWritten an fr) t (readFile t f (Lent (length an)))
+
+-- ROW_TYPE
+
+-- what is given: the row's answer; number 6, place 0, for a row that the file does not have; or the file's own number
+pub data RowGiven : Type 0 where
+  answer : Result Typed → RowGiven
+  noRow : RowGiven
+  notAccepted : Outcome → RowGiven
+
+-- what the code gives: no two are the same
+abbrev pub toGiven : RowType → RowGiven
+toGiven (Rt.Answered a) = answer (toResult a)
+toGiven Rt.Index = noRow
+toGiven (Rt.NotAccepted o) = notAccepted o
+
+abbrev pub rowGiven : RowNumber → List ℕ → RowGiven
+rowGiven n fr = cond (isRow (startsOf fr) n) (answer (rowAnswer (see fr) (n .0))) noRow
+
+-- with a frame buffer of f bytes and an answer buffer of a bytes
+unfoldable pub rowType : List ℕ → ℕ → ℕ → RowNumber → RowGiven
+rowType t f a n = overFile notAccepted (rowGiven n) t (readFile t f (Lent a))
+
+-- the answer buffer after it: as after `type_rows`, and unchanged where the file does not have the row
+unfoldable pub answersAfterRow : List ℕ → ℕ → List ℕ → RowNumber → List ℕ
+answersAfterRow t f an n =
+    overFile (λ (o : Outcome). an) (λ (fr : List ℕ). cond (isRow (startsOf fr) n) (answersWritten an fr) an) t (readFile t f (Lent (length an)))
+
+-- COMPOSE_VERDICT
+
+-- what is given: the compose's verdict; that the row is no compose, number 6, place 0 (docs/DECISIONS.md); the same for a row that the file does not have; or
+-- the file's own number
+pub data VerdictGiven : Type 0 where
+  verdict : Result Judgement → VerdictGiven
+  noCompose : VerdictGiven
+  noRow : VerdictGiven
+  notAccepted : Outcome → VerdictGiven
+
+abbrev pub toVerdict : ComposeVerdict → VerdictGiven
+toVerdict (Cv.Judged v) = verdict (toJudged v)
+toVerdict Cv.NotCompose = noCompose
+toVerdict Cv.Index = noRow
+toVerdict (Cv.NotAccepted o) = notAccepted o
+
+abbrev pub orNoCompose : Option (Result Judgement) → VerdictGiven
+orNoCompose (some j) = verdict j
+orNoCompose none = noCompose
+
+abbrev pub verdictGiven : RowNumber → List ℕ → VerdictGiven
+verdictGiven n fr = cond (isRow (startsOf fr) n) (orNoCompose (verdictOf (see fr) (n .0))) noRow
+
+unfoldable pub composeVerdict : List ℕ → ℕ → ℕ → RowNumber → VerdictGiven
+composeVerdict t f a n = overFile notAccepted (verdictGiven n) t (readFile t f (Lent a))
+
+-- the answer buffer after it: as after `type_rows` where a verdict is given, else unchanged
+abbrev pub ifJudged : List ℕ → List ℕ → VerdictGiven → List ℕ
+ifJudged written an (verdict j) = written
+ifJudged written an noCompose = an
+ifJudged written an noRow = an
+ifJudged written an (notAccepted o) = an
+
+unfoldable pub answersAfterVerdict : List ℕ → ℕ → List ℕ → RowNumber → List ℕ
+answersAfterVerdict t f an n =
+    overFile (λ (o : Outcome). an) (λ (fr : List ℕ). ifJudged (answersWritten an fr) an (verdictGiven n fr)) t (readFile t f (Lent (length an)))
+
+-- AS LINES, what the typing program prints: a line for each frame handed back, or one of family 10 for a file that is not accepted. The buffers are of the
+-- largest sizes that a file asks for, 16,384 and 32,768 bytes.
+unfoldable pub typedText : List ℕ → List ℕ
+typedText t =
+    overFile (λ (o : Outcome). textOf (bytesOf (outcomeFrame o)) 1) (λ (fr : List ℕ). textOf (outputBytes fr) (frameCount (outputBytes fr))) t
+    (readFile t 16384 (Lent 32768))
+
+-- how many of its bytes fit whole lines into an output buffer of o bytes
+abbrev pub linesIn : List ℕ → ℕ → ℕ
+linesIn t o = 33 * min (length (typedText t) / 33) (o / 33)
