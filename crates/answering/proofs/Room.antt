@@ -140,7 +140,7 @@ module _ (fr : List ℕ) where
   row-is n h = rw h
 
   -- how many frames row m hands back, by the bytes of its frame
-  abbrev asked : ℕ → ℕ
+  abbrev pub asked : ℕ → ℕ
   asked k = cond (eqb (byte (frameAt fr k) 0) 4) (cond (eqb (byte (frameAt fr k) 1) 5) 2 1) 0
 
   at-most-two : (b : Bool) → 1 ≤ cond b 2 1

@@ -78,7 +78,7 @@ module _ (t : List ℕ) (f : ℕ) (room : AnswerRoom) where
       (λ h g i. rw (count-decoded t (lineCount t)) (accepted (lineCount t) (record { readable = r; order = h; fields = g; index = i }))))
 
   -- what checks 4 to 6 give is what a readable text gets
-  then-checked : (n : ℕ) → Readable t f room n → readFile t f room ≡ checkFrames (decoded t n)
+  pub then-checked : (n : ℕ) → Readable t f room n → readFile t f room ≡ checkFrames (decoded t n)
   unfolding readFile
   then-checked n r = ap (thenFrames t) (T.accepted-when t f room n .1 r)
 

@@ -7,7 +7,7 @@ use mathlib.Core.List.{List}
 use lib.ListN.{length, take}
 use Rattle.answers.specs.declared.Outcome.{Outcome}
 use Rattle.answers.specs.declared.Outcome.the-variants.{Accepted, Long, Torn, Short, Order, Field, Index}
-use Rattle.text.specs.declared.AnswerRoom.the-variants.{NotLent}
+use Rattle.text.specs.declared.AnswerRoom.{AnswerRoom}
 use Rattle.text.specs.Lines.{decoded}
 use Rattle.text.specs.Reading.{readText}
 use Rattle.text.proofs.Laws as T
@@ -38,24 +38,27 @@ refused-over f g t (Order k) e = refl
 refused-over f g t (Field k) e = refl
 refused-over f g t (Index k) e = refl
 
--- after `read_file` gave r and left the frame buffer as `last`, n frames accepted
-module _ (t fr last : List ℕ) (n : ℕ) (r : Outcome) (er : r ≡ readFile t (length fr) NotLent) (el : last ≡ framesAfter t fr NotLent) (en : framesIn r ≡ Ou.Some n) where
-  read : readFile t (length fr) NotLent ≡ Accepted n
+-- after reading gave r and left the frame buffer as `last`, n frames accepted
+module _ (t fr last : List ℕ) (room : AnswerRoom) (n : ℕ) (r : Outcome) (er : r ≡ readFile t (length fr) room) (el : last ≡ framesAfter t fr room) (en : framesIn r ≡ Ou.Some n) where
+  pub read : readFile t (length fr) room ≡ Accepted n
   read = sym er ∙ accepted-of r n en
 
-  text-read : readText t (length fr) NotLent ≡ Accepted n
-  text-read = T.accepted-when t (length fr) NotLent n .1 (accepted-when t (length fr) NotLent n .0 read .readable)
+  text-read : readText t (length fr) room ≡ Accepted n
+  text-read = T.accepted-when t (length fr) room n .1 (accepted-when t (length fr) room n .0 read .readable)
 
   pub part-fits : 16 * n ≤ length last
   unfolding framesAfter
   part-fits = T.room t fr last n _ el text-read
 
-  part-is : take (16 * n) last ≡ decoded t n
+  pub part-is : take (16 * n) last ≡ decoded t n
   unfolding framesAfter
   part-is = T.front t fr last n _ el text-read
 
-  -- what is asked of the part lent on, and of where its families begin, is asked of the text's frames
+  -- what is asked of the part lent on is asked of the text's frames
+  pub over-part : {A : Type 0} (f : Outcome → A) (g : List ℕ → A) → g (take (16 * n) last) ≡ overFile f g t (readFile t (length fr) room)
+  over-part f g = ap g part-is ∙ ap (overFile f g t) (sym read)
+
+  -- and of where its families begin
   pub given-over : {A : Type 0} (f : Outcome → A) (g : List ℕ → Starts → A) (s : Starts) → s ≡ startsOf (take (16 * n) last)
-      → g (take (16 * n) last) s ≡ overFile f (λ (x : List ℕ). g x (startsOf x)) t (readFile t (length fr) NotLent)
-  given-over f g s es =
-      ap (g (take (16 * n) last)) es ∙ ap (λ (x : List ℕ). g x (startsOf x)) part-is ∙ ap (overFile f (λ (x : List ℕ). g x (startsOf x)) t) (sym read)
+      → g (take (16 * n) last) s ≡ overFile f (λ (x : List ℕ). g x (startsOf x)) t (readFile t (length fr) room)
+  given-over f g s es = ap (g (take (16 * n) last)) es ∙ over-part f (λ (x : List ℕ). g x (startsOf x))

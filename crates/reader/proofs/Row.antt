@@ -33,6 +33,7 @@ use Rattle.archive.specs.Starts.{startsOf, rowCount}
 use Rattle.archive.specs.Names.{isRow}
 use Rattle.archive.specs.Access.{rowIn}
 use Rattle.archive.proofs.Owners.{starts-small}
+use Rattle.archive.proofs.Ranks.{begins}
 use Rattle.rule.specs.Answers.{Judgement, Result, newer, rowFrame, verdictFrame}
 use Rattle.rule.specs.Things.{Sight, seeRow, seeIn, see}
 use Rattle.rule.specs.Rule.{Rule, run}
@@ -93,6 +94,11 @@ module _ (fr : List ℕ) (a : ℕ) (ready : Ready fr a) where
 
   pub few-rows : rowCount (startsOf fr) ≤ 1024
   few-rows = omega (arith, starts-small fr 1024 (ready .1) .1)
+
+  -- rows begin within the file
+  pub row-small : (s : Starts) → s ≡ startsOf fr → s .rows ≤ 1024
+  unfolding startsOf
+  row-small s es = omega (arith, ap (λ (z : Starts). z .rows) es, begins fr 1024 .within, ready .1)
 
   pub room-for : (m : ℕ) → m ≤ rowCount (startsOf fr) → 16 * length (outputs (see fr) m) ≤ a
   room-for m h =

@@ -152,3 +152,46 @@ fn judge_one(frames: &[u8], answers: &mut [u8], row: RowNumber) -> ComposeVerdic
     }
 }
 
+// Types every row of a file and judges every compose. The frame buffer is as `read_file` leaves it; of an accepted file the answers and verdicts stand at the front
+// of the answer buffer, and its bytes past them stay.
+pub fn type_rows(text: &[u8], frames: &mut [u8], answers: &mut [u8]) -> Outcome
+    ensures { λ r. ⌜ (r ≡ readFile (now (text .entry)) (length (now (frames .entry))) (Lent (length (now (answers .entry))))) × (now (frames .exit) ≡ framesAfter (now (text .entry)) (now (frames .entry)) (Lent (length (now (answers .entry))))) × (now (answers .exit) ≡ answersAfter (now (text .entry)) (length (now (frames .entry))) (now (answers .entry))) ⌝ }
+{
+    let read = read_with(text, frames, AnswerRoom::Lent(answers.len()));
+    match frames_in(read) {
+        OptionUsize::None => read,
+        OptionUsize::Some(n) => {
+            let m = 16 * n;
+            answer_all(&frames[..m], answers);
+            read
+        }
+    }
+}
+
+// The answer of one row, with the buffers as `type_rows` leaves them. The answer buffer is unchanged where the file does not have the row.
+pub fn row_type(text: &[u8], frames: &mut [u8], answers: &mut [u8], row: RowNumber) -> RowType
+    ensures { λ r. ⌜ (toGiven r ≡ rowType (now (text .entry)) (length (now (frames .entry))) (length (now (answers .entry))) row) × (now (frames .exit) ≡ framesAfter (now (text .entry)) (now (frames .entry)) (Lent (length (now (answers .entry))))) × (now (answers .exit) ≡ answersAfterRow (now (text .entry)) (length (now (frames .entry))) (now (answers .entry)) row) ⌝ }
+{
+    let read = read_with(text, frames, AnswerRoom::Lent(answers.len()));
+    match frames_in(read) {
+        OptionUsize::None => RowType::NotAccepted(read),
+        OptionUsize::Some(n) => {
+            let m = 16 * n;
+            answer_one(&frames[..m], answers, row)
+        }
+    }
+}
+
+// The verdict on one compose, with the buffers as `type_rows` leaves them. The answer buffer is unchanged where the file has no such row, or the row is no compose.
+pub fn compose_verdict(text: &[u8], frames: &mut [u8], answers: &mut [u8], row: RowNumber) -> ComposeVerdict
+    ensures { λ r. ⌜ (toVerdict r ≡ composeVerdict (now (text .entry)) (length (now (frames .entry))) (length (now (answers .entry))) row) × (now (frames .exit) ≡ framesAfter (now (text .entry)) (now (frames .entry)) (Lent (length (now (answers .entry))))) × (now (answers .exit) ≡ answersAfterVerdict (now (text .entry)) (length (now (frames .entry))) (now (answers .entry)) row) ⌝ }
+{
+    let read = read_with(text, frames, AnswerRoom::Lent(answers.len()));
+    match frames_in(read) {
+        OptionUsize::None => ComposeVerdict::NotAccepted(read),
+        OptionUsize::Some(n) => {
+            let m = 16 * n;
+            judge_one(&frames[..m], answers, row)
+        }
+    }
+}

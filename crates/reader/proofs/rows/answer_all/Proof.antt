@@ -1,30 +1,32 @@
+-- `answer_all`: `answer_rows` over a table of 1,024 places, which is enough. Assumes nothing.
+use mathlib.Core.Path.{_≡_, refl, sym, ap, _∙_}
+use Prim.Native.Nat.{ℕ}
+use native.Mathlib.Omega.{arith}
+use lib.ListN.{length}
 use borrow.Author.Needs.{needs}
+use Rattle.archive.specs.declared.Starts.{Starts}
+use Rattle.archive.specs.Starts.{startsOf, rowCount}
+use Rattle.rule.specs.Things.{see}
+use Rattle.answering.specs.Outputs.{outputs}
+use Rattle.answering.proofs.Bytes.{bytes-length}
+use Rattle.reader.proofs.Row.{few-rows}
 use Rattle.reader.proofs.rows.answer_all.Statement.{statement}
 use Rattle.reader.proofs.rows.answer_all.Tie as tie
-use Rattle.reader.proofs.rows.answer_all.Reads as reads
-use Rattle.reader.proofs.rows.answer_all.Lts as lts
-use Rattle.archive.proofs.families.find_starts.Reads as find-starts-reads
-use Rattle.reader.proofs.rows.answer_rows.Reads as answer-rows-reads
 
--- src/rows.rt:104:9
 find-starts-requires : tie.Need-find-starts-requires
 find-starts-requires c κs = search needs
 
--- src/rows.rt:105:37
 slice-aggregate-answer-rows : tie.Need-slice-aggregate-answer-rows
 slice-aggregate-answer-rows c = search needs
 
--- src/rows.rt:105:5
 answer-rows-requires : tie.Need-answer-rows-requires
-answer-rows-requires c κs = ?
+answer-rows-requires c κs = (c .before .before .before .before .before .pre, c .before .before .find-starts .ensures, rw (c .before .before .find-starts .ensures) (few-rows (c .before .before .before .before .before .args .frames .now) (length (c .before .before .before .before .before .args .answers .now)) (c .before .before .before .before .before .pre)))
 
--- src/rows.rt:99:1
 same-length : tie.Need-same-length
 same-length c = search needs
 
--- src/rows.rt:99:1
 returns : tie.Need-returns
-returns c = ?
+returns c = (omega (arith, c .before .before .before .answer-rows .ensures .0, bytes-length (outputs (see (c .before .before .before .before .before .before .before .before .before .args .frames .now)) (rowCount (startsOf (c .before .before .before .before .before .before .before .before .before .args .frames .now)))), ap (λ (z : Starts). length (outputs (see (c .before .before .before .before .before .before .before .before .before .args .frames .now)) (rowCount z))) (c .before .before .before .before .before .before .find-starts .ensures)), c .before .before .before .answer-rows .ensures .1)
 
 pub answer-all-spec : {M : Type 1} → statement M
 answer-all-spec =

@@ -1,57 +1,50 @@
+-- `answer_one`: the row's answer, read at its place. Assumes nothing.
+use mathlib.Core.Path.{_≡_, refl, sym, ap, _∙_}
+use native.Mathlib.Omega.{arith}
+use lib.ListN.{length}
 use borrow.Author.Needs.{needs}
+use Rattle.archive.specs.declared.Starts.{Starts}
+use Rattle.archive.specs.Starts.{startsOf, rowCount}
+use mathlib.Core.Bool.{true, false}
+use lib.Seq.{length-take-le}
+use Rattle.archive.specs.Names.{isRow}
+use Rattle.reader.proofs.Row.{few-rows}
+use Rattle.reader.proofs.One.{places-long, one-answer}
 use Rattle.reader.proofs.rows.answer_one.Statement.{statement}
 use Rattle.reader.proofs.rows.answer_one.Tie as tie
-use Rattle.reader.proofs.rows.answer_one.Reads as reads
-use Rattle.reader.proofs.rows.answer_one.Lts as lts
-use Rattle.archive.proofs.access.is_row.Reads as is-row-reads
-use Rattle.archive.proofs.families.find_starts.Reads as find-starts-reads
-use Rattle.operands.proofs.past.past.Reads as past-reads
-use Rattle.reader.proofs.rows.answer_rows.Reads as answer-rows-reads
-use Rattle.reader.proofs.rows.row_count.Reads as row-count-reads
 
--- src/rows.rt:113:9
 find-starts-requires : tie.Need-find-starts-requires
 find-starts-requires c κs = search needs
 
--- src/rows.rt:114:8
 is-row-requires : tie.Need-is-row-requires
 is-row-requires c κs = search needs
 
--- src/rows.rt:116:41
 slice-aggregate-answer-rows : tie.Need-slice-aggregate-answer-rows
 slice-aggregate-answer-rows c = search needs
 
--- src/rows.rt:116:9
 answer-rows-requires : tie.Need-answer-rows-requires
-answer-rows-requires c κs = ?
+answer-rows-requires c κs = (c .before .before .before .before .before .before .before .pre, c .before .before .before .before .find-starts .ensures, rw (c .before .before .before .before .find-starts .ensures) (few-rows (c .before .before .before .before .before .before .before .args .frames .now) (length (c .before .before .before .before .before .before .before .args .answers .now)) (c .before .before .before .before .before .before .before .pre)))
 
--- src/rows.rt:117:13
 row-count-requires : tie.Need-row-count-requires
 row-count-requires c κs = search needs
 
--- src/rows.rt:118:41
 array-share-prefix-places : tie.Need-array-share-prefix-places
-array-share-prefix-places c = ?
+array-share-prefix-places c = omega (arith, places-long (c .before .before .before .before .before .before .before .before .before .before .before .before .before .args .frames .now) (c .before .before .before .before .before .answer-rows .last .1 .1 .1 .0) _ (rowCount (c .before .before .before .before .before .before .before .before .before .before .find-starts .result)) (c .before .before .before .before .before .answer-rows .ensures .2), c .before .row-count .ensures)
 
--- src/rows.rt:118:41
 slice-aggregate-past : tie.Need-slice-aggregate-past
-slice-aggregate-past c = ?
+slice-aggregate-past c = sym (length-take-le _ _ (omega (arith, places-long (c .before .before .before .before .before .before .before .before .before .before .before .before .before .before .args .frames .now) (c .before .before .before .before .before .before .answer-rows .last .1 .1 .1 .0) _ (rowCount (c .before .before .before .before .before .before .before .before .before .before .before .find-starts .result)) (c .before .before .before .before .before .before .answer-rows .ensures .2), c .before .before .row-count .ensures)))
 
--- src/rows.rt:118:27
 past-requires : tie.Need-past-requires
 past-requires c κs = search needs
 
--- src/rows.rt:109:1
 same-length : tie.Need-same-length
 same-length c = search needs
 
--- src/rows.rt:109:1
 returns : tie.Need-returns
-returns c = ?
+returns c = one-answer (c .before .before .before .before .before .before .before .before .before .before .before .before .before .before .before .args .frames .now) (c .before .before .before .before .before .before .before .before .before .before .before .before .before .before .before .args .answers .now) (c .before .before .before .before .before .before .before .answer-rows .last .1 .1 .0) (c .before .before .before .before .before .before .before .answer-rows .last .1 .1 .1 .0) _ (c .before .before .before .before .before .before .before .before .before .before .before .before .find-starts .result) (c .before .before .before .before .before .before .before .before .before .before .before .before .before .before .before .pre) (c .before .before .before .before .before .before .before .before .before .before .before .before .find-starts .ensures) (c .before .before .before .before .before .before .before .answer-rows .ensures .1) (c .before .before .before .before .before .before .before .answer-rows .ensures .2) (c .before .before .before .before .before .before .before .before .before .before .before .before .before .before .before .args .row) (sym (c .before .before .before .before .before .before .before .before .before .before .before .is-row .ensures) ∙ c .before .before .before .before .before .before .before .before .before .before .if1 .taken) (c .before .before .before .row-count .result) (c .past .result) (c .before .before .before .row-count .ensures) (c .past .ensures)
 
--- src/rows.rt:109:1
 returns-2 : tie.Need-returns-2
-returns-2 c = ?
+returns-2 c = (let e : isRow (startsOf (c .before .before .before .before .before .args .frames .now)) (c .before .before .before .before .before .args .row) ≡ false = ap (λ (z : Starts). isRow z (c .before .before .before .before .before .args .row)) (sym (c .before .before .find-starts .ensures)) ∙ sym (c .before .is-row .ensures) ∙ c .if1 .left in rw e (refl, refl))
 
 pub answer-one-spec : {M : Type 1} → statement M
 answer-one-spec =

@@ -1,84 +1,70 @@
+-- `judge_one`: the verdict over the answers of the rows before the compose. Assumes nothing.
+use mathlib.Core.Path.{_≡_, refl, sym, ap, _∙_}
+use native.Mathlib.Omega.{arith}
+use lib.ListN.{length}
 use borrow.Author.Needs.{needs}
+use Rattle.archive.specs.declared.Starts.{Starts}
+use Rattle.archive.specs.Starts.{startsOf, rowCount}
+use mathlib.Core.Bool.{true, false}
+use lib.Seq.{length-take-le}
+use borrow.Author.Tests.{ltb-true}
+use Rattle.archive.specs.Names.{isRow}
+use Rattle.reader.proofs.Row.{few-rows, row-small}
+use Rattle.reader.proofs.One.{places-long, one-verdict, no-verdict}
 use Rattle.reader.proofs.rows.judge_one.Statement.{statement}
 use Rattle.reader.proofs.rows.judge_one.Tie as tie
-use Rattle.reader.proofs.rows.judge_one.Reads as reads
-use Rattle.reader.proofs.rows.judge_one.Lts as lts
-use Rattle.archive.proofs.access.is_row.Reads as is-row-reads
-use Rattle.archive.proofs.families.find_starts.Reads as find-starts-reads
-use Rattle.compose.proofs.judge.Reads as judge-reads
-use Rattle.frames.proofs.Frame.last.Reads as last-reads
-use Rattle.frames.proofs.Frame.named.Reads as named-reads
-use Rattle.frames.proofs.Frame.second.Reads as second-reads
-use Rattle.frames.proofs.frame_at.Reads as frame-at-reads
-use Rattle.reader.proofs.rows.answer_rows.Reads as answer-rows-reads
 
--- src/rows.rt:129:9
 find-starts-requires : tie.Need-find-starts-requires
 find-starts-requires c κs = search needs
 
--- src/rows.rt:130:8
 is-row-requires : tie.Need-is-row-requires
 is-row-requires c κs = search needs
 
--- src/rows.rt:131:17
 cast-m : tie.Need-cast-m
 cast-m c = search needs
 
--- src/rows.rt:132:34
 add-frame-at : tie.Need-add-frame-at
-add-frame-at c = ?
+add-frame-at c = omega (arith, row-small (c .before .before .before .before .before .before .before .args .frames .now) (length (c .before .before .before .before .before .before .before .args .answers .now)) (c .before .before .before .before .before .before .before .pre) (c .before .before .before .before .find-starts .result) (c .before .before .before .before .find-starts .ensures))
 
--- src/rows.rt:132:13
 frame-at-requires : tie.Need-frame-at-requires
 frame-at-requires c κs = search needs
 
--- src/rows.rt:135:45
 slice-aggregate-answer-rows : tie.Need-slice-aggregate-answer-rows
 slice-aggregate-answer-rows c = search needs
 
--- src/rows.rt:135:13
 answer-rows-requires : tie.Need-answer-rows-requires
-answer-rows-requires c κs = ?
+answer-rows-requires c κs = (c .before .before .before .before .before .before .before .before .before .before .before .before .pre, c .before .before .before .before .before .before .before .before .before .find-starts .ensures, rw (c .before .before .before .before .before .before .before .before .before .find-starts .ensures) (few-rows (c .before .before .before .before .before .before .before .before .before .before .before .before .args .frames .now) (length (c .before .before .before .before .before .before .before .before .before .before .before .before .args .answers .now)) (c .before .before .before .before .before .before .before .before .before .before .before .before .pre)))
 
--- src/rows.rt:141:21
 array-share-prefix-places : tie.Need-array-share-prefix-places
-array-share-prefix-places c = ?
+array-share-prefix-places c = omega (arith, places-long (c .before .before .before .before .before .before .before .before .before .before .before .before .before .before .before .before .before .args .frames .now) (c .before .before .before .before .answer-rows .last .1 .1 .1 .0) _ (rowCount (c .before .before .before .before .before .before .before .before .before .before .before .before .before .before .find-starts .result)) (c .before .before .before .before .answer-rows .ensures .2), ltb-true (c .before .before .before .before .before .before .before .before .before .before .before .before .before .before .before .before .before .args .row .0) (rowCount (c .before .before .before .before .before .before .before .before .before .before .before .before .before .before .find-starts .result)) (sym (c .before .before .before .before .before .before .before .before .before .before .before .before .before .is-row .ensures) ∙ c .before .before .before .before .before .before .before .before .before .before .before .before .if1 .taken))
 
--- src/rows.rt:141:21
 slice-aggregate-judge : tie.Need-slice-aggregate-judge
-slice-aggregate-judge c = ?
+slice-aggregate-judge c = sym (length-take-le _ _ (omega (arith, places-long (c .before .before .before .before .before .before .before .before .before .before .before .before .before .before .before .before .before .before .args .frames .now) (c .before .before .before .before .before .answer-rows .last .1 .1 .1 .0) _ (rowCount (c .before .before .before .before .before .before .before .before .before .before .before .before .before .before .before .find-starts .result)) (c .before .before .before .before .before .answer-rows .ensures .2), ltb-true (c .before .before .before .before .before .before .before .before .before .before .before .before .before .before .before .before .before .before .args .row .0) (rowCount (c .before .before .before .before .before .before .before .before .before .before .before .before .before .before .before .find-starts .result)) (sym (c .before .before .before .before .before .before .before .before .before .before .before .before .before .before .is-row .ensures) ∙ c .before .before .before .before .before .before .before .before .before .before .before .before .before .if1 .taken))))
 
--- src/rows.rt:142:32
 named-requires : tie.Need-named-requires
 named-requires c κs = search needs
 
--- src/rows.rt:143:37
 last-requires : tie.Need-last-requires
 last-requires c κs = search needs
 
--- src/rows.rt:144:21
 second-requires : tie.Need-second-requires
 second-requires c κs = search needs
 
--- src/rows.rt:137:17
 judge-requires : tie.Need-judge-requires
 judge-requires c κs = search needs
 
--- src/rows.rt:125:1
 same-length : tie.Need-same-length
 same-length c = search needs
 
--- src/rows.rt:125:1
 returns : tie.Need-returns
-returns c = ?
+returns c = one-verdict (c .before .before .before .before .before .before .before .before .before .before .before .before .before .before .before .before .before .before .before .before .before .before .args .frames .now) (c .before .before .before .before .before .before .before .before .before .before .before .before .before .before .before .before .before .before .before .before .before .before .args .answers .now) (c .before .before .before .before .before .before .before .before .before .answer-rows .last .1 .1 .0) (c .before .before .before .before .before .before .before .before .before .answer-rows .last .1 .1 .1 .0) _ (c .before .before .before .before .before .before .before .before .before .before .before .before .before .before .before .before .before .before .before .find-starts .result) (c .before .before .before .before .before .before .before .before .before .before .before .before .before .before .before .before .before .before .before .before .before .before .pre) (c .before .before .before .before .before .before .before .before .before .before .before .before .before .before .before .before .before .before .before .find-starts .ensures) (c .before .before .before .before .before .before .before .before .before .answer-rows .ensures .1) (c .before .before .before .before .before .before .before .before .before .answer-rows .ensures .2) (c .before .before .before .before .before .before .before .before .before .before .before .before .before .before .before .before .before .before .before .before .before .before .args .row) (sym (c .before .before .before .before .before .before .before .before .before .before .before .before .before .before .before .before .before .before .is-row .ensures) ∙ c .before .before .before .before .before .before .before .before .before .before .before .before .before .before .before .before .before .if1 .taken) (c .before .before .before .before .before .before .before .before .before .before .before .before .before .before .frame-at .result) (c .before .before .before .before .before .before .before .before .before .before .before .before .before .before .frame-at .ensures) (c .before .before .before .before .before .before .before .before .before .before .before .before .if2 .taken) (c .judge .result) (rw (c .before .before .before .named .ensures, c .before .before .last .ensures, c .before .second .ensures) at (c .judge .ensures))
 
--- src/rows.rt:125:1
 returns-2 : tie.Need-returns-2
-returns-2 c = ?
+returns-2 c =
+    let q = no-verdict (c .before .before .before .before .before .before .before .before .before .before .args .frames .now) (c .before .before .before .before .before .before .before .find-starts .result) (c .before .before .before .before .before .before .before .before .before .before .args .row) (c .before .before .frame-at .result) (c .before .before .before .before .before .before .before .find-starts .ensures) (sym (c .before .before .before .before .before .before .is-row .ensures) ∙ c .before .before .before .before .before .if1 .taken) (c .before .before .frame-at .ensures) (c .if2 .left) in rw (← q) (refl, refl)
 
--- src/rows.rt:125:1
 returns-3 : tie.Need-returns-3
-returns-3 c = ?
+returns-3 c = (let e : isRow (startsOf (c .before .before .before .before .before .args .frames .now)) (c .before .before .before .before .before .args .row) ≡ false = ap (λ (z : Starts). isRow z (c .before .before .before .before .before .args .row)) (sym (c .before .before .find-starts .ensures)) ∙ sym (c .before .is-row .ensures) ∙ c .if1 .left in rw e (refl, refl))
 
 pub judge-one-spec : {M : Type 1} → statement M
 judge-one-spec =
