@@ -49,7 +49,7 @@ pub record IsCompose (e : Expression) : Type 0 where
   pub first : ComponentNumber
   pub is : e ≡ Ex.Compose ty count first
 
-shown-compose : (fr : List ℕ) (s : Starts) (e : Expression) (r : Rule Judgement) → ofShown (shown fr s e) ≡ some r → IsCompose e
+pub shown-compose : (fr : List ℕ) (s : Starts) (e : Expression) (r : Rule Judgement) → ofShown (shown fr s e) ≡ some r → IsCompose e
 shown-compose fr s (Ex.Literal x0) r h = never (cc)
 shown-compose fr s (Ex.Constant x0) r h = never (cc)
 shown-compose fr s (Ex.Override x0) r h = never (cc)
@@ -131,11 +131,11 @@ compose-byte f t n c e = go (only-compose (rowKindOf (byte f 1)) f t n c e) (dec
     go m (no l) = never (let u : rowKindOf (byte f 1) ≡ Rk.Unknown = unknown-row (byte f 1) .1 (inr (omega arith)) in cc)
 
 module _ (fr : List ℕ) where
-  row-compose : (f : RowForm) (r : Rule Judgement) (k : Frame) → f ≡ rowOf k → ofShown (seeRow fr (startsOf fr) f) ≡ some r → byte k 1 ≡ 5
+  pub row-compose : (f : RowForm) (r : Rule Judgement) (k : Frame) → f ≡ rowOf k → ofShown (seeRow fr (startsOf fr) f) ≡ some r → byte k 1 ≡ 5
   row-compose Ro.Unknown r k q h = never (cc)
   row-compose (Ro.Known e) r k q h = let c = shown-compose fr (startsOf fr) e r h in compose-byte k (c .ty) (c .count) (c .first) (sym q ∙ ap Ro.Known (c .is))
 
-  row-is : (n : RowNumber) → isRow (startsOf fr) n ≡ true → rowIn fr (startsOf fr) n ≡ rowOf (frameAt fr (startsOf fr .rows + n .0))
+  pub row-is : (n : RowNumber) → isRow (startsOf fr) n ≡ true → rowIn fr (startsOf fr) n ≡ rowOf (frameAt fr (startsOf fr .rows + n .0))
   unfolding rowIn
   row-is n h = rw h
 
