@@ -7,7 +7,6 @@ use mathlib.Core.List.{List}
 use mathlib.Core.Option.{Option, none, some}
 use Rattle.ir.specs.declared.TypeNumber.{TypeNumber}
 use Rattle.ir.specs.declared.RowNumber.{RowNumber}
-use Rattle.ir.specs.declared.Expression.{Expression}
 use Rattle.ir.specs.declared.RowForm.{RowForm}
 use Rattle.ir.specs.declared.RowForm.the-variants as Ro
 use Rattle.frames.specs.Bytes.{frameAt}
@@ -15,7 +14,7 @@ use Rattle.frames.specs.Forms.{componentOf}
 use Rattle.archive.specs.Starts.{startsOf}
 use Rattle.archive.specs.Access.{rowIn}
 use Rattle.rule.specs.Answers.{Judgement, Result}
-use Rattle.rule.specs.Things.{Shown, compose, kind, listed, shown, see, seeRow}
+use Rattle.rule.specs.Things.{compose, kind, listed, shown, see, seeRow}
 use Rattle.rule.specs.Rule.{Rule}
 use Rattle.rule.specs.Claim.{ours}
 use Rattle.row_rules.specs.Typed.{typing}

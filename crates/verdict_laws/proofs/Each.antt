@@ -3,18 +3,17 @@
 -- has of it. Assumes nothing.
 use Prim.Native.Nat.{ℕ, zero, suc, _+_, _≤_, _<_}
 use native.Mathlib.Omega.{arith}
-use mathlib.Core.Path.{_≡_, refl, sym, ap, _∙_}
+use mathlib.Core.Path.{_≡_, refl, ap}
 use mathlib.Core.Bool.{Bool, true, false, cond}
-use mathlib.Core.List.{List, [], _∷_, _++_}
+use mathlib.Core.List.{List, [], _∷_}
 use mathlib.Core.Option.{Option, none, some}
 use lib.Dec.{eqb}
 use lib.ListN.{length, length-append}
 use borrow.Author.Tests.{eqb-true, eqb-false}
-use Rattle.ir.specs.declared.RowNumber.{RowNumber}
 use Rattle.scan.specs.Lists.{sumBelow}
 use Rattle.frames.specs.Bytes.{byte}
 use Rattle.archive.specs.Starts.{startsOf, rowCount}
-use Rattle.rule.specs.Answers.{TypeAnswer, number, value, malformed, Typed, given, refused, chosenRefusal, Place, row, component, composed, nowhere, chosen, Judgement, Result, told, newer, rowFrame}
+use Rattle.rule.specs.Answers.{number, value, malformed, Typed, given, refused, chosenRefusal, row, component, composed, nowhere, chosen, Judgement, Result, told, newer, rowFrame}
 use Rattle.rule.specs.Things.{see}
 use Rattle.rule.specs.Rule.{Rule}
 use Rattle.rule.specs.Claim.{ours}

@@ -9,6 +9,7 @@ use mathlib.Core.Logic.{_↔_}
 use mathlib.Core.Option.{Option, none, some}
 use lib.Dec.{eqb}
 use lib.ListN.{length}
+use borrow.Author.Tests.{eqb-false}
 use Rattle.ir.specs.declared.TypeNumber.{TypeNumber}
 use Rattle.ir.specs.declared.RowNumber.{RowNumber}
 use Rattle.ir.specs.declared.VectorSize.{VectorSize}
@@ -18,25 +19,25 @@ use Rattle.ir.specs.declared.ArraySize.the-variants as As
 use Rattle.ir.specs.declared.TypeInner.{TypeInner}
 use Rattle.ir.specs.declared.TypeInner.the-variants as Ti
 use Rattle.ir.specs.Numbers.{vectorSizeNumber}
-use Rattle.frames.specs.Bytes.{byte, half, word, frameAt, frameCount}
+use Rattle.frames.specs.Bytes.{byte, half, word, frameCount}
 use Rattle.frames.proofs.ReadBack.{half-back, word-back}
 use Rattle.archive.specs.Starts.{startsOf, rowCount}
-use Rattle.rule.specs.Answers.{TypeAnswer, number, Typed, given, refused, chosenRefusal, Place, component, composed, Judgement, passes, notComposed, count, part, broken, Result, told, newer}
+use Rattle.rule.specs.Answers.{TypeAnswer, number, Typed, given, refused, chosenRefusal, Place, component, composed, Judgement, passes, count, Result, told, newer}
 use Rattle.archive.specs.Access.{rowIn}
 use Rattle.rule.specs.Things.{Thing, Seen, Sight, form, structNumber, listed, see}
 use Rattle.rule.specs.Rule.{Rule, done, come, past, Answers, run}
 use Rattle.rule.specs.Claim.{ours, among, answers}
 use Rattle.type_methods.specs.Canonical.{canonical, equalTypes, identical}
-use Rattle.type_methods.specs.Comparison.{inForm, inForms, byStruct, byIdentical, compare}
+use Rattle.type_methods.specs.Comparison.{inForm, byStruct, byIdentical, compare}
 use Rattle.row_rules.specs.Typed.{typing}
-use Rattle.compose.specs.Verdict.{orBroken, comeTo, orPart, eachPart, counted, adds, addPart, vectorParts, columnIs, elementIs, memberIs, arrayParts, byForm, verdict}
+use Rattle.compose.specs.Verdict.{orBroken, comeTo, orPart, eachPart, adds, addPart, vectorParts, columnIs, elementIs, memberIs, arrayParts, byForm, verdict}
 use Rattle.rule.proofs.Named.{listed-length}
 use Rattle.typifier_laws.proofs.Good.{Good}
 use Rattle.typifier_laws.proofs.Range.{row-there}
 use Rattle.typifier_laws.proofs.ByBytes.{rowFrame, rowNamed, row-by-bytes}
 use Rattle.compose.specs.Rows.{ofShown, verdictOf}
 use Rattle.answering.proofs.Room.{row-compose, row-is}
-use Rattle.verdict_laws.specs.Numbers.{OurVerdict, itPasses, noComposed, otherCount, otherPart, brokenPart, newerComposed, newerPart, VerdictNumber, passing, newerNumber, typeNumber, countNumber, partNumber, brokenNumber, frameOf, VerdictLaid}
+use Rattle.verdict_laws.specs.Numbers.{OurVerdict, itPasses, noComposed, otherCount, otherPart, brokenPart, newerComposed, newerPart, passing, newerNumber, typeNumber, countNumber, partNumber, brokenNumber, frameOf, VerdictLaid}
 use Rattle.verdict_laws.proofs.Composes.{never, Composes, composes, rule-is, has-rule}
 use Rattle.verdict_laws.proofs.Reading.{by-pointer}
 
@@ -109,28 +110,32 @@ module _ (m : ℕ) where
       let here : i < m = omega arith in
       row-keeps i here n _ (λ a. h i here a _ (or-part i here _ (each-keeps asked h (suc i) parts (omega arith))))
 
-  total-keeps : (expected total : ℕ) (b : Bool) → Keeps (done (cond b passes (count expected total)))
-  total-keeps expected total true = ends itPasses
-  total-keeps expected total false = ends (otherCount expected total)
+  -- a count that differs ends the rule with 31
+  count-keeps : (expected total : ℕ) (rest : Rule Judgement) → Keeps rest → Keeps (cond (eqb expected total) rest (done (count expected total)))
+  count-keeps expected total rest h = go (eqb expected total) refl
+    where
+      go : (b : Bool) → eqb expected total ≡ b → Keeps (cond b rest (done (count expected total)))
+      go true q = h
+      go false q = ends (otherCount expected total (eqb-false expected total q))
+
+  total-keeps : (expected total : ℕ) → Keeps (done (cond (eqb expected total) passes (count expected total)))
+  total-keeps expected total = go (eqb expected total) refl
+    where
+      go : (b : Bool) → eqb expected total ≡ b → Keeps (done (cond b passes (count expected total)))
+      go true q = ends itPasses
+      go false q = ends (otherCount expected total (eqb-false expected total q))
 
   vector-keeps : (z : VectorSize) (k : Scalar) (i total : ℕ) (parts : List RowNumber) → i + length parts ≤ m → Keeps (vectorParts z k i total parts)
   unfolding vectorParts
-  vector-keeps z k i total [] l = total-keeps (vectorSizeNumber z) total (eqb (vectorSizeNumber z) total)
+  vector-keeps z k i total [] l = total-keeps (vectorSizeNumber z) total
   vector-keeps z k i total (n ∷ parts) l =
       let here : i < m = omega arith in
       row-keeps i here n _ (λ a.
       comes (component i) (form a) (newerPart i here) (λ y. or-add i here _ (λ j. vector-keeps z k (suc i) (total + j) parts (omega arith)) (adds k (y .inner))))
 
-  counted-keeps : (expected : ℕ) (parts : List RowNumber) (rest : Rule Judgement) → Keeps rest → Keeps (counted expected parts rest)
-  counted-keeps expected parts rest h = go (eqb expected (length parts))
-    where
-      go : (b : Bool) → Keeps (cond b rest (done (count expected (length parts))))
-      go true = h
-      go false = ends (otherCount expected (length parts))
-
   module _ (parts : List RowNumber) (l : length parts ≤ m) where
     array-keeps : (base : TypeNumber) (z : ArraySize) → Keeps (arrayParts base z parts)
-    array-keeps base (As.Constant n) = counted-keeps n parts _ (each-keeps (elementIs base) (λ i here a. compare-keeps i here (number base) a) 0 parts (omega arith))
+    array-keeps base (As.Constant n) = count-keeps n (length parts) _ (each-keeps (elementIs base) (λ i here a. compare-keeps i here (number base) a) 0 parts (omega arith))
     array-keeps base (As.Pending o) = ends noComposed
     array-keeps base As.Dynamic = ends noComposed
 
@@ -138,9 +143,9 @@ module _ (m : ℕ) where
     form-rule-keeps : (ms : List TypeNumber) (t : TypeInner) → Keeps (byForm parts ms t)
     form-rule-keeps ms (Ti.Vector z k) = vector-keeps z k 0 0 parts (omega arith)
     form-rule-keeps ms (Ti.Matrix c r k) =
-        counted-keeps (vectorSizeNumber c) parts _ (each-keeps (columnIs r k) (λ i here a rest h. comes (component i) (form a) (newerPart i here) (λ y. h _)) 0 parts (omega arith))
+        count-keeps (vectorSizeNumber c) (length parts) _ (each-keeps (columnIs r k) (λ i here a rest h. comes (component i) (form a) (newerPart i here) (λ y. h _)) 0 parts (omega arith))
     form-rule-keeps ms (Ti.Array b z t) = array-keeps b z
-    form-rule-keeps ms (Ti.Struct m n t) = counted-keeps (length ms) parts _ (each-keeps (memberIs ms) (λ i here a. compare-keeps i here (number _) a) 0 parts (omega arith))
+    form-rule-keeps ms (Ti.Struct m n t) = count-keeps (length ms) (length parts) _ (each-keeps (memberIs ms) (λ i here a. compare-keeps i here (number _) a) 0 parts (omega arith))
     form-rule-keeps ms (Ti.Scalar x0) = ends noComposed
     form-rule-keeps ms (Ti.CooperativeMatrix x0 x1 x2 x3) = ends noComposed
     form-rule-keeps ms (Ti.Atomic x0) = ends noComposed
@@ -160,22 +165,23 @@ verdict-ours sight earlier t parts =
 -- THE FRAME of a verdict of ours
 pub verdict-laid : (n m : ℕ) (v : Result Judgement) → OurVerdict m v → VerdictLaid n m v
 verdict-laid n m v itPasses =
-    record { family = refl; number = passing; row = half-back n; part = λ l. absurd (omega arith); newer-part = λ e c. absurd (omega arith); whole = λ l e. absurd (omega arith) }
+    record { family = refl; number = passing; row = half-back n; counts = λ l q. absurd (omega arith); part = λ l. absurd (omega arith); newer-part = λ e c. absurd (omega arith); whole = λ l e. absurd (omega arith) }
 verdict-laid n m v noComposed =
-    record { family = refl; number = typeNumber; row = half-back n; part = λ l. absurd (omega arith); newer-part = λ e c. absurd (omega arith); whole = λ l e. absurd (omega arith) }
-verdict-laid n m v (otherCount e g) =
-    record { family = refl; number = countNumber; row = half-back n; part = λ l. absurd (omega arith); newer-part = λ e c. absurd (omega arith); whole = λ l e. absurd (omega arith) }
+    record { family = refl; number = typeNumber; row = half-back n; counts = λ l q. absurd (omega arith); part = λ l. absurd (omega arith); newer-part = λ e c. absurd (omega arith); whole = λ l e. absurd (omega arith) }
+verdict-laid n m v (otherCount e g d) =
+    record { family = refl; number = countNumber; row = half-back n; counts = λ l q. d (sym (word-back e) ∙ q ∙ word-back g); part = λ l. absurd (omega arith); newer-part = λ e c. absurd (omega arith); whole = λ l e. absurd (omega arith) }
 verdict-laid n m v (otherPart i h) =
-    record { family = refl; number = partNumber; row = half-back n; part = λ l. rw (word-back i) h; newer-part = λ e c. absurd (omega arith); whole = λ l e. absurd (omega arith) }
+    record { family = refl; number = partNumber; row = half-back n; counts = λ l q. absurd (omega arith); part = λ l. rw (word-back i) h; newer-part = λ e c. absurd (omega arith); whole = λ l e. absurd (omega arith) }
 verdict-laid n m v (brokenPart i h) =
-    record { family = refl; number = brokenNumber; row = half-back n; part = λ l. rw (word-back i) h; newer-part = λ e c. absurd (omega arith); whole = λ l e. absurd (omega arith) }
+    record { family = refl; number = brokenNumber; row = half-back n; counts = λ l q. absurd (omega arith); part = λ l. rw (word-back i) h; newer-part = λ e c. absurd (omega arith); whole = λ l e. absurd (omega arith) }
 verdict-laid n m v newerComposed =
-    record { family = refl; number = newerNumber; row = half-back n; part = λ l. absurd (omega arith); newer-part = λ e c. absurd (c refl); whole = λ l e. (λ q. refl, λ q. refl) }
+    record { family = refl; number = newerNumber; row = half-back n; counts = λ l q. absurd (omega arith); part = λ l. absurd (omega arith); newer-part = λ e c. absurd (c refl); whole = λ l e. (λ q. refl, λ q. refl) }
 verdict-laid n m v (newerPart i h) =
     record {
       family = refl;
       number = newerNumber;
       row = half-back n;
+      counts = λ l q. absurd (omega arith);
       part = λ l. absurd (omega arith);
       newer-part = λ e c. rw (word-back i) h;
       whole = λ l e. (λ q. absurd (omega (arith, sym (word-back i) ∙ q)), λ q. never (cc));

@@ -25,9 +25,9 @@ use Rattle.type_methods.specs.Comparison.{inForm, inForms, byStruct, byIdentica
 use Rattle.row_rules.specs.Operators.{equalScalars}
 use Rattle.row_rules.specs.Typed.{typing}
 use Rattle.row_cases.specs.Reads.{unlessRefused, unlessNewer}
-use Rattle.compose.specs.Verdict.{orBroken, comeTo, orPart, eachPart, counted, adds, addPart, vectorParts, columnIs, elementIs, memberIs, arrayParts, byForm, verdict}
+use Rattle.compose.specs.Verdict.{comeTo, orPart, eachPart, counted, adds, addPart, vectorParts, columnIs, elementIs, memberIs, arrayParts, byForm, verdict}
 use Rattle.compose.specs.Rows.{verdictRule}
-use Rattle.verdict_laws.specs.Reads.{Against, partOf, column, sameAs, memberOf, arrayLine, line, baseOf, withBase, eitherStruct, comparison}
+use Rattle.verdict_laws.specs.Reads.{Against, partOf, column, sameAs, memberAt, arrayLine, line, baseOf, withBase, eitherStruct, comparison}
 use Rattle.verdict_laws.specs.Reads.{canonicalForm, equalForms, areSame, comesTo, isPartOf, formIs, isAsAsked, thingSteps, partSteps, lineSteps, formSteps, verdictReading}
 use Rattle.verdict_laws.proofs.Composes.{Composes, composes, rule-is}
 
@@ -194,7 +194,7 @@ module _ (sight : Sight) (earlier : Readings) where
   line-steps parts ms (Ti.Matrix c r k) = counted-steps _ parts _ _ (each-steps (columnIs r k) (λ (i : ℕ). column r k) (column-steps r k) 0 parts)
   line-steps parts ms (Ti.Array b z t) = array-steps b z parts
   line-steps parts ms (Ti.Struct m n t) =
-      counted-steps (length ms) parts _ _ (each-steps (memberIs ms) (λ (i : ℕ). sameAs (memberOf ms i)) (λ i a k. compare-steps (component i) (number (memberOf ms i)) a k) 0 parts)
+      counted-steps (length ms) parts _ _ (each-steps (memberIs ms) (λ (i : ℕ). sameAs (memberAt ms i)) (λ i a k. compare-steps (component i) (number (memberAt ms i)) a k) 0 parts)
   line-steps parts ms (Ti.Scalar x0) = refl
   line-steps parts ms (Ti.CooperativeMatrix x0 x1 x2 x3) = refl
   line-steps parts ms (Ti.Atomic x0) = refl

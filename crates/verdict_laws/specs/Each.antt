@@ -7,7 +7,6 @@ use lib.Dec.{eqb}
 use Rattle.scan.specs.Lists.{sumBelow}
 use Rattle.frames.specs.declared.Frame.{Frame}
 use Rattle.frames.specs.Bytes.{byte, half, frameAt}
-use Rattle.archive.specs.declared.Starts.{Starts}
 use Rattle.archive.specs.Starts.{startsOf, rowCount}
 use Rattle.rule.specs.Things.{see}
 use Rattle.answering.specs.Outputs.{rowFrames}

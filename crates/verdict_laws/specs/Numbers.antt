@@ -6,12 +6,12 @@ use Rattle.frames.specs.declared.Frame.{Frame}
 use Rattle.frames.specs.Bytes.{byte, half, word}
 use Rattle.rule.specs.Answers.{Judgement, passes, notComposed, count, part, broken, component, composed, Result, told, newer, verdictFrame}
 
--- a verdict of ours on a compose of m components: 0; 30; 31; 32 and 33 at a component; 22 at the composed type or at a component. A chosen verdict is
+-- a verdict of ours on a compose of m components: 0; 30; 31, of two counts that differ; 32 and 33 at a component; 22 at the composed type or at a component. A chosen verdict is
 -- none, and so is a newer thing at any other place.
 pub data OurVerdict (m : ℕ) : Result Judgement → Type 0 where
   itPasses : OurVerdict m (told passes)
   noComposed : OurVerdict m (told notComposed)
-  otherCount : (expected given : ℕ) → OurVerdict m (told (count expected given))
+  otherCount : (expected given : ℕ) → (expected ≡ given → ⊥) → OurVerdict m (told (count expected given))
   otherPart : (i : ℕ) → i < m → OurVerdict m (told (part i))
   brokenPart : (i : ℕ) → i < m → OurVerdict m (told (broken i))
   newerComposed : OurVerdict m (newer composed)
@@ -36,6 +36,8 @@ pub record VerdictLaid (n m : ℕ) (v : Result Judgement) : Type 0 where
   pub family : byte (frameOf n v) 0 ≡ 11
   pub number : VerdictNumber (byte (frameOf n v) 1)
   pub row : half (frameOf n v) 2 ≡ n
+  -- b4-7 and b8-11 of 31, expected and given, differ
+  pub counts : byte (frameOf n v) 1 ≡ 31 → word (frameOf n v) 4 ≡ word (frameOf n v) 8 → ⊥
   -- b4-7 of 32 and 33 is a component
   pub part : 32 ≤ byte (frameOf n v) 1 → word (frameOf n v) 4 < m
   -- b4-7 of 22 is a component, unless the composed type itself is newer

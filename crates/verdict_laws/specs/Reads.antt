@@ -2,7 +2,7 @@
 -- and not from the rule. First the composed type is looked into. Then, by its line, the count is checked, and the components are taken in order: the
 -- component's row, with its own reading, and then what the component is held against. The reading ends with what decides.
 use Prim.Native.Nat.{ℕ, suc}
-use mathlib.Core.Bool.{Bool, true, false, cond, not, _&&_, _||_}
+use mathlib.Core.Bool.{Bool, false, cond, not, _&&_, _||_}
 use mathlib.Core.List.{List, [], _∷_, _++_}
 use mathlib.Core.Option.{Option, none, some}
 use lib.Dec.{eqb}
@@ -48,15 +48,15 @@ arrayLine base (As.Pending o) = none
 arrayLine base As.Dynamic = none
 
 -- the member of an index; the count is checked first, so no component lacks one
-abbrev pub memberOf : List TypeNumber → ℕ → TypeNumber
-memberOf members i = getD members i (record { 0 = 0 })
+abbrev pub memberAt : List TypeNumber → ℕ → TypeNumber
+memberAt members i = getD members i (record { 0 = 0 })
 
 -- by the composed type, with the types of a struct's members. A vector adds its components up, and its total is checked last.
 abbrev pub line : List TypeNumber → TypeInner → Option Line
 line members (Ti.Vector z k) = some (record { counts = none; each = λ (i : ℕ). partOf k })
 line members (Ti.Matrix c r k) = some (record { counts = some (vectorSizeNumber c); each = λ (i : ℕ). column r k })
 line members (Ti.Array b z t) = arrayLine b z
-line members (Ti.Struct m n t) = some (record { counts = some (length members); each = λ (i : ℕ). sameAs (memberOf members i) })
+line members (Ti.Struct m n t) = some (record { counts = some (length members); each = λ (i : ℕ). sameAs (memberAt members i) })
 line members (Ti.Scalar k) = none
 line members (Ti.CooperativeMatrix c r k o) = none
 line members (Ti.Atomic k) = none
@@ -79,11 +79,12 @@ baseOf none = []
 abbrev pub withBase : Sight → TypeAnswer → List Thing
 withBase sight a = form a ∷ baseOf (sight (form a))
 
--- whether either answer is the number of a struct
+-- yes, where that is shown
 abbrev pub saysYes : Option Bool → Bool
 saysYes (some b) = b
 saysYes none = false
 
+-- whether either answer is the number of a struct
 abbrev pub eitherStruct : Sight → TypeAnswer → TypeAnswer → Bool
 eitherStruct sight a b = saysYes (sight (structNumber a)) || saysYes (sight (structNumber b))
 
@@ -93,15 +94,17 @@ comparison sight a b =
     cond (identical a b) []
     (structNumber a ∷ structNumber b ∷ cond (eitherStruct sight a b) [] (withBase sight a ++ withBase sight b))
 
--- the canonical form of a type that was looked into; none where that, or a pointer's base, is of unknown kind
-abbrev pub throughBase : TypeInner → AddressSpace → Option Form → Option TypeInner
-throughBase t s (some base) = some (canonical t s (base .inner))
-throughBase t s none = none
+-- the canonical form of a pointer, by what its base shows
+abbrev pub pointerForm : TypeInner → AddressSpace → Option Form → Option TypeInner
+pointerForm t s (some base) = some (canonical t s (base .inner))
+pointerForm t s none = none
 
+-- the canonical form of a type that was looked into; none where that, or a pointer's base, is of unknown kind
 abbrev pub canonicalForm : Sight → Option Form → Option TypeInner
-canonicalForm sight (some x) = ifPointer (x .inner) (λ b s. throughBase (x .inner) s (sight (form (number b)))) (some (x .inner))
+canonicalForm sight (some x) = ifPointer (x .inner) (λ b s. pointerForm (x .inner) s (sight (form (number b)))) (some (x .inner))
 canonicalForm sight none = none
 
+-- two canonical forms are equal; an unknown one is equal to none, and no reading goes on from it
 abbrev pub equalForms : Option TypeInner → Option TypeInner → Bool
 equalForms (some u) (some v) = equalTypes u v
 equalForms (some u) none = false
@@ -124,10 +127,12 @@ comesTo sight (sameAs t) a = comparison sight (number t) a
 abbrev pub isPartOf : Scalar → TypeInner → Bool
 isPartOf k t = ifScalar t (λ j. equalScalars j k) (ifVector t (λ z j. equalScalars j k) false)
 
+-- a type that was looked into passes a test
 abbrev pub formIs : (TypeInner → Bool) → Option Form → Bool
 formIs test (some x) = test (x .inner)
 formIs test none = false
 
+-- whether a component is as asked: number 32 if it is not
 abbrev pub isAsAsked : Sight → Against → TypeAnswer → Bool
 isAsAsked sight (partOf k) a = formIs (isPartOf k) (sight (form a))
 isAsAsked sight (column z k) a = formIs (λ t. equalTypes t (Ti.Vector z k)) (sight (form a))
@@ -154,6 +159,7 @@ abbrev pub ifCounted : Option ℕ → ℕ → List Step → List Step
 ifCounted (some expected) given rest = cond (eqb expected given) rest []
 ifCounted none given rest = rest
 
+-- a line: the count, then the components
 abbrev pub lineSteps : Sight → Readings → List RowNumber → Option Line → List Step
 lineSteps sight earlier parts (some l) = ifCounted (l .counts) (length parts) (partSteps sight earlier (l .each) 0 parts)
 lineSteps sight earlier parts none = []
