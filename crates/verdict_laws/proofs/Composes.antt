@@ -1,7 +1,6 @@
 -- A row of a file that has a verdict is a compose: the rule of its verdict is that of the type and the components that it shows. By the cases of a row
 -- (answering/proofs/Room.antt). Assumes nothing.
 use Prim.Native.Nat.{ℕ, _+_}
-use native.Mathlib.Omega.{arith}
 use mathlib.Core.Path.{_≡_, refl, ap, _∙_}
 use mathlib.Core.List.{List}
 use mathlib.Core.Option.{Option, none, some}
@@ -17,13 +16,11 @@ use Rattle.rule.specs.Answers.{Judgement, Result}
 use Rattle.rule.specs.Things.{compose, kind, listed, shown, see, seeRow}
 use Rattle.rule.specs.Rule.{Rule}
 use Rattle.rule.specs.Claim.{ours}
+use Rattle.type_methods.proofs.Seen.{never}
 use Rattle.row_rules.specs.Typed.{typing}
 use Rattle.compose.specs.Verdict.{verdict}
 use Rattle.compose.specs.Rows.{ofShown, verdictRule, judged, verdictOf}
 use Rattle.answering.proofs.Room.{shown-compose}
-
-pub never : {X : Type 0} → _≡_ {A = ℕ} 0 1 → X
-never z = absurd (omega arith)
 
 -- row n of a file shows a compose of a type from these rows
 pub record Composes (fr : List ℕ) (n : ℕ) : Type 0 where

@@ -17,6 +17,7 @@ use Rattle.rule.specs.Answers.{number, value, malformed, Typed, given, refused,
 use Rattle.rule.specs.Things.{see}
 use Rattle.rule.specs.Rule.{Rule}
 use Rattle.rule.specs.Claim.{ours}
+use Rattle.type_methods.proofs.Seen.{never}
 use Rattle.row_rules.specs.Typed.{typing}
 use Rattle.typifier_laws.proofs.Good.{Good}
 use Rattle.typifier_laws.proofs.Ranged.{InRange}
@@ -27,7 +28,7 @@ use Rattle.answering.specs.Outputs.{rowAnswer, rowFrames, outputs}
 use Rattle.verdict_laws.specs.Numbers.{frameOf}
 use Rattle.verdict_laws.specs.Each.{AnswerFamily, rowKind, ThenVerdict, OneEach, composesBelow, composeCount}
 use Rattle.verdict_laws.specs.Each as Each
-use Rattle.verdict_laws.proofs.Composes.{never, composes}
+use Rattle.verdict_laws.proofs.Composes.{composes}
 use Rattle.verdict_laws.proofs.Numbers.{compose-kind, verdict-numbers}
 
 -- an answer in range is of family 8, 9 or 10

@@ -22,23 +22,25 @@ use Rattle.ir.specs.Numbers.{vectorSizeNumber}
 use Rattle.frames.specs.Bytes.{byte, half, word, frameCount}
 use Rattle.frames.proofs.ReadBack.{half-back, word-back}
 use Rattle.archive.specs.Starts.{startsOf, rowCount}
-use Rattle.rule.specs.Answers.{TypeAnswer, number, Typed, given, refused, chosenRefusal, Place, component, composed, Judgement, passes, count, Result, told, newer}
 use Rattle.archive.specs.Access.{rowIn}
+use Rattle.rule.specs.Answers.{TypeAnswer, number, Typed, given, refused, chosenRefusal, Place, component, composed, Judgement, passes, count, Result, told, newer}
 use Rattle.rule.specs.Things.{Thing, Seen, Sight, form, structNumber, listed, see}
 use Rattle.rule.specs.Rule.{Rule, done, come, past, Answers, run}
 use Rattle.rule.specs.Claim.{ours, among, answers}
+use Rattle.rule.proofs.Named.{listed-length}
 use Rattle.type_methods.specs.Canonical.{canonical, equalTypes, identical}
 use Rattle.type_methods.specs.Comparison.{inForm, byStruct, byIdentical, compare}
+use Rattle.type_methods.proofs.Seen.{never}
 use Rattle.row_rules.specs.Typed.{typing}
-use Rattle.compose.specs.Verdict.{orBroken, comeTo, orPart, eachPart, adds, addPart, vectorParts, columnIs, elementIs, memberIs, arrayParts, byForm, verdict}
-use Rattle.rule.proofs.Named.{listed-length}
 use Rattle.typifier_laws.proofs.Good.{Good}
 use Rattle.typifier_laws.proofs.Range.{row-there}
 use Rattle.typifier_laws.proofs.ByBytes.{rowFrame, rowNamed, row-by-bytes}
+use Rattle.compose.specs.Verdict.{orBroken, comeTo, orPart, eachPart, adds, addPart, vectorParts, columnIs, elementIs, memberIs, arrayParts, byForm, verdict}
 use Rattle.compose.specs.Rows.{ofShown, verdictOf}
 use Rattle.answering.proofs.Room.{row-compose, row-is}
-use Rattle.verdict_laws.specs.Numbers.{OurVerdict, itPasses, noComposed, otherCount, otherPart, brokenPart, newerComposed, newerPart, passing, newerNumber, typeNumber, countNumber, partNumber, brokenNumber, frameOf, VerdictLaid}
-use Rattle.verdict_laws.proofs.Composes.{never, Composes, composes, rule-is, has-rule}
+use Rattle.verdict_laws.specs.Numbers.{OurVerdict, itPasses, noComposed, otherCount, otherPart, brokenPart, newerComposed, newerPart}
+use Rattle.verdict_laws.specs.Numbers.{number0, number30, number31, number32, number33, number22, number22composed, frameOf, VerdictLaid}
+use Rattle.verdict_laws.proofs.Composes.{Composes, composes, rule-is, has-rule}
 use Rattle.verdict_laws.proofs.Reading.{by-pointer}
 
 module _ (m : ℕ) where
@@ -164,26 +166,17 @@ verdict-ours sight earlier t parts =
 
 -- THE FRAME of a verdict of ours
 pub verdict-laid : (n m : ℕ) (v : Result Judgement) → OurVerdict m v → VerdictLaid n m v
-verdict-laid n m v itPasses =
-    record { family = refl; number = passing; row = half-back n; counts = λ l q. absurd (omega arith); part = λ l. absurd (omega arith); newer-part = λ e c. absurd (omega arith); whole = λ l e. absurd (omega arith) }
-verdict-laid n m v noComposed =
-    record { family = refl; number = typeNumber; row = half-back n; counts = λ l q. absurd (omega arith); part = λ l. absurd (omega arith); newer-part = λ e c. absurd (omega arith); whole = λ l e. absurd (omega arith) }
-verdict-laid n m v (otherCount e g d) =
-    record { family = refl; number = countNumber; row = half-back n; counts = λ l q. d (sym (word-back e) ∙ q ∙ word-back g); part = λ l. absurd (omega arith); newer-part = λ e c. absurd (omega arith); whole = λ l e. absurd (omega arith) }
-verdict-laid n m v (otherPart i h) =
-    record { family = refl; number = partNumber; row = half-back n; counts = λ l q. absurd (omega arith); part = λ l. rw (word-back i) h; newer-part = λ e c. absurd (omega arith); whole = λ l e. absurd (omega arith) }
-verdict-laid n m v (brokenPart i h) =
-    record { family = refl; number = brokenNumber; row = half-back n; counts = λ l q. absurd (omega arith); part = λ l. rw (word-back i) h; newer-part = λ e c. absurd (omega arith); whole = λ l e. absurd (omega arith) }
-verdict-laid n m v newerComposed =
-    record { family = refl; number = newerNumber; row = half-back n; counts = λ l q. absurd (omega arith); part = λ l. absurd (omega arith); newer-part = λ e c. absurd (c refl); whole = λ l e. (λ q. refl, λ q. refl) }
+verdict-laid n m v itPasses = record { family = refl; values = number0; row = half-back n; whole = λ l e. absurd (omega arith) }
+verdict-laid n m v noComposed = record { family = refl; values = number30; row = half-back n; whole = λ l e. absurd (omega arith) }
+verdict-laid n m v (otherCount e g d) = record { family = refl; values = rw (word-back e, word-back g) (number31 e g d); row = half-back n; whole = λ l e. absurd (omega arith) }
+verdict-laid n m v (otherPart i h) = record { family = refl; values = rw (word-back i) (number32 i h); row = half-back n; whole = λ l e. absurd (omega arith) }
+verdict-laid n m v (brokenPart i h) = record { family = refl; values = rw (word-back i) (number33 i h); row = half-back n; whole = λ l e. absurd (omega arith) }
+verdict-laid n m v newerComposed = record { family = refl; values = number22composed; row = half-back n; whole = λ l e. (λ q. refl, λ q. refl) }
 verdict-laid n m v (newerPart i h) =
     record {
       family = refl;
-      number = newerNumber;
+      values = rw (word-back i) (number22 i h);
       row = half-back n;
-      counts = λ l q. absurd (omega arith);
-      part = λ l. absurd (omega arith);
-      newer-part = λ e c. rw (word-back i) h;
       whole = λ l e. (λ q. absurd (omega (arith, sym (word-back i) ∙ q)), λ q. never (cc));
     }
 
