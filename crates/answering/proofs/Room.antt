@@ -49,7 +49,7 @@ pub record IsCompose (e : Expression) : Type 0 where
   pub first : ComponentNumber
   pub is : e ≡ Ex.Compose ty count first
 
-shown-compose : (fr : List ℕ) (s : Starts) (e : Expression) (r : Rule Judgement) → ofShown (shown fr s e) ≡ some r → IsCompose e
+pub shown-compose : (fr : List ℕ) (s : Starts) (e : Expression) (r : Rule Judgement) → ofShown (shown fr s e) ≡ some r → IsCompose e
 shown-compose fr s (Ex.Literal x0) r h = never (cc)
 shown-compose fr s (Ex.Constant x0) r h = never (cc)
 shown-compose fr s (Ex.Override x0) r h = never (cc)

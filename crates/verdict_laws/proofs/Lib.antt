@@ -1,0 +1,4 @@
+pub mod Composes
+pub mod Reading
+pub mod Numbers
+pub mod Each
