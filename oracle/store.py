@@ -1,343 +1,233 @@
 #!/usr/bin/env python3
-"""store.py ORACLE: writes the files of stored/, with the oracle's answers.
+"""store.py ORACLE: writes the cases of cases.py, with what must be printed of each, for the program replay_answers.
+store.py ORACLE --confirm: asks the oracle and model.py again for each stored case, and counts differences.
 
-Cases with `says` have their answers written here by hand, from document 01; the oracle must give them.
+Each case has the source of its output: `hand` (written by hand from document 01; of an accepted file the oracle prints the same),
+`rust` (printed by the oracle) or `model` (a refused file's number and place, by model.py; the oracle only refuses it).
 """
 
+import collections
 import pathlib
 import subprocess
 import sys
+import tempfile
 
 sys.dont_write_bytecode = True
-import generate
+import cases
 import model
-from model import BOOL, F32, U32, number, put, refusal, scalar, vector, verdict_frame
+from model import four, two
 
-CASES, PAIRS = {}, {}
+HOME = pathlib.Path(__file__).parent.parent / 'crates' / 'replay_answers'
+READS = (*range(6, 10), *range(13, 22), 23, 33, 34)
+MODES = {1: 12, 14: 2, 16: 4, 18: 18, 21: 4}
+TYPES = ('Scalar', 'Vector', 'Matrix', 'CooperativeMatrix', 'Atomic', 'Pointer', 'ValuePointer', 'Array', 'Struct', 'Image', 'Sampler',
+         'AccelerationStructure', 'RayQuery', 'BindingArray')
+SIZES = ('constant', 'pending', 'dynamic')
 
 
-def case(name, types=(), members=(), items=(), rows=(), parts=(), says=None, pairs=None):
-    CASES[name] = [*types, *members, *items, *rows, *parts], says
+def oracle_says(oracle, text, pairs):
+    """The oracle's lines, marks included, and its words on the pairs; None where it refuses the file."""
+    done = subprocess.run([oracle], input=text, capture_output=True)
+    if done.returncode == 2:
+        return None
+    done.check_returncode()
+    words = ''
     if pairs:
-        PAIRS[name] = pairs
+        with tempfile.NamedTemporaryFile('w') as file:
+            file.write(''.join('%s %s\n' % (left.hex(), right.hex()) for left, right in pairs))
+            file.flush()
+            words = subprocess.run([oracle, 'compare-many', file.name], input=text, capture_output=True, check=True).stdout.decode()
+    return done.stdout.decode() + words
 
 
-# Types, members, items and rows in short.
-
-def t_scalar(s=F32): return put(1, 1, b4=s[0], b5=s[1])
-def t_vector(size, s=F32): return put(1, 2, b2=size, b4=s[0], b5=s[1])
-def t_matrix(columns, rows, s=F32): return put(1, 3, b2=columns, b3=rows, b4=s[0], b5=s[1])
-def t_atomic(s=U32): return put(1, 5, b4=s[0], b5=s[1])
-def t_pointer(base, space=0, access=0): return put(1, 6, w2=base, b6=space, b7=access)
-def t_array(base, count, stride=0): return put(1, 8, w2=base, d8=count, d12=stride)
-def t_struct(first, count, span=0): return put(1, 9, w2=first, w4=count, d12=span)
-def member(ty, offset=0): return put(2, 0, w2=ty, d12=offset)
-def part(row): return put(5, 0, w2=row)
-def local(ty): return put(3, 5, w2=ty)
-def unknown(kind=200): return put(1, kind)
-def literal(kind): return put(4, 1, b6=kind)
-def zero(ty): return put(4, 4, w2=ty)
-def compose(ty, count, first): return put(4, 5, w2=ty, w4=count, d12=first)
-def access(row): return put(4, 6, w2=row)
-def index(row, at): return put(4, 7, w2=row, d12=at)
-def local_row(n): return put(4, 12, w2=n)
-def load(row): return put(4, 13, w2=row)
-def binary(op, left, right): return put(4, 18, b6=op, w2=left, w4=right)
-def over(kind, row, **more): return put(4, kind, w2=row, **more)
-
-
-def value_of(ty, **more): return put(9, ty, **more)
-
-
-# Document 01's own cases.
-
-case('p-example', [t_scalar(), t_vector(3), unknown()], items=[local(1), local(2)],
-     rows=[local_row(0), index(0, 2), load(1), local_row(1), load(3), index(0, 3)],
-     says=[value_of(6, w2=1), value_of(7, b4=2, b5=4), scalar(F32), value_of(6, w2=2), refusal(22, 4), refusal(10, 0, 3)])
-case('p-empty', says=[])
-case('p-matrix-index', [t_matrix(3, 2)], rows=[zero(0), index(0, 2), index(0, 3)],
-     says=[number(0), vector(2, F32), refusal(10, 0, 3)])
-case('p-scalar-times-vector', [t_scalar(), t_vector(4)], rows=[zero(0), zero(1), binary(2, 0, 1), literal(1), binary(2, 3, 1)],
-     says=[number(0), number(1), number(1), scalar(F32), number(1)])
-case('p-vec4', [t_scalar(), t_vector(3), t_vector(4)], rows=[zero(0), zero(1), compose(2, 2, 0), compose(2, 2, 1)],
-     parts=[part(0), part(1), part(1)],
-     says=[number(0), number(1), number(2), verdict_frame(0, 2), number(2), verdict_frame(31, 3, 4, 6)])
-case('p-same', [t_scalar(), t_pointer(0), t_struct(0, 1), t_struct(0, 1)], [member(0)],
-     pairs=[(number(1), value_of(7, b4=2, b5=4), 'yes'), (number(2), number(3), 'no'), (number(2), number(2), 'yes')])
-
-# Points of reading.
-
-case('refusal-fields', [t_scalar(), t_vector(2), t_struct(0, 1), t_scalar()], [member(0)],
-     [put(3, 4, w2=1), put(3, 4, w2=0), local(1), local(2), local(3), put(3, 6)],
-     [put(4, 10, d12=1), put(4, 10, d12=2), put(4, 10, d12=2 ** 32 - 1), put(4, 24), put(4, 28), put(4, 30),
-      local_row(0), index(6, 2), local_row(1), index(8, 1), access(8), local_row(2), access(11), index(11, 0),
-      zero(2), access(14), index(14, 1), zero(0), access(17), index(17, 0), binary(2, 14, 14)],
-     says=[number(0), refusal(19, 0, 2), refusal(19, 0, 2 ** 32 - 1), refusal(17), refusal(20), refusal(20),
-           value_of(6, w2=1), refusal(10, 6, 2), value_of(6, w2=2), refusal(10, 8, 1), refusal(12, 2),
-           value_of(6, w2=3), refusal(12, 3), refusal(12, 3, 0, 1),
-           number(2), refusal(11, 14), refusal(10, 14, 1), number(0), refusal(11, 17), refusal(11, 17, 0, 1), refusal(18)])
-case('newer-place', [unknown(), t_scalar()],
-     rows=[zero(0), put(4, 22, d4=5), over(17, 1), over(17, 0), access(3), over(17, 4), zero(1), over(8, 6, b6=2),
-           over(8, 3, b6=2), put(4, 35), over(19, 9)],
-     says=[number(0), refusal(22, 1), refusal(22, 1), number(0), refusal(22, 4), refusal(22, 4), number(1), vector(2, F32),
-           refusal(22, 8), refusal(22, 9), refusal(22, 9)])
-case('multiply-order', [unknown(), t_scalar(), t_struct(0, 0)],
-     rows=[zero(0), zero(1), put(4, 10, d12=9), put(4, 22), binary(2, 0, 2), binary(2, 1, 0), binary(2, 0, 1),
-           binary(2, 3, 2), binary(2, 2, 3), binary(2, 0, 3), zero(2), binary(2, 10, 0), binary(0, 0, 2)],
-     says=[number(0), number(1), refusal(19, 0, 9), refusal(22, 3), refusal(19, 0, 9), refusal(22, 5), refusal(22, 6),
-           refusal(22, 3), refusal(19, 0, 9), refusal(22, 3), number(2), refusal(22, 11), number(0)])
-case('storage-image', [put(1, 10, b2=2, b4=3, b5=40, b7=7), t_scalar(), t_pointer(0)],
-     rows=[zero(0), over(14, 0), over(14, 0, b6=1), over(15, 0), over(16, 0), put(4, 16, b6=1), zero(1), over(14, 6),
-           over(15, 6), zero(2), over(15, 9), load(9), over(15, 11), put(4, 22), over(15, 13)],
-     says=[number(0), refusal(22, 1), vector(4, F32), refusal(22, 3), vector(2, U32), scalar(U32), number(1), refusal(16, 6),
-           refusal(16, 6), number(2), refusal(16, 9), number(0), refusal(22, 12), refusal(22, 13), refusal(22, 13)])
-case('logical-exact', [t_scalar(BOOL), t_scalar((3, 4)), t_vector(2, BOOL), unknown()],
-     rows=[zero(0), binary(14, 0, 0), literal(9), binary(15, 2, 0), zero(1), binary(14, 4, 0), zero(2), binary(15, 6, 0),
-           zero(3), binary(14, 8, 0), binary(15, 8, 0), binary(14, 0, 8)],
-     says=[number(0), scalar(BOOL), scalar(BOOL), scalar(BOOL), number(1), refusal(18), number(2), refusal(18), number(3),
-           refusal(22, 9), refusal(22, 10), scalar(BOOL)])
-case('as-matrix', [t_matrix(2, 3, (0, 4)), t_vector(3), t_scalar()],
-     rows=[zero(0), over(23, 0, b6=2), over(23, 0, b6=3, b7=1, b8=1), zero(1), over(23, 3, b6=1), zero(2),
-           over(23, 5, b6=1, b7=1, b8=0), over(23, 5, b6=4, b7=1, b8=255)],
-     says=[number(0), value_of(3, b2=2, b3=3, b4=0, b5=4), value_of(3, b2=2, b3=3, b4=0, b5=1), number(1), vector(3, (1, 4)),
-           number(2), scalar((1, 0)), scalar((4, 255))])
-case('pass-unlooked', [unknown(), t_pointer(0), t_array(0, 2), t_pointer(2), t_pointer(1)],
-     items=[local(0), put(3, 1, w2=0)][::-1],
-     rows=[put(4, 2), zero(1), zero(2), access(2), zero(3), index(4, 9), load(5), zero(4), load(7), load(8), binary(1, 0, 0),
-           over(34, 0), over(20, 1), over(8, 1, b6=3), over(23, 1, b6=0)],
-     says=[number(0), number(1), number(2), number(0), number(3), value_of(6, w2=0), refusal(22, 6), number(4), number(1),
-           refusal(22, 9), number(0), number(0), number(1), refusal(13, 1), refusal(18)])
-case('atomic', [t_atomic(), t_scalar(), t_array(0, 2), t_pointer(2)], items=[local(0), local(1), local(2)],
-     rows=[local_row(0), load(0), access(0), local_row(1), load(3), zero(3), access(5), load(6), zero(0), load(8), over(33, 0, b6=8, b7=8)],
-     says=[value_of(6, w2=0), scalar(U32), refusal(12, 0), value_of(6, w2=1), number(1), number(3), value_of(6, w2=0),
-           scalar(U32), number(0), refusal(15, 8), refusal(15, 0)])
-case('verdict-newer', [t_scalar(), unknown(), t_pointer(1), t_vector(2), t_matrix(2, 2), t_array(1, 2), t_array(0, 2), t_struct(0, 2), t_struct(0, 0)],
-     [member(1), member(0)],
-     rows=[zero(0), zero(1), zero(2), put(4, 22), put(4, 10), zero(8), zero(3),
-           compose(1, 1, 0), compose(3, 2, 0), compose(3, 1, 2), compose(4, 2, 4), compose(4, 2, 6), compose(5, 2, 8),
-           compose(5, 2, 0), compose(5, 2, 10), compose(6, 2, 0), compose(6, 2, 12), compose(6, 2, 14), compose(6, 2, 16),
-           compose(6, 1, 4), compose(7, 2, 3), compose(3, 2, 14), compose(3, 3, 14)],
-     parts=[part(n) for n in (0, 1, 2, 1, 0, 1, 6, 2, 1, 1, 5, 1, 2, 0, 0, 3, 4, 3)],
-     says=[number(0), number(1), number(2), refusal(22, 3), refusal(19), number(8), number(3),
-           number(1), verdict_frame(22, 7, 0xffffffff), number(3), verdict_frame(22, 8, 1), number(3), verdict_frame(32, 9, 0),
-           number(4), verdict_frame(32, 10, 0), number(4), verdict_frame(32, 11, 1), number(5), verdict_frame(0, 12),
-           number(5), verdict_frame(22, 13, 0), number(5), verdict_frame(32, 14, 0), number(6), verdict_frame(22, 15, 1),
-           number(6), verdict_frame(22, 16, 0), number(6), verdict_frame(22, 17, 1), number(6), verdict_frame(33, 18, 0),
-           number(6), verdict_frame(31, 19, 2, 1), number(7), verdict_frame(0, 20), number(3), verdict_frame(22, 21, 1),
-           number(3), verdict_frame(22, 22, 1)])
-case('verdict-order', [t_scalar(), t_vector(2), t_matrix(2, 2), t_array(0, 2), t_struct(0, 1), t_scalar(U32)], [member(0)],
-     rows=[zero(0), zero(1), zero(5), put(4, 10), put(4, 22), compose(1, 2, 0), compose(1, 3, 2), compose(1, 0, 0),
-           compose(2, 1, 0), compose(3, 3, 0), compose(4, 0, 0), compose(3, 2, 5), compose(2, 2, 7), compose(1, 2, 8)],
-     parts=[part(n) for n in (2, 3, 1, 1, 0, 3, 4, 1, 4, 3)],
-     says=[number(0), number(1), number(5), refusal(19), refusal(22, 4), number(1), verdict_frame(32, 5, 0),
-           number(1), verdict_frame(31, 6, 2, 5), number(1), verdict_frame(31, 7, 2, 0), number(2), verdict_frame(31, 8, 2, 1),
-           number(3), verdict_frame(31, 9, 2, 3), number(4), verdict_frame(31, 10, 1, 0), number(3), verdict_frame(33, 11, 0),
-           number(2), verdict_frame(22, 12, 1), number(1), verdict_frame(22, 13, 0)])
-case('compare-points', [t_scalar(), unknown(), t_pointer(1), t_struct(0, 1), t_pointer(2), t_scalar(), t_array(0, 2), t_array(5, 2), t_pointer(0), t_pointer(5),
-                        t_atomic(), t_pointer(10), t_atomic(), t_pointer(12)], [member(0)],
-     [put(3, 2)],
-     pairs=[(number(1), number(1), 'yes'), (number(1), number(3), 'no'), (number(3), number(1), 'no'), (number(0), number(1), '!22'),
-            (number(0), number(2), '!22'), (number(2), number(0), '!22'), (number(2), number(3), 'no'), (number(2), value_of(6, w2=1), '!22'),
-            (value_of(6, w2=1), value_of(6, w2=1), 'yes'), (number(4), number(0), 'no'), (number(4), value_of(6, w2=2), 'yes'),
-            (number(0), scalar(F32), 'yes'), (number(0), number(5), 'yes'), (number(6), number(7), 'no'), (number(8), number(9), 'yes'),
-            (number(11), number(13), 'no'), (number(11), value_of(6, w2=10), 'yes'), (value_of(8, w2=0, d8=2), number(6), 'yes'),
-            (value_of(8, w2=0, d8=2, d12=4), number(6), 'no'), (value_of(14, w2=0, b4=1), value_of(14, w2=0, b4=1), 'yes'),
-            (value_of(14, w2=0, b4=1, d8=1), number(0), '!6'), (number(14), number(14), '!6'), (number(14), bytes(16), '!6'),
-            (bytes(16), number(14), '!5'), (value_of(9), value_of(9), '!5'), (value_of(200), number(0), '!5'),
-            (put(8, 1), number(0), '!5'), (put(8, 0, b4=1), number(0), '!5'), (put(8, 0, w2=14, b15=1), number(0), '!5'),
-            (value_of(6, w2=14, b6=10), number(0), '!5'), (value_of(6, w2=14), number(0), '!6'), (refusal(17), number(0), '!5'),
-            (value_of(8, w2=0), number(0), '!5'), (value_of(8, w2=14), number(0), '!5'), (number(0), value_of(8, w2=14, b4=2), '!6'),
-            (value_of(10, b2=2, b4=3, b5=41), number(0), '!5'), (value_of(11, b2=1), value_of(12, b2=1), 'no'),
-            (value_of(4, b2=8, b3=16, b4=2, b5=2, b6=2), value_of(4, b2=8, b3=16, b4=2, b5=2, b6=2), 'yes')])
-case('ranges-overlap', [t_scalar(), t_vector(2), t_struct(0, 2), t_struct(1, 2), t_struct(1, 0), t_array(1, 2)], [member(0), member(1), member(0)],
-     rows=[zero(0), zero(1), compose(2, 2, 0), compose(3, 2, 1), compose(4, 0, 3), compose(5, 2, 3), compose(2, 2, 1)],
-     parts=[part(n) for n in (0, 1, 0, 1, 1, 6)],
-     says=[number(0), number(1), number(2), verdict_frame(0, 2), number(3), verdict_frame(0, 3), number(4), verdict_frame(0, 4),
-           number(5), verdict_frame(0, 5), number(2), verdict_frame(32, 6, 0)])
-
-# Each rule over each form. The types, from 0; 20 is of unknown kind, 21 points to it, 27 to an atomic.
-
-FORMS = [
-    t_scalar(), t_scalar(BOOL), t_vector(3), t_matrix(4, 2), put(1, 4, b2=8, b3=16, b4=2, b5=2, b6=1), t_atomic(),
-    t_pointer(2), put(1, 7, b4=2, b5=4, b6=1), put(1, 7, b2=2, b4=2, b5=4, b6=4, b7=3), t_array(2, 5, 16),
-    put(1, 8, b4=2, d12=4), t_struct(0, 2, 28), put(1, 10, b2=2, b5=1), put(1, 10, b2=4, b3=1, b4=1, b6=1),
-    put(1, 10, b2=2, b4=2), put(1, 10, b2=3, b4=3, b5=25, b7=1), put(1, 11, b2=1), put(1, 12), put(1, 13, b2=1),
-    put(1, 14, w2=12, d8=4), unknown(), t_pointer(20), t_vector(2, BOOL), put(1, 8, w2=3, b4=1, d12=32),
-    put(1, 14, w2=16, b4=2), t_pointer(11, 4, 7), t_struct(2, 0), t_pointer(5, 2), put(1, 10, b2=1, b5=0),
-]
-MEMBERS = [member(0), member(2, 16)]
-OVERRIDE = [put(3, 2, w2=0)]
-MANY = len(FORMS)
-
-
-def table(name, *rules):
-    """Each rule over a value of each form, and over a pointer to it."""
-    for word, row, items in ('values', zero, []), ('pointers', local_row, [local(n) for n in range(MANY)]):
-        case('%s-%s' % (name, word), FORMS, MEMBERS, OVERRIDE + items,
-             [row(n) for n in range(MANY)] + [rule(n) for rule in rules for n in range(MANY)])
-
-
-def over_some(name, forms, *rules):
-    """Each rule over a value of some forms."""
-    case(name, FORMS, MEMBERS, OVERRIDE, [zero(n) for n in forms] + [rule(n) for rule in rules for n in range(len(forms))])
-
-
-table('access', access, lambda n: index(n, 1))
-table('index-bounds', lambda n: index(n, 2), lambda n: index(n, 4), lambda n: index(n, 2 ** 32 - 1))
-table('load', load, lambda n: over(33, n, b6=8, b7=16, b8=2))
-table('images', lambda n: over(14, n), lambda n: over(14, n, b6=1), lambda n: over(15, n), lambda n: over(16, n))
-table('parts-of-vectors', lambda n: over(8, n, b6=4), lambda n: over(9, n, b6=2))
-over_some('passed-on', (0, 2, 6, 11, 20, 21), *[lambda n, kind=kind: over(kind, n) for kind in (17, 19, 20, 34)],
-      *[lambda n, op=op: binary(op, n, 0) for op in (0, 1, 3, 4, 11, 12, 13, 16, 17)])
-table('compared', *[lambda n, op=op: binary(op, n, 0) for op in (5, 14, 15)], lambda n: over(21, n, b6=2))
-over_some('compared-more', (0, 1, 2, 3, 6, 20, 21, 22), *[lambda n, op=op: binary(op, n, 0) for op in range(6, 11)],
-          lambda n: over(21, n, b6=3))
-table('as', lambda n: over(23, n, b6=1), lambda n: over(23, n, b6=0, b7=1, b8=8))
-over_some('multiply', (0, 2, 3, 4, 5, 6, 7, 9, 11, 12, 16, 18, 19, 20, 21),
-          *[lambda n, right=right: binary(2, n, right) for right in range(15)])
-case('multiply-sizes', [t_matrix(2, 3), t_matrix(4, 2, (1, 4)), t_matrix(3, 4, (2, 2)), t_vector(2), t_vector(3), t_vector(4, (2, 8)),
-                        put(1, 4, b2=8, b3=16, b4=2, b5=4, b6=2), put(1, 4, b2=16, b3=8, b4=2, b5=2), t_scalar()],
-     rows=[zero(n) for n in range(9)] + [binary(2, a, b) for a in range(9) for b in range(9)])
-case('composed-kinds', FORMS, MEMBERS, OVERRIDE,
-     [zero(n) for n in range(MANY)] + [compose(n, 1, m) for m in (0, 2) for n in range(MANY)], [part(0), part(1), part(2)])
-case('refusals-passed', [t_scalar(), t_vector(2), t_struct(0, 0)], items=[put(3, 5, w2=2), put(3, 6)],
-     rows=[zero(0), zero(1), index(1, 2), access(0), local_row(0), access(4), over(8, 1, b6=2), over(9, 0, b6=2), load(0),
-           over(15, 0), put(4, 24), binary(2, 1, 4), put(4, 10), put(4, 30), put(4, 22)] +
-     [over(kind, n, **more) for n in (2, 3, 5, 6, 7, 8, 9, 10, 11, 12, 13, 14) for kind, more in
-      ((6, {}), (7, {}), (8, dict(b6=2)), (9, dict(b6=2)), (13, {}), (14, {}), (15, {}), (16, {}), (17, {}), (18, dict(b6=2)), (18, dict(b6=5)),
-       (18, dict(b6=14)), (19, {}), (20, {}), (21, dict(b6=3)), (23, {}), (33, dict(b6=8, b7=8)), (34, {}))])
-
-# Rows that read nothing.
-
-case('literals', rows=[literal(n) for n in range(12)], says=[scalar(s) for s in model.LITERALS])
-case('carry-nothing', rows=[put(4, n) for n in range(27, 32)] + [put(4, 16, b6=n) for n in (1, 2, 3)] + [put(4, 21, b6=n) for n in (0, 1)],
-     says=[scalar(U32), refusal(20), scalar(BOOL), refusal(20), vector(4, U32)] + [scalar(U32)] * 3 + [scalar(BOOL)] * 2)
-case('special-types', [t_scalar(), t_struct(0, 0)], items=[put(3, 7, w2=1), put(3, 8)], rows=[put(4, 28), put(4, 30)],
-     says=[number(0), number(1)])
-case('special-intersection', [t_scalar()], items=[put(3, 7)], rows=[put(4, 28), put(4, 30)], says=[refusal(20), number(0)])
-case('special-vertices', [t_scalar()], items=[put(3, 8)], rows=[put(4, 28), put(4, 30)], says=[number(0), refusal(20)])
-case('named-types', [t_scalar(), unknown(), t_struct(0, 0)], rows=[put(4, kind, w2=n) for kind in (4, 25, 26, 32) for n in range(3)])
-case('items', [t_scalar(), t_vector(2), unknown()],
-     items=[put(3, 1, w2=1), put(3, 1, w2=2), put(3, 2, w2=1), put(3, 4, w2=2), put(3, 4, w2=1), put(3, 5, w2=2), put(3, 5, w2=0),
-            put(3, 6, w2=2, b4=1), put(3, 6), put(3, 6, w2=1, b4=1)],
-     rows=[put(4, 2), put(4, 2, w2=1), put(4, 3), put(4, 10), put(4, 10, d12=1), put(4, 10, d12=2), put(4, 10, d12=65536),
-           local_row(0), local_row(1), put(4, 24), put(4, 24, w2=1), put(4, 24, w2=2)])
-case('globals', [t_scalar(), unknown()], items=[put(3, 3, b6=n) for n in range(10)] + [put(3, 3, b6=4, b7=n) for n in range(8)] + [put(3, 3, w2=1, b6=5), put(3, 3, w2=1)],
-     rows=[put(4, 11, w2=n) for n in range(20)] + [load(n) for n in range(20)])
-case('math-and-unknown-rows', [t_scalar()], rows=[put(4, kind, d2=0xffffffff, d12=0xffffffff) for kind in (22, 0, 35, 99, 255)] + [over(17, n) for n in range(5)])
-case('items-only', [t_scalar()], items=[put(3, 1)], says=[])
-case('image-dimensions', [put(1, 10, b2=d, b3=a, b4=c) for d in (1, 2, 3, 4) for a in (0, 1) for c in range(4)],
-     rows=[zero(n) for n in range(32)] + [over(kind, n, **more) for kind, more in ((14, {}), (14, dict(b6=1)), (15, {}), (16, {})) for n in range(32)])
-case('image-kinds', [put(1, 10, b2=2, b5=k, b6=m) for k in range(6) for m in (0, 1)],
-     rows=[zero(n) for n in range(12)] + [over(kind, n, **more) for kind, more in ((14, {}), (14, dict(b6=1)), (15, {})) for n in range(12)])
-case('image-formats', [put(1, 10, b2=1, b4=3, b5=f, b7=f % 8) for f in range(41)],
-     rows=[zero(n) for n in range(41)] + [over(14, n, b6=1) for n in range(41)] + [over(15, n) for n in range(41)])
-case('scalar-widths', [t_scalar((k, w)) for k in range(6) for w in (0, 1, 3, 255)] + [t_vector(2, (3, 255)), t_atomic((5, 0)), t_pointer(25)],
-     rows=[zero(n) for n in range(27)] + [over(8, n, b6=2) for n in range(24)] + [binary(14, n, 0) for n in range(24)] +
-     [access(24), over(23, 24, b6=2), load(26)])
-case('chain', [t_scalar()] + [t_array(n, 2) if n % 2 else t_struct(n // 2, 1) for n in range(40)] + [t_pointer(40)],
-     [member(2 * n) for n in range(20)], items=[local(40)],
-     rows=[local_row(0)] + [index(n, 0) for n in range(40)] + [load(40), zero(40)] + [index(42 + n, 0) for n in range(40)] +
-     [over((17, 19, 20)[n % 3], 82 + n) for n in range(40)])
-case('compose-alike', [t_scalar(), t_scalar(), t_vector(2), t_array(0, 2), t_array(1, 2), t_array(3, 1), t_pointer(0), t_pointer(1), t_array(6, 2), t_atomic(),
-                       t_atomic(), t_pointer(9), t_pointer(10), t_array(11, 1), t_matrix(2, 2), t_struct(0, 1), t_struct(0, 1), t_array(15, 1)], [member(0)],
-     rows=[zero(n) for n in range(18)] + [literal(1), over(8, 18, b6=2),
-           compose(3, 2, 0), compose(4, 2, 0), compose(5, 1, 2), compose(5, 1, 3), compose(8, 2, 4), compose(13, 1, 6), compose(13, 1, 7),
-           compose(14, 2, 8), compose(15, 1, 0), compose(17, 1, 10), compose(17, 1, 11), compose(2, 2, 12), compose(2, 1, 13)],
-     parts=[part(n) for n in (0, 1, 3, 4, 6, 7, 11, 12, 2, 19, 15, 16, 18, 1)])
-
-# Where the source parts from WGSL (docs/DIFFERENCES.md): the smallest input for each difference.
-
-SAMPLER, F16, RUNTIME = put(1, 11), (2, 2), put(1, 8, b4=2, d12=4)
-
-
-def global_row(n): return put(4, 11, w2=n)
-def in_handle(ty): return put(3, 3, w2=ty, b6=5)
-def image(dim, **more): return put(1, 10, b2=dim, **more)
-
-
-case('differs-literal', rows=[literal(0)])
-case('differs-zero-value', [SAMPLER], rows=[zero(0)])
-case('differs-index-past-array', [t_scalar(), t_array(0, 2, 4)], rows=[zero(1), index(0, 2)])
-case('differs-load-rule', [t_scalar()], items=[local(0)], rows=[local_row(0), over(8, 0, b6=2)])
-case('differs-load-runtime-array', [t_scalar(), RUNTIME], items=[put(3, 3, w2=1, b6=4, b7=1)], rows=[global_row(0), load(0)])
-case('differs-load-write-only', [t_scalar()], items=[put(3, 3, b6=4, b7=2)], rows=[global_row(0), load(0)])
-case('differs-sample-uint', [image(2, b5=1)], items=[in_handle(0)], rows=[global_row(0), over(14, 0)])
-case('differs-gather-storage', [image(2, b4=3, b5=32, b7=1)], items=[in_handle(0)], rows=[global_row(0), over(14, 0, b6=1)])
-case('differs-load-cube', [image(4, b5=2)], items=[in_handle(0)], rows=[global_row(0), over(15, 0)])
-case('differs-operand-unread', rows=[put(4, 16, b6=n) for n in (1, 2, 3)] + [put(4, 21, b6=n) for n in (0, 1)] + [put(4, 27)])
-case('differs-unary', [t_scalar(), t_array(0, 2, 4)], rows=[zero(1), over(17, 0)])
-case('differs-scalar-plus-vector', [t_scalar(), t_vector(2)], rows=[zero(0), zero(1), binary(0, 0, 1)])
-case('differs-right-unread', rows=[literal(1), put(4, 10), binary(0, 0, 1)])
-case('differs-add-bools', rows=[literal(9), binary(0, 0, 0)])
-case('differs-abstract-plus-float', rows=[literal(10), literal(1), binary(0, 0, 1)])
-case('differs-matrix-product', [t_matrix(2, 2), t_matrix(3, 4)], rows=[zero(0), zero(1), binary(2, 0, 1)])
-case('differs-matrix-times-vector', [t_matrix(2, 3), t_vector(4)], rows=[zero(0), zero(1), binary(2, 0, 1), binary(2, 1, 0)])
-case('differs-vector-product', [t_vector(2), t_vector(3)], rows=[zero(0), zero(1), binary(2, 0, 1)])
-case('differs-scalar-times-any', [t_scalar(), t_array(0, 2, 4)], rows=[zero(0), zero(1), binary(2, 0, 1), binary(2, 1, 0)])
-case('differs-less-bools', rows=[literal(9), binary(7, 0, 0)])
-case('differs-compare-kinds', rows=[literal(1), literal(9), binary(5, 0, 1)])
-case('differs-logical-right', rows=[literal(9), literal(5), binary(14, 0, 1)])
-case('differs-bits-of-floats', rows=[literal(1), binary(11, 0, 0), binary(16, 0, 0)])
-case('differs-select', [t_scalar(), t_array(0, 2, 4)], rows=[zero(1), over(19, 0)])
-case('differs-derivative', rows=[literal(5), over(20, 0)])
-case('differs-is-nan', rows=[literal(5), over(21, 0, b6=2)])
-case('differs-as-matrix', [t_matrix(2, 2)], rows=[zero(0), over(23, 0, b6=0, b7=1, b8=4)])
-case('differs-as-bits-bool', rows=[literal(9), over(23, 0, b6=1)])
-case('differs-as-bits-halves', [t_vector(2, F16)], rows=[zero(0), over(23, 0, b6=1)])
-case('differs-as-abstract', rows=[literal(1), over(23, 0, b6=4, b7=1, b8=8)])
-case('differs-as-width', rows=[literal(1), over(23, 0, b6=2, b7=1, b8=3)])
-case('differs-named-result', [SAMPLER], rows=[put(4, kind) for kind in (25, 26, 32)])
-case('differs-width', [t_scalar((2, 3))], rows=[zero(0), over(8, 0, b6=2)])
-case('differs-not-carried', [t_vector(2)], rows=[zero(0), access(0), over(9, 0, b6=4)])
-
-SEEDS = [(1, 20), (2, 20), (3, 40), (4, 40), (5, 60), (6, 60), (7, 80), (8, 80), (9, 120), (11, 160), (12, 160), (13, 250), (14, 250), (15, 400), (16, 400)]
-
-
-def main():
-    oracle = sys.argv[1]
-    home = pathlib.Path(__file__).parent / 'stored'
-    home.mkdir(exist_ok=True)
-    for old in home.iterdir():
-        old.unlink()
-    for seed, frames in SEEDS:
-        maker = generate.Maker(seed, frames)
-        name = 'seed-%d-frames-%d' % (seed, frames)
-        CASES[name] = maker.frames(), None
-        if frames in (60, 160, 400):
-            PAIRS[name] = [(*maker.pair(), None) for _ in range(60)]
-    met = set()
-    for name, (frames, says) in CASES.items():
-        text = ''.join(frame.hex() + '\n' for frame in frames).encode()
+def model_says(text, pairs):
+    """The same by model.py, and the file; a refused file has its number for every pair, and None for the file."""
+    try:
         file = model.read(text)
-        out = subprocess.run([oracle], input=text, capture_output=True, check=True).stdout.decode()
-        assert out == model.lines(file), name
-        if says is not None:
-            assert out == ''.join(map(model.marked, says)), name
-        (home / (name + '.in')).write_bytes(text)
-        (home / (name + '.out')).write_text(out)
-        for row in file.rows:
-            known = model.known_row(row)
-            met.add(('row', row[1] if known or row[1] == 22 else 'unknown', row[6] if known and row[1] in (1, 14, 16, 18, 21) else 0))
-        for line in out.split():
-            frame = bytes.fromhex(line.lstrip('!'))
-            if frame[0] > 9:
-                met.add((('refusal', 'verdict')[frame[0] - 10], frame[1]))
-        pairs = PAIRS.get(name)
-        if pairs:
-            words = ''.join('%s %s\n' % (left.hex(), right.hex()) for left, right, _ in pairs)
-            (home / (name + '.pairs')).write_text(words)
-            same = subprocess.run([oracle, 'compare-many', str(home / (name + '.pairs'))], input=text, capture_output=True,
-                                  check=True).stdout.decode()
-            for (left, right, says), line in zip(pairs, same.split()):
-                assert line == model.compare(file, left, right) and says in (None, line), (name, left.hex(), right.hex(), line)
-            (home / (name + '.same')).write_text(same)
-    wanted = {('row', n, 0) for n in range(1, 35)} | {('row', 'unknown', 0), ('row', 14, 1)}
-    wanted |= {('row', kind, n) for kind, many in ((1, 12), (16, 4), (18, 18), (21, 4)) for n in range(many)}
-    wanted |= {('refusal', n) for n in (*range(10, 21), 22)} | {('verdict', n) for n in (0, 22, 30, 31, 32, 33)}
-    assert not wanted - met, wanted - met
-    print(len(CASES), 'files,', len(PAIRS), 'with pairs')
+    except model.Refused as refused:
+        return model.marked(refused.frame()) + '!%d\n' % refused.number * len(pairs), None
+    return model.lines(file) + ''.join(model.compare(file, *pair) + '\n' for pair in pairs), file
+
+
+def hand_says(case):
+    return ''.join(map(model.marked, case.says)) + ''.join(word + '\n' for _, _, word in case.pairs)
+
+
+# What a case shows.
+
+def kind_of(row):
+    return (row[1], row[6]) if row[1] in MODES else (row[1],)
+
+
+def type_kind(frame):
+    if not model.known_type(frame):
+        return 'unknown'
+    name = TYPES[frame[1] - 1]
+    return '%s %s' % (SIZES[frame[4]], name) if frame[1] in (8, 14) else name
+
+
+def newer(file, answers, at):
+    """Where a row's 22 was met."""
+    row = file.rows[at]
+    if two(answers[at], 2) != at:
+        return 'passed on'
+    if not model.known_row(row):
+        return 'own kind'
+    operands = [two(row, 2)] + ([two(row, 4)] if kind_of(row) == (18, 2) else [])
+    forms = [file.types[two(a, 2)] if a[0] == 8 else a for a in (answers[n] for n in operands)]
+    for word, form in zip(('looked into', 'right looked into'), forms):
+        if not model.known_type(form):
+            return word
+    return 'base looked into' if forms[0][1] == 6 else 'storage image'
+
+
+def newer_part(file, answer):
+    """Where a verdict's 22 at a component was met."""
+    if answer[0] == 10:
+        return 'row'
+    form = file.types[two(answer, 2)] if answer[0] == 8 else answer
+    if not model.known_type(form):
+        return 'type'
+    return 'base' if form[1] == 6 and not model.known_type(file.types[two(form, 2)]) else 'wanted'
+
+
+def shown(file, frames):
+    """The classes of an accepted file's rows and verdicts, a class for each line, and those of the whole file."""
+    answers = [f for f in frames if f[0] != 11]
+    verdicts = iter([f for f in frames if f[0] == 11])
+    depth = []
+    for at, (row, answer) in enumerate(zip(file.rows, answers)):
+        yield 'row', *(kind_of(row) if model.known_row(row) or row[1] == 22 else ('unknown',))
+        if answer[0] == 10:
+            yield ('refusal', 22, newer(file, answers, at), *kind_of(row)) if answer[1] == 22 else ('refusal', answer[1])
+        depth.append(1 + depth[two(row, 2)] if row[1] in READS and two(row, 2) < at else 0)
+        if row[1] == 5:
+            verdict, ty = next(verdicts), type_kind(file.types[two(row, 2)])
+            where = ()
+            if verdict[1] == 22 and four(verdict, 4) < 2 ** 32 - 1:
+                where = (newer_part(file, answers[two(file.components[four(row, 12) + four(verdict, 4)], 2)]),)
+            yield 'verdict', verdict[1], ty, *where
+    rows, composes = len(file.rows), sum(row[1] == 5 for row in file.rows)
+    yield from [(word,) for word, met in (
+        ('empty file', not file.frames), ('1,024 frames', len(file.frames) == 1024),
+        ('1,024 frames, 500 rows', len(file.frames) == 1024 and rows >= 500), ('500 composes', composes >= 500),
+        ('chain of 300 rows', depth and max(depth) >= 300), ('newer', any(f[0] > 9 and f[1] == 22 for f in frames))) if met]
+
+
+def wanted():
+    """What must be there, and what must be there by hand."""
+    row = {('row', kind) for kind in range(1, 35) if kind not in MODES} | {('row', 'unknown')}
+    row |= {('row', kind, mode) for kind, many in MODES.items() for mode in range(many)}
+    refusals = {('refusal', n) for n in range(10, 21)}
+    made = ['Vector', 'Matrix', 'constant Array', 'Struct']
+    others = {size + ' ' + name for size in SIZES for name in ('Array', 'BindingArray')} | set(TYPES) - {'Array', 'BindingArray'}
+    others -= set(made)
+    verdicts = {('verdict', 30, ty) for ty in others} | {('verdict', n, ty) for ty in made for n in (0, 31, 32)}
+    looks = {(6,), (7,), (8,), (9,), (13,), (14, 0), (14, 1), (15,), (16, 0), (21, 2), (21, 3), (23,), (33,)}
+    looks |= {(18, op) for op in (2, *range(5, 11), 14, 15)}
+    passes = {(17,), (19,), (20,), (34,)} | {(18, op) for op in range(18)}
+    sorts = {('own kind', n) for n in (0, 22, 35, 255)} | {('looked into', *kind) for kind in looks} | {('right looked into', 18, 2)}
+    sorts |= {('base looked into', kind) for kind in (6, 7, 13, 33)} | {('storage image', 14, 0), ('storage image', 15)}
+    sorts |= {('passed on', *kind) for kind in looks | passes}
+    hand = {('refusal', 22, *sort) for sort in sorts} | {('verdict', 33, ty) for ty in made} | {('verdict', 22, 'unknown')}
+    hand |= {('verdict', 22, ty, where) for ty in made for where in ('row', 'type')}
+    hand |= {('verdict', 22, ty, where) for ty in made[2:] for where in ('base', 'wanted')}
+    hand |= {('compared', word) for word in ('yes', 'no', '22', '5', '6')} | {('refused', n) for n in (1, 2, 4, 5, 6)}
+    files = {('empty file',), ('1,024 frames',), ('1,024 frames, 500 rows',), ('500 composes',), ('chain of 300 rows',), ('33,793 bytes',),
+             ('last line without its feed',)}
+    return row | refusals | verdicts | files | hand, hand | {('empty file',)}
+
+
+def classes(text, pairs, said, file):
+    """The classes of a case, from its stored output without marks."""
+    lines = said.splitlines()
+    words = lines[len(lines) - len(pairs):]
+    frames = [bytes.fromhex(line) for line in lines[:len(lines) - len(pairs)]]
+    if file is None:
+        yield 'refused', frames[0][1]
+        if len(text) == 33793:
+            yield '33,793 bytes',
+        if len(text) % 33 == 32 and b'\n' not in text[-32:]:
+            yield 'last line without its feed',
+        return
+    yield from shown(file, frames)
+    for word in words:
+        yield 'compared', word
+
+
+def write(oracle):
+    data, out, met = [], [], {'hand': set(), 'rust': set(), 'model': set()}
+    newer_files = collections.Counter()
+    for name, case in cases.CASES.items():
+        pairs = [(left, right) for left, right, _ in case.pairs]
+        by_model, file = model_says(case.text, pairs)
+        asked = oracle_says(oracle, case.text, pairs)
+        assert asked == (by_model if file else None), name
+        by_hand = None if case.says is None else hand_says(case)
+        assert by_hand in (None, by_model), name
+        source = 'hand' if by_hand is not None else 'rust' if file else 'model'
+        said = {'hand': by_hand, 'rust': asked, 'model': by_model}[source].replace('!', '')
+        head = '%-40s %-5s %05d %05d\n' % (name, source, len(case.text), 66 * len(pairs))
+        frames = ''.join('%s\n%s\n' % (left.hex(), right.hex()) for left, right in pairs)
+        data.append(head.encode() + case.text + frames.encode() + b'\n')
+        out.append(head + said)
+        shows = set(classes(case.text, pairs, said, file))
+        met[source] |= shows
+        if name.startswith('seed-') and file:
+            newer_files[('newer',) in shows] += 1
+    every, hand = wanted()
+    assert not every - set.union(*met.values()), every - set.union(*met.values())
+    assert not hand - met['hand'], hand - met['hand']
+    assert cases.CASES['p-example'].says
+    assert len(data) >= 300 and newer_files[False] >= newer_files[True], newer_files
+    (HOME / 'data').mkdir(parents=True, exist_ok=True)
+    (HOME / 'data' / 'cases').write_bytes(b''.join(data))
+    (HOME / 'stdout').write_text(''.join(out))
+    print(len(data), 'cases; of the generated files', newer_files[True], 'meet newer things,', newer_files[False], 'none')
+
+
+def stored():
+    """The stored cases: name, source, text, pairs, and what must be printed."""
+    data, out = (HOME / 'data' / 'cases').read_bytes(), (HOME / 'stdout').read_text()
+    while data:
+        head, data = data[:59], data[59:]
+        name, source, size, more = head.decode().split()
+        size, end = int(size), int(size) + int(more)
+        lines = bytes.fromhex(data[size:end].decode())
+        pairs = [(lines[at:at + 16], lines[at + 16:at + 32]) for at in range(0, len(lines), 32)]
+        text, data = data[:size], data[end + 1:]
+        assert out.startswith(head.decode()), name
+        out = out[59:]
+        next_at = out.find(data[:59].decode()) if data else len(out)
+        yield name, source, text, pairs, out[:next_at]
+        out = out[next_at:]
+    assert not out
+
+
+def confirm(oracle):
+    met, wrong = collections.Counter(), 0
+    for name, source, text, pairs, said in stored():
+        asked = oracle_says(oracle, text, pairs)
+        by_model, file = model_says(text, pairs)
+        if by_model.replace('!', '') != said or (asked.replace('!', '') != said if asked is not None else file is not None):
+            wrong += 1
+            print(name, 'differs')
+        met['cases', source] += 1
+        met['bytes of files'] += len(text)
+        for line in said.splitlines():
+            if len(line) == 32:
+                frame = bytes.fromhex(line)
+                met['lines of family %d' % frame[0], *([frame[1]] if frame[0] > 9 else [])] += 1
+        for line in by_model.splitlines():
+            met['lines', source, 'by document 01' if line[0] == '!' or asked is None else 'by the source'] += 1
+        for shows in classes(text, pairs, said, file):
+            if shows[0] in ('verdict', 'compared') or len(shows) == 1:
+                met[shows] += 1
+    for words in sorted(met, key=str):
+        print(*(words if isinstance(words, tuple) else [words]), met[words])
+    print(wrong, 'differences')
+    return wrong > 0
 
 
 if __name__ == '__main__':
-    main()
+    sys.exit(confirm(sys.argv[1]) if sys.argv[2:] == ['--confirm'] else write(sys.argv[1]))
