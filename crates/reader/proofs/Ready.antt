@@ -7,9 +7,10 @@ use mathlib.Core.Path.{_≡_, refl, sym, ap, _∙_}
 use mathlib.Core.Bool.{Bool, cond}
 use mathlib.Core.List.{List}
 use lib.Dec.{eqb}
-use lib.ListN.{length, getD}
+use lib.ListN.{length, take, getD}
 use borrow.Author.Tests.{lt-ltb}
 use Rattle.scan.specs.Lists.{sumBelow}
+use Rattle.answers.specs.declared.Outcome.{Outcome}
 use Rattle.answers.specs.declared.Outcome.the-variants.{Accepted}
 use Rattle.text.specs.declared.AnswerRoom.the-variants.{Lent}
 use Rattle.text.specs.Lines.{lineCount, decoded}
@@ -25,8 +26,10 @@ use Rattle.typifier_laws.proofs.Good.{Good, good-when}
 use Rattle.answering.specs.Outputs.{outputs, outputBytes}
 use Rattle.answering.proofs.Bytes.{bytes-length}
 use Rattle.answering.proofs.Room.{asked, outputs-asked}
-use Rattle.reader.specs.File.{readFile}
+use Rattle.reader.specs.declared.OptionUsize.the-variants as Ou
+use Rattle.reader.specs.File.{readFile, framesAfter, framesIn}
 use Rattle.reader.specs.Typing.{Ready}
+use Rattle.reader.proofs.Over.{read, part-is}
 use Rattle.reader.proofs.Laws.{count-decoded, then-checked, accepted-when}
 
 sum-grows : (f : ℕ → ℕ) (m n : ℕ) → m ≤ n → sumBelow f m ≤ sumBelow f n
@@ -71,3 +74,9 @@ ready-of t f a n e =
     let r = acc .readable in
     let checked : checkFrames (decoded t n) ≡ Accepted (frameCount (decoded t n)) = sym (then-checked t f (Lent a) n r) ∙ e ∙ ap Accepted (sym (count-decoded t n)) in
     (checked, few t f a n r, answers-fit t f a n r (good-when (decoded t n) (few t f a n r) .0 checked))
+
+-- and so is the part of the frame buffer that is lent on: reading gave r, and left the frame buffer as `last`
+pub ready-part : (t fr last an : List ℕ) (n : ℕ) (r : Outcome) → r ≡ readFile t (length fr) (Lent (length an)) → last ≡ framesAfter t fr (Lent (length an)) → framesIn r ≡ Ou.Some n
+    → Ready (take (16 * n) last) (length an)
+ready-part t fr last an n r er el en =
+    rw (part-is t fr last (Lent (length an)) n r er el en) (ready-of t (length fr) (length an) n (read t fr last (Lent (length an)) n r er el en))

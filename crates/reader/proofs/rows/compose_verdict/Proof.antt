@@ -1,63 +1,66 @@
+-- `compose_verdict`: what is asked of the frames is asked of the text. Assumes nothing.
+use mathlib.Core.Path.{_≡_, sym, ap, _∙_}
+use mathlib.Core.List.{List}
+use Prim.Native.Nat.{ℕ}
+use native.Mathlib.Omega.{arith}
+use lib.Seq.{length-take-le}
 use borrow.Author.Needs.{needs}
+use Rattle.answers.specs.declared.Outcome.{Outcome}
+use Rattle.reader.specs.File.{overFile}
+use Rattle.reader.specs.Typing.{answersWritten, VerdictGiven, verdictGiven, ifJudged, composeVerdict, answersAfterVerdict}
+use Rattle.reader.proofs.Over.{refused-over, part-fits, over-part}
+use Rattle.reader.proofs.Ready.{ready-part}
 use Rattle.reader.proofs.rows.compose_verdict.Statement.{statement}
 use Rattle.reader.proofs.rows.compose_verdict.Tie as tie
-use Rattle.reader.proofs.rows.compose_verdict.Reads as reads
-use Rattle.reader.proofs.rows.compose_verdict.Lts as lts
-use Rattle.reader.proofs.frames_in.Reads as frames-in-reads
-use Rattle.reader.proofs.read_with.Reads as read-with-reads
-use Rattle.reader.proofs.rows.judge_one.Reads as judge-one-reads
 
--- src/rows.rt:189:9
 read-with-requires : tie.Need-read-with-requires
 read-with-requires c κs = search needs
 
--- src/rows.rt:190:11
 frames-in-requires : tie.Need-frames-in-requires
 frames-in-requires c κs = search needs
 
--- src/rows.rt:191:30
 enum-told : tie.Need-enum-told
 enum-told c = search needs
 
--- src/rows.rt:192:27
 enum-known-n : tie.Need-enum-known-n
 enum-known-n c = search needs
 
--- src/rows.rt:193:21
 mul-m : tie.Need-mul-m
-mul-m c = ?
+mul-m c = omega (arith, part-fits (c .before .before .before .before .before .before .before .before .before .before .before .args .text .now) (c .before .before .before .before .before .before .before .before .before .before .before .args .frames .now) _ _ (c .before .n .given .0 .0) _ (c .before .before .before .before .before .before .read-with .ensures .0) (c .before .before .before .before .before .before .read-with .ensures .1) (sym (c .before .before .before .frames-in .ensures) ∙ c .before .n .given .1))
 
--- src/rows.rt:194:23
 slice-reshare-prefix-judge-one : tie.Need-slice-reshare-prefix-judge-one
-slice-reshare-prefix-judge-one c = ?
+slice-reshare-prefix-judge-one c = part-fits (c .before .before .before .before .before .before .before .before .before .before .before .args .text .now) (c .before .before .before .before .before .before .before .before .before .before .before .args .frames .now) _ _ (c .before .n .given .0 .0) _ (c .before .before .before .before .before .before .read-with .ensures .0) (c .before .before .before .before .before .before .read-with .ensures .1) (sym (c .before .before .before .frames-in .ensures) ∙ c .before .n .given .1)
 
--- src/rows.rt:194:23
 slice-aggregate-judge-one : tie.Need-slice-aggregate-judge-one
-slice-aggregate-judge-one c = ?
+slice-aggregate-judge-one c = sym (length-take-le _ _ (part-fits (c .before .before .before .before .before .before .before .before .before .before .before .before .args .text .now) (c .before .before .before .before .before .before .before .before .before .before .before .before .args .frames .now) _ _ (c .before .before .n .given .0 .0) _ (c .before .before .before .before .before .before .before .read-with .ensures .0) (c .before .before .before .before .before .before .before .read-with .ensures .1) (sym (c .before .before .before .before .frames-in .ensures) ∙ c .before .before .n .given .1)))
 
--- src/rows.rt:194:13
 judge-one-requires : tie.Need-judge-one-requires
-judge-one-requires c κs = ?
+judge-one-requires c κs = ready-part (c .before .before .before .before .before .before .before .before .before .before .before .before .before .args .text .now) (c .before .before .before .before .before .before .before .before .before .before .before .before .before .args .frames .now) _ (c .before .before .before .before .before .before .before .before .before .before .before .before .before .args .answers .now) (c .before .before .before .n .given .0 .0) _ (c .before .before .before .before .before .before .before .before .read-with .ensures .0) (c .before .before .before .before .before .before .before .before .read-with .ensures .1) (sym (c .before .before .before .before .before .frames-in .ensures) ∙ c .before .before .before .n .given .1)
 
--- src/rows.rt:186:1
 same-length : tie.Need-same-length
 same-length c = search needs
 
--- src/rows.rt:186:1
 returns : tie.Need-returns
-returns c = ?
+unfolding composeVerdict answersAfterVerdict
+returns c = 
+    let e = c .before .before .before .before .before .read-with .ensures in
+    let g = c .before .before .before .before .before .before .before .before .before .before .args in
+    let q = (sym (c .before .before .frames-in .ensures) ∙ c .enum-told .given .1) in
+    (refused-over VerdictGiven.notAccepted (verdictGiven (g .row)) (g .text .now) (c .before .before .before .before .before .read-with .result) q ∙ ap (overFile VerdictGiven.notAccepted (verdictGiven (g .row)) (g .text .now)) (e .0), e .1, refused-over (λ (o : Outcome). g .answers .now) (λ (x : List ℕ). ifJudged (answersWritten (g .answers .now) x) (g .answers .now) (verdictGiven (g .row) x)) (g .text .now) (c .before .before .before .before .before .read-with .result) q ∙ ap (overFile (λ (o : Outcome). g .answers .now) (λ (x : List ℕ). ifJudged (answersWritten (g .answers .now) x) (g .answers .now) (verdictGiven (g .row) x)) (g .text .now)) (e .0))
 
--- src/rows.rt:186:1
 same-length-2 : tie.Need-same-length-2
 same-length-2 c = search needs
 
--- src/rows.rt:186:1
 same-length-3 : tie.Need-same-length-3
 same-length-3 c = search needs
 
--- src/rows.rt:186:1
 returns-2 : tie.Need-returns-2
-returns-2 c = ?
+unfolding composeVerdict answersAfterVerdict
+returns-2 c = 
+    let e = c .before .before .before .before .before .before .before .before .before .before .before .read-with .ensures in
+    let g = c .before .before .before .before .before .before .before .before .before .before .before .before .before .before .before .before .args in
+    let q = (sym (c .before .before .before .before .before .before .before .before .frames-in .ensures) ∙ c .before .before .before .before .before .before .n .given .1) in
+    (c .before .before .judge-one .ensures .0 ∙ over-part (g .text .now) (g .frames .now) _ _ (c .before .before .before .before .before .before .n .given .0 .0) _ (e .0) (e .1) q VerdictGiven.notAccepted (verdictGiven (g .row)), e .1, c .before .before .judge-one .ensures .1 ∙ over-part (g .text .now) (g .frames .now) _ _ (c .before .before .before .before .before .before .n .given .0 .0) _ (e .0) (e .1) q (λ (o : Outcome). g .answers .now) (λ (x : List ℕ). ifJudged (answersWritten (g .answers .now) x) (g .answers .now) (verdictGiven (g .row) x)))
 
 pub compose-verdict-spec : {M : Type 1} → statement M
 compose-verdict-spec =

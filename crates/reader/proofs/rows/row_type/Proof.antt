@@ -1,63 +1,69 @@
+-- `row_type`: what is asked of the frames is asked of the text. Assumes nothing.
+use mathlib.Core.Path.{_≡_, sym, ap, _∙_}
+use mathlib.Core.List.{List}
+use Prim.Native.Nat.{ℕ}
+use native.Mathlib.Omega.{arith}
+use lib.Seq.{length-take-le}
 use borrow.Author.Needs.{needs}
+use Rattle.answers.specs.declared.Outcome.{Outcome}
+use mathlib.Core.Bool.{cond}
+use Rattle.archive.specs.Starts.{startsOf}
+use Rattle.archive.specs.Names.{isRow}
+use Rattle.reader.specs.File.{overFile}
+use Rattle.reader.specs.Typing.{answersWritten, RowGiven, rowGiven, rowType, answersAfterRow}
+use Rattle.reader.proofs.Over.{refused-over, part-fits, over-part}
+use Rattle.reader.proofs.Ready.{ready-part}
 use Rattle.reader.proofs.rows.row_type.Statement.{statement}
 use Rattle.reader.proofs.rows.row_type.Tie as tie
-use Rattle.reader.proofs.rows.row_type.Reads as reads
-use Rattle.reader.proofs.rows.row_type.Lts as lts
-use Rattle.reader.proofs.frames_in.Reads as frames-in-reads
-use Rattle.reader.proofs.read_with.Reads as read-with-reads
-use Rattle.reader.proofs.rows.answer_one.Reads as answer-one-reads
 
--- src/rows.rt:175:9
 read-with-requires : tie.Need-read-with-requires
 read-with-requires c κs = search needs
 
--- src/rows.rt:176:11
 frames-in-requires : tie.Need-frames-in-requires
 frames-in-requires c κs = search needs
 
--- src/rows.rt:177:30
 enum-told : tie.Need-enum-told
 enum-told c = search needs
 
--- src/rows.rt:178:27
 enum-known-n : tie.Need-enum-known-n
 enum-known-n c = search needs
 
--- src/rows.rt:179:21
 mul-m : tie.Need-mul-m
-mul-m c = ?
+mul-m c = omega (arith, part-fits (c .before .before .before .before .before .before .before .before .before .before .before .args .text .now) (c .before .before .before .before .before .before .before .before .before .before .before .args .frames .now) _ _ (c .before .n .given .0 .0) _ (c .before .before .before .before .before .before .read-with .ensures .0) (c .before .before .before .before .before .before .read-with .ensures .1) (sym (c .before .before .before .frames-in .ensures) ∙ c .before .n .given .1))
 
--- src/rows.rt:180:24
 slice-reshare-prefix-answer-one : tie.Need-slice-reshare-prefix-answer-one
-slice-reshare-prefix-answer-one c = ?
+slice-reshare-prefix-answer-one c = part-fits (c .before .before .before .before .before .before .before .before .before .before .before .args .text .now) (c .before .before .before .before .before .before .before .before .before .before .before .args .frames .now) _ _ (c .before .n .given .0 .0) _ (c .before .before .before .before .before .before .read-with .ensures .0) (c .before .before .before .before .before .before .read-with .ensures .1) (sym (c .before .before .before .frames-in .ensures) ∙ c .before .n .given .1)
 
--- src/rows.rt:180:24
 slice-aggregate-answer-one : tie.Need-slice-aggregate-answer-one
-slice-aggregate-answer-one c = ?
+slice-aggregate-answer-one c = sym (length-take-le _ _ (part-fits (c .before .before .before .before .before .before .before .before .before .before .before .before .args .text .now) (c .before .before .before .before .before .before .before .before .before .before .before .before .args .frames .now) _ _ (c .before .before .n .given .0 .0) _ (c .before .before .before .before .before .before .before .read-with .ensures .0) (c .before .before .before .before .before .before .before .read-with .ensures .1) (sym (c .before .before .before .before .frames-in .ensures) ∙ c .before .before .n .given .1)))
 
--- src/rows.rt:180:13
 answer-one-requires : tie.Need-answer-one-requires
-answer-one-requires c κs = ?
+answer-one-requires c κs = ready-part (c .before .before .before .before .before .before .before .before .before .before .before .before .before .args .text .now) (c .before .before .before .before .before .before .before .before .before .before .before .before .before .args .frames .now) _ (c .before .before .before .before .before .before .before .before .before .before .before .before .before .args .answers .now) (c .before .before .before .n .given .0 .0) _ (c .before .before .before .before .before .before .before .before .read-with .ensures .0) (c .before .before .before .before .before .before .before .before .read-with .ensures .1) (sym (c .before .before .before .before .before .frames-in .ensures) ∙ c .before .before .before .n .given .1)
 
--- src/rows.rt:172:1
 same-length : tie.Need-same-length
 same-length c = search needs
 
--- src/rows.rt:172:1
 returns : tie.Need-returns
-returns c = ?
+unfolding rowType answersAfterRow
+returns c = 
+    let e = c .before .before .before .before .before .read-with .ensures in
+    let g = c .before .before .before .before .before .before .before .before .before .before .args in
+    let q = (sym (c .before .before .frames-in .ensures) ∙ c .enum-told .given .1) in
+    (refused-over RowGiven.notAccepted (rowGiven (g .row)) (g .text .now) (c .before .before .before .before .before .read-with .result) q ∙ ap (overFile RowGiven.notAccepted (rowGiven (g .row)) (g .text .now)) (e .0), e .1, refused-over (λ (o : Outcome). g .answers .now) (λ (x : List ℕ). cond (isRow (startsOf x) (g .row)) (answersWritten (g .answers .now) x) (g .answers .now)) (g .text .now) (c .before .before .before .before .before .read-with .result) q ∙ ap (overFile (λ (o : Outcome). g .answers .now) (λ (x : List ℕ). cond (isRow (startsOf x) (g .row)) (answersWritten (g .answers .now) x) (g .answers .now)) (g .text .now)) (e .0))
 
--- src/rows.rt:172:1
 same-length-2 : tie.Need-same-length-2
 same-length-2 c = search needs
 
--- src/rows.rt:172:1
 same-length-3 : tie.Need-same-length-3
 same-length-3 c = search needs
 
--- src/rows.rt:172:1
 returns-2 : tie.Need-returns-2
-returns-2 c = ?
+unfolding rowType answersAfterRow
+returns-2 c = 
+    let e = c .before .before .before .before .before .before .before .before .before .before .before .read-with .ensures in
+    let g = c .before .before .before .before .before .before .before .before .before .before .before .before .before .before .before .before .args in
+    let q = (sym (c .before .before .before .before .before .before .before .before .frames-in .ensures) ∙ c .before .before .before .before .before .before .n .given .1) in
+    (c .before .before .answer-one .ensures .0 ∙ over-part (g .text .now) (g .frames .now) _ _ (c .before .before .before .before .before .before .n .given .0 .0) _ (e .0) (e .1) q RowGiven.notAccepted (rowGiven (g .row)), e .1, c .before .before .answer-one .ensures .1 ∙ over-part (g .text .now) (g .frames .now) _ _ (c .before .before .before .before .before .before .n .given .0 .0) _ (e .0) (e .1) q (λ (o : Outcome). g .answers .now) (λ (x : List ℕ). cond (isRow (startsOf x) (g .row)) (answersWritten (g .answers .now) x) (g .answers .now)))
 
 pub row-type-spec : {M : Type 1} → statement M
 row-type-spec =
