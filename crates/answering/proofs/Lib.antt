@@ -3,5 +3,4 @@ pub mod Same
 pub mod Placed
 pub mod Buffer
 pub mod Room
-pub mod Later
 pub mod Worked

@@ -46,7 +46,7 @@ pub record GoesOn {A : Type 0} (l front : List A) : Type 0 where
 goes-on : {A : Type 0} (l front last : List A) → GoesOn l front → GoesOn (l ++ last) front
 goes-on l front last g = record { more = g .more ++ last; is = ap (λ (x : List _). x ++ last) (g .is) ∙ append-assoc front (g .more) last }
 
-outputs-go-on : (sight : Sight) (m n : ℕ) → m ≤ n → GoesOn (outputs sight n) (outputs sight m)
+pub outputs-go-on : (sight : Sight) (m n : ℕ) → m ≤ n → GoesOn (outputs sight n) (outputs sight m)
 unfolding outputs
 outputs-go-on sight m zero h = let e : m ≡ 0 = omega arith in rw e (record { more = []; is = refl })
 outputs-go-on sight m (suc n) h = go (decLe m n) (outputs-go-on sight m n)

@@ -74,7 +74,7 @@ module _ (fr : List ℕ) (good : Good fr) where
       go false q = ap length (one-each n h .other (eqb-false (rowKind fr n) 5 q))
 
   -- ALL ROWS: one frame a row, and one more a compose
-  outputs-below : (n : ℕ) → n ≤ rowCount (startsOf fr) → length (outputs (see fr) n) ≡ n + composesBelow fr n
+  pub outputs-below : (n : ℕ) → n ≤ rowCount (startsOf fr) → length (outputs (see fr) n) ≡ n + composesBelow fr n
   unfolding outputs sumBelow
   outputs-below zero h = refl
   outputs-below (suc n) h = omega (arith, length-append (outputs (see fr) n) (rowFrames (see fr) n), outputs-below n (omega arith), frames-of n (omega arith))

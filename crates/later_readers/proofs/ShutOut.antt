@@ -1,0 +1,99 @@
+-- The claim shuts out four readers: over one text each answers a row otherwise than its reading says. Row 0 is newer, row 1 meets nothing newer, and row 2 meets row 0's.
+-- Assumes nothing.
+use Prim.Native.Nat.{ℕ, _+_}
+use native.Mathlib.Omega.{arith}
+use mathlib.Core.Path.{_≡_, refl, sym, ap, _∙_}
+use mathlib.Core.Bool.{Bool, true, false, cond}
+use mathlib.Core.List.{List}
+use mathlib.Core.Option.{none, some}
+use lib.ListN.{getD}
+use Rattle.scan.specs.Lowest.{lowest, allBelow}
+use Rattle.scan.specs.Lists.{build, sumBelow}
+use Rattle.text.specs.Hex.{digitValue, digitOf}
+use Rattle.text.specs.Lines.{lineOk, byteOf, charOf, decoded}
+use Rattle.text.specs.Reading.{answerFrames, tooShort, readText}
+use Rattle.frames.specs.Bytes.{frameAt, zeroFrame}
+use Rattle.frames.specs.Forms.{typeOf, itemOf, rowOf, memberOf, componentOf, fieldsFit}
+use Rattle.archive.specs.Order.{orderOk}
+use Rattle.archive.specs.Starts.{start, startsOf, rowCount}
+use Rattle.archive.specs.Names.{namesOk}
+use Rattle.archive.specs.Parts.{earlyOk}
+use Rattle.archive.specs.Checks.{indexOk, checkFrames}
+use Rattle.archive.specs.Access.{typeIn, rowIn}
+use Rattle.rule.specs.Answers.{row, alike, told}
+use Rattle.rule.specs.Things.{listed}
+use Rattle.row_rules.specs.Typed.{typing}
+use Rattle.reader.specs.File.{readFile}
+use Rattle.later_readers.specs.Reader.{Reader, SaysNewer, Choice, meets, Kept, Keeps, IsAccepted, Claim}
+use Rattle.later_readers.specs.ShutOut.{newerAtRow, allNewer, holdsNewer, newerBeforeReading, isNewer, newerAsAnother, newerAtItself, threeRows}
+
+never : {X : Type 0} → _≡_ {A = ℕ} 0 1 → X
+never z = absurd (omega arith)
+
+abbrev fr : List ℕ
+fr = decoded threeRows 3
+
+-- WHAT THE TEXT IS, computed
+accepted : IsAccepted threeRows 3
+unfolding lowest allBelow build sumBelow digitValue digitOf lineOk byteOf charOf answerFrames tooShort readText frameAt typeOf itemOf rowOf memberOf componentOf fieldsFit orderOk start startsOf namesOk earlyOk indexOk checkFrames readFile
+accepted = refl
+
+three : rowCount (startsOf fr) ≡ 3
+unfolding lowest build digitValue digitOf byteOf charOf frameAt start startsOf
+three = refl
+
+holds : holdsNewer threeRows ≡ true
+unfolding lowest allBelow build digitValue digitOf byteOf charOf frameAt
+holds = refl
+
+first-met : meets fr 0 (typing 0) ≡ some (row (record { 0 = 0 }))
+unfolding lowest build digitValue digitOf byteOf charOf frameAt start startsOf rowIn rowOf
+first-met = refl
+
+second-unmet : meets fr 1 (typing 1) ≡ none
+unfolding lowest build digitValue digitOf byteOf charOf frameAt start startsOf rowIn rowOf
+second-unmet = refl
+
+third-met : meets fr 2 (typing 2) ≡ some (row (record { 0 = 0 }))
+unfolding lowest build digitValue digitOf byteOf charOf frameAt start startsOf rowIn rowOf
+third-met = refl
+
+-- any choice
+choice : Choice
+choice = record { rows = λ m. zeroFrame; verdicts = λ m. zeroFrame; same = λ a b. told alike }
+
+module _ {r : Reader} (claim : Claim r) where
+  abbrev keeps : Keeps r threeRows fr choice
+  keeps = claim threeRows 3 accepted choice
+
+  first-is : r .row threeRows 0 ≡ newerAtRow 0
+  first-is = keeps .rows 0 (omega (arith, three)) .place (row (record { 0 = 0 })) first-met
+
+  second-is-not : SaysNewer 10 (r .row threeRows 1) → ⊥
+  second-is-not w = keeps .rows 1 (omega (arith, three)) .exactly .0 w second-unmet
+
+  third-is : r .row threeRows 2 ≡ newerAtRow 0
+  third-is = keeps .rows 2 (omega (arith, three)) .place (row (record { 0 = 0 })) third-met
+
+says : (m : ℕ) → SaysNewer 10 (newerAtRow m)
+says m = record { family-is = refl; number-is = refl }
+
+-- THE FOUR
+pub not-all-newer : Claim allNewer → ⊥
+not-all-newer c = second-is-not c (says 1)
+
+module _ (r : Reader) where
+  pub not-before-reading : Claim (newerBeforeReading r) → ⊥
+  not-before-reading c = second-is-not c (rw holds (says 1))
+
+  pub not-as-another : Claim (newerAsAnother r) → ⊥
+  not-as-another c =
+      let e : r .row threeRows 0 ≡ newerAtRow 0 = first-is c in
+      second-is-not c (rw e (says 0))
+
+  pub not-at-itself : Claim (newerAtItself r) → ⊥
+  not-at-itself c = go (isNewer (r .row threeRows 2)) refl (third-is c)
+    where
+      go : (b : Bool) → isNewer (r .row threeRows 2) ≡ b → cond b (newerAtRow 2) (r .row threeRows 2) ≡ newerAtRow 0 → ⊥
+      go true q e = let z : _≡_ {A = ℕ} 2 0 = ap (λ (l : List ℕ). getD l 2 0) e in omega arith
+      go false q e = never (cc)

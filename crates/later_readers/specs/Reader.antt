@@ -1,0 +1,96 @@
+-- Demand 3: the claim on later readers, one claim over the whole file, as a predicate on any reader of texts (document 01, "A row's type", its last three
+-- paragraphs). The words reading and meets are defined in rule/specs/Rule.antt, the rules that are read in row_rules, type_methods and compose.
+use Prim.Native.Nat.{ℕ, _*_, _<_}
+use mathlib.Core.Path.{_≡_}
+use mathlib.Core.List.{List, [], _∷_}
+use mathlib.Core.Logic.{_↔_}
+use mathlib.Core.Option.{Option, none, some}
+use lib.ListN.{getD}
+use Rattle.answers.specs.declared.Outcome.the-variants.{Accepted}
+use Rattle.answers.specs.Numbers.{Said, alike, different, numbered, samenessSaid}
+use Rattle.text.specs.declared.AnswerRoom.the-variants.{Lent}
+use Rattle.text.specs.Lines.{lineCount, decoded}
+use Rattle.text.specs.Reading.{answerBytes}
+use Rattle.frames.specs.declared.Frame.{Frame}
+use Rattle.frames.specs.Bytes.{bytesOf}
+use Rattle.frames.specs.Out.{refusedFrame}
+use Rattle.archive.specs.Starts.{startsOf, rowCount}
+use Rattle.rule.specs.Answers.{Typed, Judgement, Compared, Place, Result, newer, rowFrame, verdictFrame, typeAnswerOf, rowAnswerOf, chosenJudgement}
+use Rattle.rule.specs.Things.{see}
+use Rattle.rule.specs.Rule.{Rule, met}
+use Rattle.rule.specs.Claim.{later, reading}
+use Rattle.type_methods.specs.Comparison.{handed, samenessOf}
+use Rattle.row_rules.specs.Typed.{typing}
+use Rattle.compose.specs.Rows.{verdictRule}
+use Rattle.reader.specs.File.{readFile}
+
+-- a reader: for every text and row number the bytes of the row's answer and of the compose's verdict, and for every text and two frames those of the comparison
+pub record Reader : Type 0 where
+  pub row : List ℕ → ℕ → List ℕ
+  pub verdict : List ℕ → ℕ → List ℕ
+  pub same : List ℕ → Frame → Frame → List ℕ
+
+-- OUTCOMES AS BYTES
+
+-- a row's answer and the verdict on row m: sixteen bytes (the end of "The file")
+abbrev pub rowBytes : Result Typed → List ℕ
+rowBytes a = bytesOf (rowFrame a)
+
+abbrev pub verdictBytes : ℕ → Result Judgement → List ℕ
+verdictBytes m v = bytesOf (verdictFrame (record { 0 = m }) v)
+
+-- a comparison: yes is 1, no is 0, and a number with its place is the frame of a refusal; its 22 names no place
+abbrev pub saidBytes : Said → List ℕ
+saidBytes alike = 1 ∷ []
+saidBytes different = 0 ∷ []
+saidBytes (numbered r) = bytesOf (refusedFrame r)
+
+abbrev pub comparedBytes : Result Compared → List ℕ
+comparedBytes c = saidBytes (samenessSaid (samenessOf c))
+
+-- bytes that say newer: number 22 in a frame of a family, 10 for a refusal and 11 for a verdict
+pub record SaysNewer (family : ℕ) (bytes : List ℕ) : Type 0 where
+  pub family-is : getD bytes 0 0 ≡ family
+  pub number-is : getD bytes 1 0 ≡ 22
+
+-- A LATER READER, given by a free choice: for each row and each compose any frame, for each two frames what a comparison may give
+pub record Choice : Type 0 where
+  pub rows : ℕ → Frame
+  pub verdicts : ℕ → Frame
+  pub same : Frame → Frame → Result Compared
+
+-- its outcome of a rule over its own answers of the first m rows, in a file whose frames these are; c is its choice for this outcome
+abbrev pub theirs : {A : Type 0} → List ℕ → Choice → ℕ → Result A → Rule A → Result A
+theirs fr choice m c rule = later (see fr) typing (λ k. rowAnswerOf (choice .rows k)) m c rule
+
+-- THE CLAIM
+
+-- the place of the newer thing that the reading of an outcome meets, none if it meets none; row answers in it are the written rules'
+abbrev pub meets : {A : Type 0} → List ℕ → ℕ → Rule A → Option Place
+meets fr m rule = met (see fr) (reading (see fr) typing m rule)
+
+-- of one outcome: what its reading meets, a reader's bytes, a later reader's bytes, and the bytes of number 22 at each place, in a family
+pub record Kept (family : ℕ) (newerAt : Place → List ℕ) (meets : Option Place) (mine theirs : List ℕ) : Type 0 where
+  -- where the reading meets none, the two are equal in every byte
+  pub equal : meets ≡ none → mine ≡ theirs
+  -- it is 22 exactly where the reading meets one
+  pub exactly : SaysNewer family mine ↔ (meets ≡ none → ⊥)
+  -- and names the place where that was met: a row; in a verdict the component, or hex ffffffff for the composed type; in a comparison none
+  pub place : (p : Place) → meets ≡ some p → mine ≡ newerAt p
+
+-- of a text whose frames these are: every row, every compose and every two frames handed in
+pub record Keeps (r : Reader) (t fr : List ℕ) (choice : Choice) : Type 0 where
+  pub rows : (m : ℕ) → m < rowCount (startsOf fr)
+      → Kept 10 (λ p. rowBytes (newer p)) (meets fr m (typing m)) (r .row t m) (rowBytes (theirs fr choice m (rowAnswerOf (choice .rows m)) (typing m)))
+  pub verdicts : (m : ℕ) → m < rowCount (startsOf fr) → (rule : Rule Judgement) → verdictRule (see fr) m ≡ some rule
+      → Kept 11 (λ p. verdictBytes m (newer p)) (meets fr m rule) (r .verdict t m) (verdictBytes m (theirs fr choice m (chosenJudgement (choice .verdicts m)) rule))
+  pub same : (a b : Frame) → let rule = handed (typeAnswerOf a) (typeAnswerOf b) in
+      Kept 10 (λ p. comparedBytes (newer p)) (meets fr 0 rule) (r .same t a b) (comparedBytes (theirs fr choice 0 (choice .same a b) rule))
+
+-- a text is accepted, with n frames, where the lent buffers are as large as it asks for
+abbrev pub IsAccepted : List ℕ → ℕ → Type 0
+IsAccepted t n = readFile t (16 * lineCount t) (Lent (answerBytes t)) ≡ Accepted n
+
+-- of a reader: for every accepted text and every choice
+abbrev pub Claim : Reader → Type 0
+Claim r = (t : List ℕ) (n : ℕ) → IsAccepted t n → (choice : Choice) → Keeps r t (decoded t n) choice
