@@ -1,2 +1,3 @@
 pub mod Ours
 pub mod ShutOut
+pub mod Worked

@@ -4,13 +4,11 @@
 use Prim.Native.Nat.{ℕ, suc, _+_, _*_, _≤_, _<_}
 use native.Mathlib.Omega.{arith}
 use mathlib.Core.Path.{_≡_, refl, sym, ap, _∙_}
-use mathlib.Core.Bool.{true}
 use mathlib.Core.List.{List, [], _∷_, _++_, append-assoc}
 use mathlib.Core.Option.{Option, none, some}
-use lib.ListN.{length, drop, length-append}
+use lib.ListN.{length, drop, length-append, length-replicate}
 use lib.Seq.{getD-append-seam}
 use Rattle.answers.specs.Numbers.{samenessSaid}
-use Rattle.answers.specs.declared.Outcome.{Outcome}
 use Rattle.answers.specs.declared.Outcome.the-variants.{Accepted}
 use Rattle.text.specs.declared.AnswerRoom.{AnswerRoom}
 use Rattle.text.specs.declared.AnswerRoom.the-variants.{NotLent, Lent}
@@ -28,7 +26,7 @@ use Rattle.rule.specs.Claim.{ours, reading, Right}
 use Rattle.rule.proofs.Later.{claim}
 use Rattle.type_methods.specs.Comparison.{handed, sameIn, sameType}
 use Rattle.row_rules.specs.Typed.{typing}
-use Rattle.compose.specs.Rows.{verdictRule, judged, verdictOf}
+use Rattle.compose.specs.Rows.{verdictRule, judged}
 use Rattle.typifier_laws.proofs.Good.{Good}
 use Rattle.typifier_laws.proofs.Ranged.{TypedInRange, InRange}
 use Rattle.typifier_laws.proofs.Range.{row-there, ours-in-range}
@@ -38,15 +36,15 @@ use Rattle.verdict_laws.specs.Numbers.{OurVerdict, itPasses, noComposed, otherC
 use Rattle.verdict_laws.specs.Each.{composesBelow}
 use Rattle.verdict_laws.proofs.Numbers.{verdict-numbers}
 use Rattle.verdict_laws.proofs.Each.{outputs-below}
-use Rattle.reader.specs.File.{overFile, readFile}
+use Rattle.reader.specs.File.{readFile}
 use Rattle.reader.specs.Types.{sameTypes}
-use Rattle.reader.specs.Typing.{answersWritten, answersAfter, rowGiven, rowType, orNoCompose, verdictGiven, composeVerdict}
+use Rattle.reader.specs.Typing.{answersWritten, answersAfter, rowType, composeVerdict}
 use Rattle.reader.proofs.Laws.{Accepts, accepted-when}
 use Rattle.reader.proofs.Ready.{ready-of}
 use Rattle.reader.proofs.Row.{good-of}
 use Rattle.reader.proofs.One.{outputs-go-on}
-use Rattle.later_readers.specs.Reader.{Reader, rowBytes, verdictBytes, saidBytes, comparedBytes, SaysNewer, Choice, theirs, meets, Kept, Keeps, IsAccepted, Claim}
-use Rattle.later_readers.specs.Ours.{Suffice, standsAt, byBuffer, rowGivenBytes, verdictGivenBytes, byRow}
+use Rattle.later_readers.specs.Reader.{Reader, rowBytes, verdictBytes, saidBytes, comparedBytes, SaysNewer, Choice, theirs, Kept, Keeps, IsAccepted, Claim}
+use Rattle.later_readers.specs.Ours.{Suffice, framesFor, answersFor, standsAt, byBuffer, rowGivenBytes, verdictGivenBytes, byRow}
 
 never : {X : Type 0} → _≡_ {A = ℕ} 0 1 → X
 never z = absurd (omega arith)
@@ -223,6 +221,11 @@ module _ (t : List ℕ) (n f : ℕ) (an : List ℕ) (accepted : IsAccepted t n) 
   verdict-given m h rule e = rw (read-lent, row-there fr m h, e)
 
 -- THE CLAIM OF OUR READERS
+
+-- there are buffers that suffice
+pub just-enough : Suffice framesFor answersFor
+just-enough = record { for-frames = λ t. omega (arith, length-replicate {A = ℕ} (16 * lineCount t) 0); for-answers = λ t. omega (arith, length-replicate {A = ℕ} (answerBytes t) 0) }
+
 module _ (frames answers : List ℕ → List ℕ) (enough : Suffice frames answers) where
   pub by-buffer : Claim (byBuffer frames answers)
   by-buffer t n accepted =

@@ -1,8 +1,8 @@
 -- The claim shuts out four readers: over one text each answers a row otherwise than its reading says. Row 0 is newer, row 1 meets nothing newer, and row 2 meets row 0's.
 -- Assumes nothing.
-use Prim.Native.Nat.{ℕ, _+_}
+use Prim.Native.Nat.{ℕ}
 use native.Mathlib.Omega.{arith}
-use mathlib.Core.Path.{_≡_, refl, sym, ap, _∙_}
+use mathlib.Core.Path.{_≡_, refl, ap}
 use mathlib.Core.Bool.{Bool, true, false, cond}
 use mathlib.Core.List.{List}
 use mathlib.Core.Option.{none, some}
@@ -19,12 +19,11 @@ use Rattle.archive.specs.Starts.{start, startsOf, rowCount}
 use Rattle.archive.specs.Names.{namesOk}
 use Rattle.archive.specs.Parts.{earlyOk}
 use Rattle.archive.specs.Checks.{indexOk, checkFrames}
-use Rattle.archive.specs.Access.{typeIn, rowIn}
+use Rattle.archive.specs.Access.{rowIn}
 use Rattle.rule.specs.Answers.{row, alike, told}
-use Rattle.rule.specs.Things.{listed}
 use Rattle.row_rules.specs.Typed.{typing}
 use Rattle.reader.specs.File.{readFile}
-use Rattle.later_readers.specs.Reader.{Reader, SaysNewer, Choice, meets, Kept, Keeps, IsAccepted, Claim}
+use Rattle.later_readers.specs.Reader.{Reader, SaysNewer, Choice, meets, Keeps, IsAccepted, Claim}
 use Rattle.later_readers.specs.ShutOut.{newerAtRow, allNewer, holdsNewer, newerBeforeReading, isNewer, newerAsAnother, newerAtItself, threeRows}
 
 never : {X : Type 0} → _≡_ {A = ℕ} 0 1 → X

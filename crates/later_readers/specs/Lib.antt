@@ -1,3 +1,4 @@
 pub mod Reader
 pub mod Ours
 pub mod ShutOut
+pub mod Worked

@@ -2,11 +2,10 @@
 -- functions of the text.
 use Prim.Native.Nat.{ℕ, _+_, _*_, _≤_}
 use mathlib.Core.List.{List}
-use lib.ListN.{length}
+use lib.ListN.{length, replicate}
 use Rattle.answers.specs.Numbers.{at, samenessSaid}
 use Rattle.text.specs.Lines.{lineCount, decoded}
 use Rattle.text.specs.Reading.{answerBytes}
-use Rattle.frames.specs.declared.Frame.{Frame}
 use Rattle.frames.specs.Bytes.{bytesOf, frameAt}
 use Rattle.frames.specs.Out.{refusedFrame, outcomeFrame}
 use Rattle.verdict_laws.specs.Each.{composesBelow}
@@ -19,6 +18,13 @@ use Rattle.later_readers.specs.Reader.{Reader, rowBytes, verdictBytes, s
 pub record Suffice (frames answers : List ℕ → List ℕ) : Type 0 where
   pub for-frames : (t : List ℕ) → 16 * lineCount t ≤ length (frames t)
   pub for-answers : (t : List ℕ) → answerBytes t ≤ length (answers t)
+
+-- buffers of just that size, all zeros
+abbrev pub framesFor : List ℕ → List ℕ
+framesFor t = replicate (16 * lineCount t) 0
+
+abbrev pub answersFor : List ℕ → List ℕ
+answersFor t = replicate (answerBytes t) 0
 
 -- BY THE ANSWER BUFFER that `type_rows` leaves
 
