@@ -8,16 +8,22 @@ use lib.Seq.{take-at}
 use borrow.Author.Tests.{lt-ltb}
 use Rattle.scan.proofs.Fill.{length-build}
 use Rattle.answers.specs.declared.Outcome.{Outcome}
+use Rattle.answers.specs.declared.Outcome.the-variants.{Accepted, Long, Torn, Short, Order, Field, Index}
 use Rattle.text.specs.declared.AnswerRoom.the-variants.{Lent}
-use Rattle.text.specs.Lines.{charOf, textOf}
+use Rattle.text.specs.Lines.{decoded, charOf, textOf}
 use Rattle.frames.specs.declared.Frame.{Frame}
 use Rattle.frames.specs.Bytes.{bytesOf, frameCount, putFrame}
 use Rattle.frames.specs.Out.{outcomeFrame}
-use Rattle.answering.specs.Outputs.{outputBytes}
+use Rattle.archive.specs.Starts.{startsOf, rowCount}
+use Rattle.rule.specs.Things.{see}
+use Rattle.answering.specs.Outputs.{outputs, outputBytes}
+use Rattle.answering.proofs.Bytes.{bytes-length}
 use Rattle.reader.specs.declared.OptionUsize.the-variants as Ou
 use Rattle.reader.specs.File.{overFile, readFile, framesAfter, framesIn}
 use Rattle.reader.specs.Typing.{answersWritten, outcomeText, outputText, typedText, linesIn}
 use Rattle.reader.proofs.Over.{refused-over, over-part}
+use Rattle.reader.proofs.Row.{two-a-row, few-rows}
+use Rattle.reader.proofs.Ready.{ready-of}
 use Rattle.reader.proofs.One.{build-goes-on}
 
 -- the first r lines of a text of n
@@ -61,3 +67,24 @@ accepted-lines t fr an last out n e r er el en ef ea ee eo =
     let b : take e out ≡ outputBytes x = ap (take e) eo ∙ take-at (outputBytes x) (drop (length (outputBytes x)) an) e (sym ee) in
     ap (overFile outcomeText outputText t) (ap (λ (k : ℕ). readFile t k (Lent 32768)) (sym ef) ∙ ap (λ (k : ℕ). readFile t (length fr) (Lent k)) (sym ea))
     ∙ sym (over-part t fr last (Lent (length an)) n r er el en outcomeText outputText) ∙ ap (λ (y : List ℕ). textOf y (frameCount y)) (sym b)
+
+-- ALL OF IT FITS into 67,584 bytes, which is 2,048 lines: a file has at most 1,024 rows, and at most two frames are handed back of each
+lines-long : (b : List ℕ) (n : ℕ) → length (textOf b n) ≡ 33 * n
+lines-long b n = length-build (charOf b) (33 * n)
+
+pub text-fits : (t : List ℕ) → length (typedText t) ≤ 67584
+unfolding typedText
+text-fits t = go (readFile t 16384 (Lent 32768)) refl
+  where
+    go : (o : Outcome) → readFile t 16384 (Lent 32768) ≡ o → length (overFile outcomeText outputText t o) ≤ 67584
+    go (Accepted n) e =
+        let fr = decoded t n in
+        let r = ready-of t 16384 32768 n e in
+        let all = rowCount (startsOf fr) in
+        omega (arith, lines-long (outputBytes fr) (frameCount (outputBytes fr)), bytes-length (outputs (see fr) all), two-a-row (see fr) all, few-rows fr 32768 r)
+    go Long e = omega (arith, lines-long (bytesOf (outcomeFrame Long)) 1)
+    go (Torn k) e = omega (arith, lines-long (bytesOf (outcomeFrame (Torn k))) 1)
+    go Short e = omega (arith, lines-long (bytesOf (outcomeFrame Short)) 1)
+    go (Order k) e = omega (arith, lines-long (bytesOf (outcomeFrame (Order k))) 1)
+    go (Field k) e = omega (arith, lines-long (bytesOf (outcomeFrame (Field k))) 1)
+    go (Index k) e = omega (arith, lines-long (bytesOf (outcomeFrame (Index k))) 1)
