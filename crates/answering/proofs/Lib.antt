@@ -4,4 +4,3 @@ pub mod Placed
 pub mod Buffer
 pub mod Room
 pub mod Later
-pub mod Worked

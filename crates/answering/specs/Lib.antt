@@ -1,3 +1,2 @@
 pub mod Outputs
 pub mod Later
-pub mod Cases
