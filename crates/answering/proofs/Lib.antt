@@ -3,4 +3,3 @@ pub mod Same
 pub mod Placed
 pub mod Buffer
 pub mod Room
-pub mod Worked

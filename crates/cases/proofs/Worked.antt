@@ -1,13 +1,15 @@
--- Every case of the table is what the definitions cited by the contracts of `read_file`, `same_type`, `canonical_form` and `pointer_base` give: both sides compute to the same. Assumes nothing.
+-- Every case of the table is what the definitions cited by the contracts of `type_text`, `read_file`, `type_rows`, `row_type`, `compose_verdict`, `same_type`,
+-- `canonical_form` and `pointer_base` give: both sides compute to the same. Assumes nothing.
 use mathlib.Core.Path.{_≡_, refl}
 use mathlib.Core.List.{List, map}
 use Prim.Native.Nat.{ℕ}
 use lib.ListN.{length}
 use Rattle.scan.specs.Lowest.{lowest, allBelow}
 use Rattle.scan.specs.Lists.{build, sumBelow}
-use Rattle.text.specs.declared.AnswerRoom.the-variants.{NotLent}
-use Rattle.text.specs.Hex.{digitValue}
-use Rattle.text.specs.Lines.{lineOk, byteOf}
+use Rattle.text.specs.declared.AnswerRoom.{AnswerRoom}
+use Rattle.text.specs.declared.AnswerRoom.the-variants.{NotLent, Lent}
+use Rattle.text.specs.Hex.{digitValue, digitOf}
+use Rattle.text.specs.Lines.{lineOk, byteOf, charOf}
 use Rattle.text.specs.Reading.{answerFrames, tooShort, readText}
 use Rattle.frames.specs.Bytes.{frameAt}
 use Rattle.frames.specs.Forms.{typeOf, itemOf, rowOf, memberOf, componentOf, fieldsFit}
@@ -16,31 +18,53 @@ use Rattle.archive.specs.Starts.{start, startsOf}
 use Rattle.archive.specs.Names.{namesOk}
 use Rattle.archive.specs.Parts.{earlyOk}
 use Rattle.archive.specs.Checks.{indexOk, checkFrames}
-use Rattle.archive.specs.Access.{typeIn}
+use Rattle.archive.specs.Access.{typeIn, rowIn}
 use Rattle.rule.specs.Things.{listed}
 use Rattle.type_methods.specs.Canonical.{equalTypes, identical, canonicalTypeIn, pointerBaseIn}
 use Rattle.type_methods.specs.Comparison.{sameIn, sameType}
+use Rattle.compose.specs.Verdict.{eachPart, vectorParts}
+use Rattle.answering.specs.Outputs.{outputs, framesBytes}
 use Rattle.reader.specs.File.{readFile, framesAfter}
-use Rattle.reader.specs.Types.{sameTypes, canonicalType, pointerBaseType}
-use Rattle.cases.specs.Table.{Asked, read, same, canonical, base, Answered, outcome, sameness, canonicalIs, baseIs, Case, table}
+use Rattle.reader.specs.Types.{sameTypes}
+use Rattle.reader.specs.Typing.{answersAfter, rowType, answersAfterRow, composeVerdict, answersAfterVerdict, typedText}
+use Rattle.pointer_forms.specs.Forms.{canonicalType, pointerBaseType}
+use Rattle.cases.specs.Table.{Asked, print, read, types, row, verdict, same, canonical, base}
+use Rattle.cases.specs.Table.{Answered, printed, outcome, typesAre, rowIs, verdictIs, sameness, canonicalIs, baseIs, Case, table}
 
 abbrev Output : Type 0
 Output = Answered × List ℕ
 
 -- what is answered, by the definitions that the contracts of `reader`'s functions cite
 abbrev answered : Case → Asked → Answered
+answered c print = printed (typedText (c .text))
+answered c (types an) = typesAre (readFile (c .text) (length (c .lent)) (Lent (length an))) (answersAfter (c .text) (length (c .lent)) an)
+answered c (row n an) =
+    rowIs (rowType (c .text) (length (c .lent)) (length an) (record { 0 = n })) (answersAfterRow (c .text) (length (c .lent)) an (record { 0 = n }))
+answered c (verdict n an) =
+    verdictIs (composeVerdict (c .text) (length (c .lent)) (length an) (record { 0 = n })) (answersAfterVerdict (c .text) (length (c .lent)) an (record { 0 = n }))
 answered c read = outcome (readFile (c .text) (length (c .lent)) NotLent)
 answered c (same l r) = sameness (sameTypes (c .text) (length (c .lent)) l r)
 answered c (canonical n) = canonicalIs (canonicalType (c .text) (length (c .lent)) (record { 0 = n }))
 answered c (base n) = baseIs (pointerBaseType (c .text) (length (c .lent)) (record { 0 = n }))
 
+-- the answer buffer lent
+abbrev roomOf : Asked → AnswerRoom
+roomOf print = NotLent
+roomOf read = NotLent
+roomOf (types an) = Lent (length an)
+roomOf (row n an) = Lent (length an)
+roomOf (verdict n an) = Lent (length an)
+roomOf (same l r) = NotLent
+roomOf (canonical n) = NotLent
+roomOf (base n) = NotLent
+
 -- and the frame buffer after it
 abbrev given : Case → Output
-given c = (answered c (c .asked), framesAfter (c .text) (c .lent) NotLent)
+given c = (answered c (c .asked), framesAfter (c .text) (c .lent) (roomOf (c .asked)))
 
 abbrev wanted : Case → Output
 wanted c = (c .answer, c .after)
 
 worked : map given table ≡ map wanted table
-unfolding lowest allBelow build sumBelow digitValue lineOk byteOf answerFrames tooShort readText frameAt typeOf itemOf rowOf memberOf componentOf fieldsFit orderOk start startsOf namesOk earlyOk indexOk checkFrames readFile framesAfter listed typeIn equalTypes identical sameIn sameType sameTypes canonicalTypeIn pointerBaseIn canonicalType pointerBaseType
+unfolding lowest allBelow build sumBelow digitValue lineOk byteOf answerFrames tooShort readText frameAt typeOf itemOf rowOf memberOf componentOf fieldsFit orderOk start startsOf namesOk earlyOk indexOk checkFrames readFile framesAfter listed typeIn equalTypes identical sameIn sameType sameTypes canonicalTypeIn pointerBaseIn canonicalType pointerBaseType rowIn eachPart vectorParts outputs framesBytes digitOf charOf answersAfter rowType answersAfterRow composeVerdict answersAfterVerdict typedText
 worked = refl

@@ -1,5 +1,4 @@
--- Document 01, "Cases", P: worked cases, each the whole text and the whole output, written by hand from the document. `file`,
--- the other order of the value pointer, and the canonical forms and bases are more.
+-- Document 01, "Cases", P: worked cases, each the whole text and the whole output, written by hand from the document. Those after the first ten are more.
 use Prim.Native.Nat.{ℕ, _+_, _*_, _-_}
 use Prim.Native.Char.{code}
 use Prim.Native.String.{String}
@@ -9,7 +8,7 @@ use mathlib.Core.List.{List, [], _∷_, _++_}
 use lib.Dec.{ltb}
 use lib.ListN.{replicate}
 use Rattle.answers.specs.declared.Outcome.{Outcome}
-use Rattle.answers.specs.declared.Outcome.the-variants.{Accepted, Long, Field}
+use Rattle.answers.specs.declared.Outcome.the-variants.{Accepted, Long, Short, Field}
 use Rattle.answers.specs.declared.Sameness.{Sameness}
 use Rattle.answers.specs.declared.Sameness.the-variants.{Same, Different}
 use Rattle.answers.specs.declared.CanonicalType.{CanonicalType}
@@ -25,6 +24,8 @@ use Rattle.ir.specs.declared.TypeResolution.the-variants as Tr
 use Rattle.ir.specs.declared.VectorSize.the-variants as Vs
 use Rattle.frames.specs.declared.Frame.{Frame}
 use Rattle.frames.specs.Bytes.{frameAt}
+use Rattle.rule.specs.Answers.{number, given, told, count}
+use Rattle.reader.specs.Typing.{RowGiven, VerdictGiven, noCompose}
 
 -- the characters of a text, by their numbers
 abbrev bytes : String → List ℕ
@@ -54,14 +55,22 @@ frames (s ∷ ss) = paired (bytes s) ++ frames ss
 abbrev frame : String → Frame
 frame s = frameAt (frames (s ∷ [])) 0
 
--- what is asked of a text: to read it, whether two frames are the same type, the canonical form of a type, or its base
+-- what is asked of a text: what the typing program prints; to read it; to type its rows, one row's type, and one compose's verdict, over a lent answer buffer;
+-- whether two frames are the same type; the canonical form of a type, or its base
 pub data Asked : Type 0 where
-  read : Asked
+  print read : Asked
+  types : List ℕ → Asked
+  row verdict : ℕ → List ℕ → Asked
   same : Frame → Frame → Asked
   canonical base : ℕ → Asked
 
+-- with the answer buffer after it, where one is lent
 pub data Answered : Type 0 where
+  printed : List ℕ → Answered
   outcome : Outcome → Answered
+  typesAre : Outcome → List ℕ → Answered
+  rowIs : RowGiven → List ℕ → Answered
+  verdictIs : VerdictGiven → List ℕ → Answered
   sameness : Sameness → Answered
   canonicalIs : CanonicalType → Answered
   baseIs : PointerBase → Answered
@@ -73,6 +82,10 @@ pub record Case : Type 0 where
   pub asked : Asked
   pub answer : Answered
   pub after : List ℕ
+
+-- what the typing program prints of a text; it lends buffers of its own
+abbrev prints : List ℕ → List String → Case
+prints t out = record { text = t; lent = []; asked = print; answer = printed (lines out); after = [] }
 
 -- the file whose rows the document types
 abbrev paper : List String
@@ -88,6 +101,52 @@ paper =
     "040c0100000000000000000000000000" ∷
     "040d0300000000000000000000000000" ∷
     "04070000000000000000000003000000" ∷ []
+
+-- a matrix of 3 columns and 2 rows, and AccessIndex 2 and 3 of a value of it
+abbrev matrix : List String
+matrix =
+    "01030302020400000000000000000000" ∷
+    "04040000000000000000000000000000" ∷
+    "04070000000000000000000002000000" ∷
+    "04070000000000000000000003000000" ∷ []
+
+-- f32, a vec3 of it, and a value of the one times a value of the other
+abbrev product : List String
+product =
+    "01010000020400000000000000000000" ∷
+    "01020300020400000000000000000000" ∷
+    "04040000000000000000000000000000" ∷
+    "04040100000000000000000000000000" ∷
+    "04120000010002000000000000000000" ∷ []
+
+-- f32, vec3 and vec4; a vec4 composed from a vec3 and a scalar, and one from two vec3
+abbrev composes : List String
+composes =
+    "01010000020400000000000000000000" ∷
+    "01020300020400000000000000000000" ∷
+    "01020400020400000000000000000000" ∷
+    "04040000000000000000000000000000" ∷
+    "04040100000000000000000000000000" ∷
+    "04050200020000000000000000000000" ∷
+    "04050200020000000000000002000000" ∷
+    "05000100000000000000000000000000" ∷
+    "05000000000000000000000000000000" ∷
+    "05000100000000000000000000000000" ∷
+    "05000100000000000000000000000000" ∷ []
+
+-- what is handed back of it
+abbrev composed : List String
+composed =
+    "08000000000000000000000000000000" ∷
+    "08000100000000000000000000000000" ∷
+    "08000200000000000000000000000000" ∷
+    "0b000200000000000000000000000000" ∷
+    "08000200000000000000000000000000" ∷
+    "0b1f0300040000000600000000000000" ∷ []
+
+-- a question about that file's rows, with an answer buffer of one byte more than it asks for
+abbrev ofComposes : Asked → Answered → Case
+ofComposes a answer = record { text = lines composes; lent = replicate 177 7; asked = a; answer = answer; after = frames composes ++ 7 ∷ [] }
 
 -- a constant array with count 0, after the scalar that it names
 abbrev noCount : List String
@@ -198,17 +257,50 @@ file =
 
 abbrev pub table : List Case
 table =
+    -- the document's file, and its six lines
+    prints (lines paper)
+    ("09060100000000000000000000000000" ∷
+    "09070000020400000000000000000000" ∷
+    "09010000020400000000000000000000" ∷
+    "09060200000000000000000000000000" ∷
+    "0a160400000000000000000000000000" ∷
+    "0a0a0000030000000000000000000000" ∷ [])
     -- empty file, no lines
-    record { text = []; lent = 7 ∷ []; asked = read; answer = outcome (Accepted 0); after = 7 ∷ [] }
+    ∷ prints [] []
+    -- Matrix 3 by 2 at index 2 vector of 2, at 3 number 10
+    ∷ prints (lines matrix)
+    ("08000000000000000000000000000000" ∷
+    "09020200020400000000000000000000" ∷
+    "0a0a0000030000000000000000000000" ∷ [])
+    -- scalar times vector gives the vector
+    ∷ prints (lines product)
+    ("08000000000000000000000000000000" ∷
+    "08000100000000000000000000000000" ∷
+    "08000100000000000000000000000000" ∷ [])
+    -- vec4 from vec3 and scalar passes, from two vec3 count 4 given 6
+    ∷ prints (lines composes) composed
     -- the constant array count 0 number 5
-    ∷ record { text = lines noCount; lent = replicate 33 7; asked = read; answer = outcome (Field 1); after = frames noCount ++ 7 ∷ [] }
+    ∷ prints (lines noCount) ("0a050100000000000000000000000000" ∷ [])
     -- 1,025 lines number 1
-    ∷ record { text = lines (replicate 1025 "01010000020400000000000000000000"); lent = 7 ∷ []; asked = read; answer = outcome Long; after = 7 ∷ [] }
+    ∷ prints (lines (replicate 1025 "01010000020400000000000000000000")) ("0a010004000000000000000000000000" ∷ [])
     -- pointer to a scalar type equals the value pointer, in either order
     ∷ compared "08000100000000000000000000000000" "09070000020400000000000000000000" Same
     ∷ compared "09070000020400000000000000000000" "08000100000000000000000000000000" Same
     -- two alike structs differ
     ∷ compared "08000200000000000000000000000000" "08000300000000000000000000000000" Different
+    -- MORE: the buffers of the empty file, of the array and of the 1,025 lines
+    ∷ record { text = []; lent = 7 ∷ []; asked = read; answer = outcome (Accepted 0); after = 7 ∷ [] }
+    ∷ record { text = lines noCount; lent = replicate 33 7; asked = read; answer = outcome (Field 1); after = frames noCount ++ 7 ∷ [] }
+    ∷ record { text = lines (replicate 1025 "01010000020400000000000000000000"); lent = 7 ∷ []; asked = read; answer = outcome Long; after = 7 ∷ [] }
+    -- rows over buffers that are lent: all, one, and one compose; a row that the file does not have, and one that is no compose, leave the answer buffer
+    ∷ ofComposes (types (replicate 97 9)) (typesAre (Accepted 11) (frames composed ++ 9 ∷ []))
+    ∷ ofComposes (row 3 (replicate 97 9)) (rowIs (RowGiven.answer (told (given (number (record { 0 = 2 }))))) (frames composed ++ 9 ∷ []))
+    ∷ ofComposes (row 4 (replicate 97 9)) (rowIs RowGiven.noRow (replicate 97 9))
+    ∷ ofComposes (verdict 3 (replicate 97 9)) (verdictIs (VerdictGiven.verdict (told (count 4 6))) (frames composed ++ 9 ∷ []))
+    ∷ ofComposes (verdict 1 (replicate 97 9)) (verdictIs noCompose (replicate 97 9))
+    ∷ ofComposes (verdict 4 (replicate 97 9)) (verdictIs VerdictGiven.noRow (replicate 97 9))
+    -- an answer buffer that is too small changes nothing
+    ∷ record { text = lines composes; lent = replicate 177 7; asked = types (replicate 95 9); answer = typesAre Short (replicate 95 9); after = replicate 177 7 }
     -- the value pointer of a pointer to a scalar or vector, in its space; every other type is its own, by its number
     ∷ ofPointers (canonical 2) (canonicalIs (Ct.Form (Tr.Value (Ti.ValuePointer Ov.None f32 Sp.Function))))
     ∷ ofPointers (canonical 3) (canonicalIs (Ct.Form (Tr.Value (Ti.ValuePointer (Ov.Some Vs.Tri) f32 Sp.Private))))

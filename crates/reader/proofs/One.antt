@@ -55,7 +55,7 @@ outputs-go-on sight m (suc n) h = go (decLe m n) (outputs-go-on sight m n)
     go (yes l) ih = goes-on (outputs sight n) (outputs sight m) (rowFrames sight n) (ih l)
     go (no l) ih = let e : m ≡ suc n = omega arith in rw e (record { more = []; is = sym (append-nil (outputs sight n ++ rowFrames sight n)) })
 
-build-goes-on : (f : ℕ → ℕ) (m n : ℕ) → m ≤ n → GoesOn (build f n) (build f m)
+pub build-goes-on : (f : ℕ → ℕ) (m n : ℕ) → m ≤ n → GoesOn (build f n) (build f m)
 unfolding build
 build-goes-on f m zero h = let e : m ≡ 0 = omega arith in rw e (record { more = []; is = refl })
 build-goes-on f m (suc n) h = go (decLe m n) (build-goes-on f m n)

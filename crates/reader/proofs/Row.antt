@@ -188,11 +188,10 @@ module _ (fr an : List ℕ) (m : ℕ) (ready : Ready fr (length an)) (here : m <
         let e : outputs (see fr) (m + 1) ≡ (outs ++ (f ∷ [])) ++ (g ∷ []) = rw add-one (ap (λ (x : Option (Rule Judgement)). outs ++ (f ∷ verdictFrames m (judged (see fr) m x))) q ∙ both) in
         let n : length (outs ++ (f ∷ [])) ≡ at + 1 = length-append outs (f ∷ []) in
         let k : length ((outs ++ (f ∷ [])) ++ (g ∷ [])) ≡ at + 1 + 1 = length-append (outs ++ (f ∷ [])) (g ∷ []) ∙ ap (λ (x : ℕ). x + 1) n in
-        let room : 16 * length (outs ++ (f ∷ [])) + 16 ≤ length an = omega (arith, n, k, ap length e, room-for fr (length an) ready (m + 1) (omega arith)) in
-        (
+        let room : 16 * length (outs ++ (f ∷ [])) + 16 ≤ length an = omega (arith, n, k, ap length e, room-for fr (length an) ready (m + 1) (omega arith)) in (
           sym (ap length e ∙ k),
           ee ∙ ap (λ (x : ℕ). putFrame last x (Out.verdictFrame (record { 0 = m }) v)) (sym n) ∙ ap (putFrame last (length (outs ++ (f ∷ [])))) (verdict-framed (record { 0 = m }) v ∙ ap (verdictFrame (record { 0 = m })) ev)
-          ∙ put-next (outs ++ (f ∷ [])) g last an row-put room ∙ ap (λ (x : ℕ). framesBytes ((outs ++ (f ∷ [])) ++ (g ∷ [])) ++ drop (16 * x) an) k ∙ ap (λ (l : List Frame). framesBytes l ++ drop (16 * (at + 1 + 1)) an) (sym e),
+              ∙ put-next (outs ++ (f ∷ [])) g last an row-put room ∙ ap (λ (x : ℕ). framesBytes ((outs ++ (f ∷ [])) ++ (g ∷ [])) ++ drop (16 * x) an) k ∙ ap (λ (l : List Frame). framesBytes l ++ drop (16 * (at + 1 + 1)) an) (sym e),
         )
 
 -- THE SAME as the code has it: `at` is the next frame, `s` and `places` are as the definitions have them
@@ -247,7 +246,7 @@ module _ (fr an places : List ℕ) (s : Starts) (row : RowNumber) (at : ℕ) (re
         let rule : Frame → Starts → Rule Judgement = λ f z. verdict (record { 0 = half f 2 }) (partsIn fr z (record { 0 = word f 12 }) (half f 4)) in
         let g : Frame = frameAt fr (startsOf fr .rows + row .0) in
         let j : toJudged v ≡ ours (see fr) typing (row .0) (rule g (startsOf fr)) =
-            rv ∙ ours-here fr an (row .0) ready here outs-there s (take (16 * at) last) places (rule frame s) es kept ep ∙ rw (es, frame-is) in
+        rv ∙ ours-here fr an (row .0) ready here outs-there s (take (16 * at) last) places (rule frame s) es kept ep ∙ rw (es, frame-is) in
         rw ea
         (compose-done fr an (row .0) ready here outs-there a last answer-is last-is (rule g (startsOf fr)) v end (compose-rule fr (row .0) here (ap (λ (x : Frame). x .b1) (sym frame-is) ∙ h)) j (rw ea at ee))
 

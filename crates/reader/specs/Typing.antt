@@ -105,12 +105,19 @@ unfoldable pub answersAfterVerdict : List ℕ → ℕ → List ℕ → RowNumber
 answersAfterVerdict t f an n =
     overFile (λ (o : Outcome). an) (λ (fr : List ℕ). ifJudged (answersWritten an fr) an (verdictGiven n fr)) t (readFile t f (Lent (length an)))
 
--- AS LINES, what the typing program prints: a line for each frame handed back, or one of family 10 for a file that is not accepted. The buffers are of the
--- largest sizes that a file asks for, 16,384 and 32,768 bytes.
+-- AS LINES, what the typing program prints
+
+-- one line of family 10 for a file that is not accepted
+abbrev pub outcomeText : Outcome → List ℕ
+outcomeText o = textOf (bytesOf (outcomeFrame o)) 1
+
+-- a line for each frame handed back; none for a file without rows
+abbrev pub outputText : List ℕ → List ℕ
+outputText fr = textOf (outputBytes fr) (frameCount (outputBytes fr))
+
+-- with buffers of the largest sizes that a file asks for, 16,384 and 32,768 bytes
 unfoldable pub typedText : List ℕ → List ℕ
-typedText t =
-    overFile (λ (o : Outcome). textOf (bytesOf (outcomeFrame o)) 1) (λ (fr : List ℕ). textOf (outputBytes fr) (frameCount (outputBytes fr))) t
-    (readFile t 16384 (Lent 32768))
+typedText t = overFile outcomeText outputText t (readFile t 16384 (Lent 32768))
 
 -- how many of its bytes fit whole lines into an output buffer of o bytes
 abbrev pub linesIn : List ℕ → ℕ → ℕ

@@ -1,23 +1,20 @@
 // The public functions over a file. Each checks the file first (document 01, "Numbers handed back").
+pub mod lines;
 pub mod rows;
 
-use answers::CanonicalType;
 use answers::Outcome;
-use answers::PointerBase;
 use answers::Sameness;
 use archive::checks::check_frames;
 use archive::families::find_starts;
 use frames::Frame;
-use ir::TypeNumber;
 use text::AnswerRoom;
 use text::read_text;
 use type_methods::compare;
-use type_methods::pointers;
 ghost use mathlib.Core.Path.{_≡_};
 ghost use lib.ListN.{length};
 ghost use Rattle.text.specs.declared.AnswerRoom.the-variants.{NotLent};
 ghost use Rattle.reader.specs.File.{readFile, framesAfter, framesIn};
-ghost use Rattle.reader.specs.Types.{sameTypes, canonicalType, pointerBaseType};
+ghost use Rattle.reader.specs.Types.{sameTypes};
 
 // The number of frames that were accepted, or none.
 pub enum OptionUsize {
@@ -25,7 +22,7 @@ pub enum OptionUsize {
     Some(usize),
 }
 
-pub(crate) fn frames_in(o: Outcome) -> OptionUsize
+pub fn frames_in(o: Outcome) -> OptionUsize
     ensures { λ r. ⌜ r ≡ framesIn o ⌝ }
 {
     match o {
@@ -72,36 +69,6 @@ pub fn same_type(text: &[u8], frames: &mut [u8], left: Frame, right: Frame) -> S
             let m = 16 * n;
             let s = find_starts(&frames[..m]);
             compare::same_type(&frames[..m], s, left, right)
-        }
-    }
-}
-
-// The canonical form of type n: the value pointer, or n itself. The frame buffer is as `read_file` leaves it.
-pub fn canonical_form(text: &[u8], frames: &mut [u8], n: TypeNumber) -> CanonicalType
-    ensures { λ r. ⌜ (r ≡ canonicalType (now (text .entry)) (length (now (frames .entry))) n) × (now (frames .exit) ≡ framesAfter (now (text .entry)) (now (frames .entry)) NotLent) ⌝ }
-{
-    let read = read_file(text, frames);
-    match frames_in(read) {
-        OptionUsize::None => CanonicalType::NotAccepted(read),
-        OptionUsize::Some(k) => {
-            let m = 16 * k;
-            let s = find_starts(&frames[..m]);
-            pointers::canonical_type(&frames[..m], s, n)
-        }
-    }
-}
-
-// The base of type n, or that it is no pointer. The frame buffer is as `read_file` leaves it.
-pub fn pointer_base(text: &[u8], frames: &mut [u8], n: TypeNumber) -> PointerBase
-    ensures { λ r. ⌜ (r ≡ pointerBaseType (now (text .entry)) (length (now (frames .entry))) n) × (now (frames .exit) ≡ framesAfter (now (text .entry)) (now (frames .entry)) NotLent) ⌝ }
-{
-    let read = read_file(text, frames);
-    match frames_in(read) {
-        OptionUsize::None => PointerBase::NotAccepted(read),
-        OptionUsize::Some(k) => {
-            let m = 16 * k;
-            let s = find_starts(&frames[..m]);
-            pointers::pointer_base(&frames[..m], s, n)
         }
     }
 }

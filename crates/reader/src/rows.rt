@@ -133,17 +133,15 @@ fn judge_one(frames: &[u8], answers: &mut [u8], row: RowNumber) -> ComposeVerdic
         if f.b1 == 5 {
             let mut places = [0u16; 1024];
             answer_rows(frames, s, answers, &mut places);
-            ComposeVerdict::Judged(
-                judge(
-                    frames,
-                    s,
-                    answers,
-                    &places[..m],
-                    TypeNumber(f.named()),
-                    ComponentNumber(f.last()),
-                    f.second(),
-                ),
-            )
+            ComposeVerdict::Judged(judge(
+                frames,
+                s,
+                answers,
+                &places[..m],
+                TypeNumber(f.named()),
+                ComponentNumber(f.last()),
+                f.second(),
+            ))
         } else {
             ComposeVerdict::NotCompose
         }
@@ -183,7 +181,12 @@ pub fn row_type(text: &[u8], frames: &mut [u8], answers: &mut [u8], row: RowNumb
 }
 
 // The verdict on one compose, with the buffers as `type_rows` leaves them. The answer buffer is unchanged where the file has no such row, or the row is no compose.
-pub fn compose_verdict(text: &[u8], frames: &mut [u8], answers: &mut [u8], row: RowNumber) -> ComposeVerdict
+pub fn compose_verdict(
+    text: &[u8],
+    frames: &mut [u8],
+    answers: &mut [u8],
+    row: RowNumber,
+) -> ComposeVerdict
     ensures { λ r. ⌜ (toVerdict r ≡ composeVerdict (now (text .entry)) (length (now (frames .entry))) (length (now (answers .entry))) row) × (now (frames .exit) ≡ framesAfter (now (text .entry)) (now (frames .entry)) (Lent (length (now (answers .entry))))) × (now (answers .exit) ≡ answersAfterVerdict (now (text .entry)) (length (now (frames .entry))) (now (answers .entry)) row) ⌝ }
 {
     let read = read_with(text, frames, AnswerRoom::Lent(answers.len()));

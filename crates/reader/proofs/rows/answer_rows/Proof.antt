@@ -71,7 +71,7 @@ loop-less c = omega (arith, c .before .before .before .before .before .loop-test
 
 -- src/rows.rt:89:5
 loop-again : tie.Need-loop-again Inv-loop μ-loop
-loop-again c = 
+loop-again c =
     let f = c .before .before .before .before .before .before .before .before .before .before .before .args .frames .now in
     let l = c .before .before .before .before .before .before .loop in
     let b = c .before .before .before .before .before .before .before .before .before .before .before .args .answers .now in
@@ -94,7 +94,7 @@ same-length-2 c = c .before .loop .inv .5
 
 -- src/rows.rt:82:1
 returns : tie.Need-returns Inv-loop μ-loop
-returns c = 
+returns c =
     let f = c .before .before .before .before .before .before .args .frames .now in
     let i = c .before .loop in
     let n : i .m ≡ rowCount (c .before .before .before .before .before .before .args .s) = le-antisymm (i .inv .0) (c .loop-test .left) ∙ c .before .before .row-count .ensures in

@@ -1,0 +1,44 @@
+// Pointer forms over a file: the canonical form of a type, and a pointer's base. Each checks the file first (document 01, "Numbers handed back").
+use answers::CanonicalType;
+use answers::PointerBase;
+use archive::families::find_starts;
+use ir::TypeNumber;
+use reader::OptionUsize;
+use reader::frames_in;
+use reader::read_file;
+use type_methods::pointers;
+ghost use mathlib.Core.Path.{_≡_};
+ghost use lib.ListN.{length};
+ghost use Rattle.text.specs.declared.AnswerRoom.the-variants.{NotLent};
+ghost use Rattle.reader.specs.File.{framesAfter};
+ghost use Rattle.pointer_forms.specs.Forms.{canonicalType, pointerBaseType};
+
+// The canonical form of type n: the value pointer, or n itself. The frame buffer is as `read_file` leaves it.
+pub fn canonical_form(text: &[u8], frames: &mut [u8], n: TypeNumber) -> CanonicalType
+    ensures { λ r. ⌜ (r ≡ canonicalType (now (text .entry)) (length (now (frames .entry))) n) × (now (frames .exit) ≡ framesAfter (now (text .entry)) (now (frames .entry)) NotLent) ⌝ }
+{
+    let read = read_file(text, frames);
+    match frames_in(read) {
+        OptionUsize::None => CanonicalType::NotAccepted(read),
+        OptionUsize::Some(k) => {
+            let m = 16 * k;
+            let s = find_starts(&frames[..m]);
+            pointers::canonical_type(&frames[..m], s, n)
+        }
+    }
+}
+
+// The base of type n, or that it is no pointer. The frame buffer is as `read_file` leaves it.
+pub fn pointer_base(text: &[u8], frames: &mut [u8], n: TypeNumber) -> PointerBase
+    ensures { λ r. ⌜ (r ≡ pointerBaseType (now (text .entry)) (length (now (frames .entry))) n) × (now (frames .exit) ≡ framesAfter (now (text .entry)) (now (frames .entry)) NotLent) ⌝ }
+{
+    let read = read_file(text, frames);
+    match frames_in(read) {
+        OptionUsize::None => PointerBase::NotAccepted(read),
+        OptionUsize::Some(k) => {
+            let m = 16 * k;
+            let s = find_starts(&frames[..m]);
+            pointers::pointer_base(&frames[..m], s, n)
+        }
+    }
+}

@@ -1,0 +1,90 @@
+-- What the typing program prints: the lines of the frames handed back, as many whole ones as fit. Assumes nothing.
+use Prim.Native.Nat.{ℕ, _+_, _*_, _/_, _≤_, _<_, min}
+use native.Mathlib.Omega.{arith}
+use mathlib.Core.Path.{_≡_, refl, sym, ap, _∙_}
+use mathlib.Core.List.{List, _++_}
+use lib.ListN.{length, take, drop, length-append}
+use lib.Seq.{take-at}
+use borrow.Author.Tests.{lt-ltb}
+use Rattle.scan.proofs.Fill.{length-build}
+use Rattle.answers.specs.declared.Outcome.{Outcome}
+use Rattle.answers.specs.declared.Outcome.the-variants.{Accepted, Long, Torn, Short, Order, Field, Index}
+use Rattle.text.specs.declared.AnswerRoom.the-variants.{Lent}
+use Rattle.text.specs.Lines.{decoded, charOf, textOf}
+use Rattle.frames.specs.declared.Frame.{Frame}
+use Rattle.frames.specs.Bytes.{bytesOf, frameCount, putFrame}
+use Rattle.frames.specs.Out.{outcomeFrame}
+use Rattle.archive.specs.Starts.{startsOf, rowCount}
+use Rattle.rule.specs.Things.{see}
+use Rattle.answering.specs.Outputs.{outputs, outputBytes}
+use Rattle.answering.proofs.Bytes.{bytes-length}
+use Rattle.reader.specs.declared.OptionUsize.the-variants as Ou
+use Rattle.reader.specs.File.{overFile, readFile, framesAfter, framesIn}
+use Rattle.reader.specs.Typing.{answersWritten, outcomeText, outputText, typedText, linesIn}
+use Rattle.reader.proofs.Over.{refused-over, over-part}
+use Rattle.reader.proofs.Row.{two-a-row, few-rows}
+use Rattle.reader.proofs.Ready.{ready-of}
+use Rattle.reader.proofs.One.{build-goes-on}
+
+-- the first r lines of a text of n
+take-lines : (b : List ℕ) (n r : ℕ) → r ≤ n → take (33 * r) (textOf b n) ≡ textOf b r
+take-lines b n r h =
+    let g = build-goes-on (charOf b) (33 * r) (33 * n) (omega arith) in
+    ap (take (33 * r)) (g .is) ∙ take-at (textOf b r) (g .more) (33 * r) (length-build (charOf b) (33 * r))
+
+-- b are the frames lent, o the output buffer, and `last` it after r lines are written
+pub printed : (t b o last : List ℕ) (r : ℕ) → typedText t ≡ textOf b (frameCount b) → r ≡ min (length b / 16) (length o / 33) → last ≡ textOf b r ++ drop (33 * r) o
+    → (33 * r ≡ linesIn t (length o)) × (last ≡ take (33 * r) (typedText t) ++ drop (33 * r) o)
+printed t b o last r e er el =
+    let n : length (typedText t) / 33 ≡ frameCount b = ap (λ (x : List ℕ). length x / 33) e ∙ ap (λ (x : ℕ). x / 33) (length-build (charOf b) (33 * frameCount b)) ∙ omega arith in
+    let h : r ≤ frameCount b = omega (arith, er) in (
+      ap (λ (x : ℕ). 33 * x) er ∙ ap (λ (x : ℕ). 33 * min x (length o / 33)) (sym n),
+      el ∙ ap (λ (x : List ℕ). x ++ drop (33 * r) o) (sym (take-lines b (frameCount b) r h) ∙ ap (take (33 * r)) (sym e)),
+    )
+
+-- a file that is refused: its number's frame, put at the front of a buffer that has room
+pub front-is : (an : List ℕ) (f : Frame) → 16 ≤ length an → take 16 (putFrame an 0 f) ≡ bytesOf f
+unfolding putFrame
+front-is an f h = rw (lt-ltb 0 (frameCount an) (omega (arith, h)))
+
+pub refused-lines : (t an last : List ℕ) (f : ℕ) (r : Outcome) → r ≡ readFile t f (Lent 32768) → f ≡ 16384 → framesIn r ≡ Ou.None → 16 ≤ length an → last ≡ putFrame an 0 (outcomeFrame r)
+    → typedText t ≡ textOf (take 16 last) (frameCount (take 16 last))
+unfolding typedText
+refused-lines t an last f r er ef en h el =
+    let b : take 16 last ≡ bytesOf (outcomeFrame r) = ap (take 16) el ∙ front-is an (outcomeFrame r) h in
+    ap (overFile outcomeText outputText t) (ap (λ (x : ℕ). readFile t x (Lent 32768)) (sym ef) ∙ sym er) ∙ sym (refused-over outcomeText outputText t r en) ∙ ap (λ (x : List ℕ). textOf x (frameCount x)) (sym b)
+
+pub written-long : (an x out : List ℕ) → out ≡ answersWritten an x → length (outputBytes x) ≤ length out
+written-long an x out e = omega (arith, ap length e ∙ length-append (outputBytes x) (drop (length (outputBytes x)) an))
+
+-- one that is accepted: all that is handed back
+pub accepted-lines : (t fr an last out : List ℕ) (n e : ℕ) (r : Outcome) → r ≡ readFile t (length fr) (Lent (length an)) → last ≡ framesAfter t fr (Lent (length an)) → framesIn r ≡ Ou.Some n
+    → length fr ≡ 16384 → length an ≡ 32768 → e ≡ length (outputBytes (take (16 * n) last)) → out ≡ answersWritten an (take (16 * n) last)
+    → typedText t ≡ textOf (take e out) (frameCount (take e out))
+unfolding typedText
+accepted-lines t fr an last out n e r er el en ef ea ee eo =
+    let x = take (16 * n) last in
+    let b : take e out ≡ outputBytes x = ap (take e) eo ∙ take-at (outputBytes x) (drop (length (outputBytes x)) an) e (sym ee) in
+    ap (overFile outcomeText outputText t) (ap (λ (k : ℕ). readFile t k (Lent 32768)) (sym ef) ∙ ap (λ (k : ℕ). readFile t (length fr) (Lent k)) (sym ea))
+    ∙ sym (over-part t fr last (Lent (length an)) n r er el en outcomeText outputText) ∙ ap (λ (y : List ℕ). textOf y (frameCount y)) (sym b)
+
+-- ALL OF IT FITS into 67,584 bytes, which is 2,048 lines: a file has at most 1,024 rows, and at most two frames are handed back of each
+lines-long : (b : List ℕ) (n : ℕ) → length (textOf b n) ≡ 33 * n
+lines-long b n = length-build (charOf b) (33 * n)
+
+pub text-fits : (t : List ℕ) → length (typedText t) ≤ 67584
+unfolding typedText
+text-fits t = go (readFile t 16384 (Lent 32768)) refl
+  where
+    go : (o : Outcome) → readFile t 16384 (Lent 32768) ≡ o → length (overFile outcomeText outputText t o) ≤ 67584
+    go (Accepted n) e =
+        let fr = decoded t n in
+        let r = ready-of t 16384 32768 n e in
+        let all = rowCount (startsOf fr) in
+        omega (arith, lines-long (outputBytes fr) (frameCount (outputBytes fr)), bytes-length (outputs (see fr) all), two-a-row (see fr) all, few-rows fr 32768 r)
+    go Long e = omega (arith, lines-long (bytesOf (outcomeFrame Long)) 1)
+    go (Torn k) e = omega (arith, lines-long (bytesOf (outcomeFrame (Torn k))) 1)
+    go Short e = omega (arith, lines-long (bytesOf (outcomeFrame Short)) 1)
+    go (Order k) e = omega (arith, lines-long (bytesOf (outcomeFrame (Order k))) 1)
+    go (Field k) e = omega (arith, lines-long (bytesOf (outcomeFrame (Field k))) 1)
+    go (Index k) e = omega (arith, lines-long (bytesOf (outcomeFrame (Index k))) 1)

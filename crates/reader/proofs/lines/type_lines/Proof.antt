@@ -1,0 +1,144 @@
+-- `type_lines`: the lines of the frame of a number, or of all that is handed back. Assumes nothing.
+use mathlib.Core.Path.{_≡_, sym, ap, _∙_}
+use mathlib.Core.List.{List}
+use Prim.Native.Nat.{ℕ, _*_}
+use native.Mathlib.Omega.{arith}
+use lib.ListN.{length, take}
+use lib.Seq.{length-take-le}
+use borrow.Author.Needs.{needs}
+use Rattle.text.specs.declared.AnswerRoom.the-variants.{Lent}
+use Rattle.frames.specs.Bytes.{putFrame}
+use Rattle.frames.specs.Out.{outcomeFrame}
+use Rattle.reader.specs.File.{readFile}
+use Rattle.reader.proofs.Over.{part-fits}
+use Rattle.reader.proofs.Ready.{ready-part}
+use Rattle.reader.proofs.Printed.{printed, front-is, refused-lines, written-long, accepted-lines}
+use Rattle.reader.proofs.lines.type_lines.Statement.{statement}
+use Rattle.reader.proofs.lines.type_lines.Tie as tie
+
+read-with-requires : tie.Need-read-with-requires
+read-with-requires c κs = search needs
+
+frames-in-requires : tie.Need-frames-in-requires
+frames-in-requires c κs = search needs
+
+enum-told : tie.Need-enum-told
+enum-told c = search needs
+
+outcome-frame-requires : tie.Need-outcome-frame-requires
+outcome-frame-requires c κs = search needs
+
+put-frame-requires : tie.Need-put-frame-requires
+put-frame-requires c κs = search needs
+
+slice-reshare-prefix-write-text : tie.Need-slice-reshare-prefix-write-text
+slice-reshare-prefix-write-text c = search needs
+
+slice-aggregate-write-text : tie.Need-slice-aggregate-write-text
+slice-aggregate-write-text c = sym (ap length (ap (take 16) (c .before .before .before .put-frame .ensures ∙ ap (putFrame (c .before .before .before .before .before .before .before .before .before .before .before .before .before .before .before .before .before .args .answers .now) 0) (c .before .before .before .before .outcome-frame .ensures)) ∙ front-is (c .before .before .before .before .before .before .before .before .before .before .before .before .before .before .before .before .before .args .answers .now) (outcomeFrame (c .before .before .before .before .before .before .before .before .before .before .before .read-with .result)) (omega (arith, c .before .before .before .before .before .before .before .before .before .before .before .before .before .before .before .before .before .pre .1))))
+
+write-text-requires : tie.Need-write-text-requires
+write-text-requires c κs = search needs
+
+mul-result : tie.Need-mul-result
+mul-result c = omega (arith, c .before .before .write-text .ensures .0, ap length (ap (take 16) (c .before .before .before .before .before .before .before .put-frame .ensures ∙ ap (putFrame (c .before .before .before .before .before .before .before .before .before .before .before .before .before .before .before .before .before .before .before .before .before .args .answers .now) 0) (c .before .before .before .before .before .before .before .before .outcome-frame .ensures)) ∙ front-is (c .before .before .before .before .before .before .before .before .before .before .before .before .before .before .before .before .before .before .before .before .before .args .answers .now) (outcomeFrame (c .before .before .before .before .before .before .before .before .before .before .before .before .before .before .before .read-with .result)) (omega (arith, c .before .before .before .before .before .before .before .before .before .before .before .before .before .before .before .before .before .before .before .before .before .pre .1))))
+
+enum-known-n : tie.Need-enum-known-n
+enum-known-n c = search needs
+
+mul-m : tie.Need-mul-m
+mul-m c = omega (arith, part-fits (c .before .before .before .before .before .before .before .before .before .before .before .before .args .text .now) (c .before .before .before .before .before .before .before .before .before .before .before .before .args .frames .now) _ _ (c .before .n .given .0 .0) _ (c .before .before .before .before .before .before .read-with .ensures .0) (c .before .before .before .before .before .before .read-with .ensures .1) (sym (c .before .before .before .frames-in .ensures) ∙ c .before .n .given .1))
+
+slice-reshare-prefix-answer-all : tie.Need-slice-reshare-prefix-answer-all
+slice-reshare-prefix-answer-all c = part-fits (c .before .before .before .before .before .before .before .before .before .before .before .before .args .text .now) (c .before .before .before .before .before .before .before .before .before .before .before .before .args .frames .now) _ _ (c .before .n .given .0 .0) _ (c .before .before .before .before .before .before .read-with .ensures .0) (c .before .before .before .before .before .before .read-with .ensures .1) (sym (c .before .before .before .frames-in .ensures) ∙ c .before .n .given .1)
+
+slice-aggregate-answer-all : tie.Need-slice-aggregate-answer-all
+slice-aggregate-answer-all c = sym (length-take-le _ _ (part-fits (c .before .before .before .before .before .before .before .before .before .before .before .before .before .args .text .now) (c .before .before .before .before .before .before .before .before .before .before .before .before .before .args .frames .now) _ _ (c .before .before .n .given .0 .0) _ (c .before .before .before .before .before .before .before .read-with .ensures .0) (c .before .before .before .before .before .before .before .read-with .ensures .1) (sym (c .before .before .before .before .frames-in .ensures) ∙ c .before .before .n .given .1)))
+
+answer-all-requires : tie.Need-answer-all-requires
+answer-all-requires c κs = ready-part (c .before .before .before .before .before .before .before .before .before .before .before .before .before .before .args .text .now) (c .before .before .before .before .before .before .before .before .before .before .before .before .before .before .args .frames .now) (c .before .before .before .before .before .before .before .before .read-with .last .1 .0) (c .before .before .before .before .before .before .before .before .before .before .before .before .before .before .args .answers .now) (c .before .before .before .n .given .0 .0) (c .before .before .before .before .before .before .before .before .read-with .result) (c .before .before .before .before .before .before .before .before .read-with .ensures .0) (c .before .before .before .before .before .before .before .before .read-with .ensures .1) (sym (c .before .before .before .before .before .frames-in .ensures) ∙ c .before .before .before .n .given .1)
+
+mul-e : tie.Need-mul-e
+mul-e c = omega (arith, c .before .before .answer-all .ensures .0, (ready-part (c .before .before .before .before .before .before .before .before .before .before .before .before .before .before .before .before .before .args .text .now) (c .before .before .before .before .before .before .before .before .before .before .before .before .before .before .before .before .before .args .frames .now) (c .before .before .before .before .before .before .before .before .before .before .before .read-with .last .1 .0) (c .before .before .before .before .before .before .before .before .before .before .before .before .before .before .before .before .before .args .answers .now) (c .before .before .before .before .before .before .n .given .0 .0) (c .before .before .before .before .before .before .before .before .before .before .before .read-with .result) (c .before .before .before .before .before .before .before .before .before .before .before .read-with .ensures .0) (c .before .before .before .before .before .before .before .before .before .before .before .read-with .ensures .1) (sym (c .before .before .before .before .before .before .before .before .frames-in .ensures) ∙ c .before .before .before .before .before .before .n .given .1)) .2, c .before .before .before .before .before .before .before .before .before .before .before .before .before .before .before .before .before .pre .1)
+
+slice-reshare-prefix-write-text-2 : tie.Need-slice-reshare-prefix-write-text-2
+slice-reshare-prefix-write-text-2 c = omega (arith, c .before .before .answer-all .ensures .0, written-long (c .before .before .before .before .before .before .before .before .before .before .before .before .before .before .before .before .before .args .answers .now) (take (16 * c .before .before .before .before .before .before .n .given .0 .0) (c .before .before .before .before .before .before .before .before .before .before .before .read-with .last .1 .0)) _ (c .before .before .answer-all .ensures .1))
+
+slice-aggregate-write-text-2 : tie.Need-slice-aggregate-write-text-2
+slice-aggregate-write-text-2 c = sym (length-take-le _ _ (omega (arith, c .before .before .before .answer-all .ensures .0, written-long (c .before .before .before .before .before .before .before .before .before .before .before .before .before .before .before .before .before .before .args .answers .now) (take (16 * c .before .before .before .before .before .before .before .n .given .0 .0) (c .before .before .before .before .before .before .before .before .before .before .before .before .read-with .last .1 .0)) _ (c .before .before .before .answer-all .ensures .1))))
+
+write-text-requires-2 : tie.Need-write-text-requires-2
+write-text-requires-2 c κs = search needs
+
+mul-result-2 : tie.Need-mul-result-2
+mul-result-2 c = search needs
+
+same-length : tie.Need-same-length
+same-length c = search needs
+
+same-length-2 : tie.Need-same-length-2
+same-length-2 c = search needs
+
+same-length-3 : tie.Need-same-length-3
+same-length-3 c = search needs
+
+returns : tie.Need-returns
+returns c =
+    let g = c .before .before .before .before .before .before .before .before .before .before .before .before .before .before .before .before .before .before .before .before .before .args in
+    let r = c .before .before .before .before .before .before .before .before .before .before .before .before .before .before .before .read-with in
+    let last = c .before .before .before .before .before .before .before .put-frame .last .0 in
+    let e : last ≡ putFrame (g .answers .now) 0 (outcomeFrame (r .result)) = c .before .before .before .before .before .before .before .put-frame .ensures ∙ ap (putFrame (g .answers .now) 0) (c .before .before .before .before .before .before .before .before .outcome-frame .ensures) in
+    let room : r .result ≡ readFile (g .text .now) (length (g .frames .now)) (Lent 32768) = r .ensures .0 ∙ ap (λ (k : ℕ). readFile (g .text .now) (length (g .frames .now)) (Lent k)) (c .before .before .before .before .before .before .before .before .before .before .before .before .before .before .before .before .before .before .before .before .before .pre .1) in
+    printed (g .text .now) (take 16 last) (g .out .now) (c .before .before .write-text .last .1 .0) (c .before .before .write-text .result)
+    (refused-lines (g .text .now) (g .answers .now) last (length (g .frames .now)) (r .result) room (c .before .before .before .before .before .before .before .before .before .before .before .before .before .before .before .before .before .before .before .before .before .pre .0) (sym (c .before .before .before .before .before .before .before .before .before .before .before .before .frames-in .ensures) ∙ c .before .before .before .before .before .before .before .before .before .before .enum-told .given .1) (omega (arith, c .before .before .before .before .before .before .before .before .before .before .before .before .before .before .before .before .before .before .before .before .before .pre .1)) e)
+    (c .before .before .write-text .ensures .0) (c .before .before .write-text .ensures .1)
+
+same-length-4 : tie.Need-same-length-4
+same-length-4 c = search needs
+
+same-length-5 : tie.Need-same-length-5
+same-length-5 c = search needs
+
+same-length-6 : tie.Need-same-length-6
+same-length-6 c = search needs
+
+returns-2 : tie.Need-returns-2
+returns-2 c =
+    let g = c .before .before .before .before .before .before .before .before .before .before .before .before .before .before .before .before .before .before .before .before .before .before .args in
+    let r = c .before .before .before .before .before .before .before .before .before .before .before .before .before .before .before .before .read-with in
+    let a = c .before .before .before .before .before .before .before .answer-all in
+    printed (g .text .now) (take (16 * a .result) (a .last .1 .0)) (g .out .now) (c .before .before .write-text2 .last .1 .0) (c .before .before .write-text2 .result)
+    (accepted-lines (g .text .now) (g .frames .now) (g .answers .now) (r .last .1 .0) (a .last .1 .0) (c .before .before .before .before .before .before .before .before .before .before .before .n .given .0 .0) (16 * a .result) (r .result) (r .ensures .0) (r .ensures .1) (sym (c .before .before .before .before .before .before .before .before .before .before .before .before .before .frames-in .ensures) ∙ c .before .before .before .before .before .before .before .before .before .before .before .n .given .1) (c .before .before .before .before .before .before .before .before .before .before .before .before .before .before .before .before .before .before .before .before .before .before .pre .0) (c .before .before .before .before .before .before .before .before .before .before .before .before .before .before .before .before .before .before .before .before .before .before .pre .1) (a .ensures .0) (a .ensures .1))
+    (c .before .before .write-text2 .ensures .0) (c .before .before .write-text2 .ensures .1)
+
+pub type-lines-spec : {M : Type 1} → statement M
+type-lines-spec =
+    tie.close
+    (tie.spec
+    read-with-requires
+    frames-in-requires
+    enum-told
+    outcome-frame-requires
+    put-frame-requires
+    slice-reshare-prefix-write-text
+    slice-aggregate-write-text
+    write-text-requires
+    mul-result
+    enum-known-n
+    mul-m
+    slice-reshare-prefix-answer-all
+    slice-aggregate-answer-all
+    answer-all-requires
+    mul-e
+    slice-reshare-prefix-write-text-2
+    slice-aggregate-write-text-2
+    write-text-requires-2
+    mul-result-2
+    same-length
+    same-length-2
+    same-length-3
+    returns
+    same-length-4
+    same-length-5
+    same-length-6
+    returns-2)
