@@ -1,3 +1,4 @@
 pub mod Ours
+pub mod Only
 pub mod ShutOut
 pub mod Worked

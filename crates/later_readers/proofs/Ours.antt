@@ -25,6 +25,7 @@ use Rattle.rule.specs.Rule.{Rule, Step, met}
 use Rattle.rule.specs.Claim.{ours, reading, Right}
 use Rattle.rule.proofs.Later.{claim}
 use Rattle.type_methods.specs.Comparison.{handed, sameIn, sameType}
+use Rattle.type_methods.proofs.Seen.{never}
 use Rattle.row_rules.specs.Typed.{typing}
 use Rattle.compose.specs.Rows.{verdictRule, judged}
 use Rattle.typifier_laws.proofs.Good.{Good}
@@ -45,9 +46,6 @@ use Rattle.reader.proofs.Row.{good-of}
 use Rattle.reader.proofs.One.{outputs-go-on}
 use Rattle.later_readers.specs.Reader.{Reader, rowBytes, verdictBytes, saidBytes, comparedBytes, SaysNewer, Choice, theirs, Kept, Keeps, IsAccepted, Claim}
 use Rattle.later_readers.specs.Ours.{Suffice, framesFor, answersFor, standsAt, byBuffer, rowGivenBytes, verdictGivenBytes, byRow}
-
-never : {X : Type 0} → _≡_ {A = ℕ} 0 1 → X
-never z = absurd (omega arith)
 
 -- ONE OUTCOME: right as an outcome, and its bytes say newer exactly where it is newer
 module _ {A : Type 0} (sight : Sight) (steps : List Step) (family : ℕ) (bytes : Result A → List ℕ) where

@@ -12,7 +12,7 @@ use Rattle.scan.specs.Lists.{build, sumBelow}
 use Rattle.text.specs.Hex.{digitValue, digitOf}
 use Rattle.text.specs.Lines.{lineOk, byteOf, charOf, decoded}
 use Rattle.text.specs.Reading.{answerFrames, tooShort, readText}
-use Rattle.frames.specs.Bytes.{frameAt, zeroFrame}
+use Rattle.frames.specs.Bytes.{frameAt}
 use Rattle.frames.specs.Forms.{typeOf, itemOf, rowOf, memberOf, componentOf, fieldsFit}
 use Rattle.archive.specs.Order.{orderOk}
 use Rattle.archive.specs.Starts.{start, startsOf, rowCount}
@@ -20,14 +20,13 @@ use Rattle.archive.specs.Names.{namesOk}
 use Rattle.archive.specs.Parts.{earlyOk}
 use Rattle.archive.specs.Checks.{indexOk, checkFrames}
 use Rattle.archive.specs.Access.{rowIn}
-use Rattle.rule.specs.Answers.{row, alike, told}
+use Rattle.rule.specs.Answers.{row}
+use Rattle.type_methods.proofs.Seen.{never}
 use Rattle.row_rules.specs.Typed.{typing}
 use Rattle.reader.specs.File.{readFile}
-use Rattle.later_readers.specs.Reader.{Reader, SaysNewer, Choice, meets, Keeps, IsAccepted, Claim}
+use Rattle.later_readers.specs.Reader.{Reader, SaysNewer, meets, Keeps, IsAccepted, Claim}
 use Rattle.later_readers.specs.ShutOut.{newerAtRow, allNewer, holdsNewer, newerBeforeReading, isNewer, newerAsAnother, newerAtItself, threeRows}
-
-never : {X : Type 0} → _≡_ {A = ℕ} 0 1 → X
-never z = absurd (omega arith)
+use Rattle.later_readers.proofs.Only.{choice}
 
 abbrev fr : List ℕ
 fr = decoded threeRows 3
@@ -56,10 +55,6 @@ second-unmet = refl
 third-met : meets fr 2 (typing 2) ≡ some (row (record { 0 = 0 }))
 unfolding lowest build digitValue digitOf byteOf charOf frameAt start startsOf rowIn rowOf
 third-met = refl
-
--- any choice
-choice : Choice
-choice = record { rows = λ m. zeroFrame; verdicts = λ m. zeroFrame; same = λ a b. told alike }
 
 module _ {r : Reader} (claim : Claim r) where
   abbrev keeps : Keeps r threeRows fr choice

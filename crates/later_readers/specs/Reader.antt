@@ -1,5 +1,5 @@
--- Demand 3: the claim on later readers, one claim over the whole file, as a predicate on any reader of texts (document 01, "A row's type", its last three
--- paragraphs). The words reading and meets are defined in rule/specs/Rule.antt, the rules that are read in row_rules, type_methods and compose.
+-- Demand 3, the claim on later readers: one claim over the whole file, as a predicate on any reader of texts (document 01, "A row's type", its last paragraphs). The
+-- words reading and meets are defined in rule/specs/Rule.antt; the rules that are read stand in row_rules, type_methods and compose.
 use Prim.Native.Nat.{ℕ, _*_, _<_}
 use mathlib.Core.Path.{_≡_}
 use mathlib.Core.List.{List, [], _∷_}
@@ -53,32 +53,34 @@ pub record SaysNewer (family : ℕ) (bytes : List ℕ) : Type 0 where
   pub family-is : getD bytes 0 0 ≡ family
   pub number-is : getD bytes 1 0 ≡ 22
 
--- A LATER READER, given by a free choice: for each row and each compose any frame, for each two frames what a comparison may give
+-- A LATER READER of an accepted file, given by a free choice: for each row and each compose any frame, for each two frames what a comparison may give (yes, no or 22;
+-- the claim holds for 5 and 6 too)
 pub record Choice : Type 0 where
   pub rows : ℕ → Frame
   pub verdicts : ℕ → Frame
   pub same : Frame → Frame → Result Compared
 
--- its outcome of a rule over its own answers of the first m rows, in a file whose frames these are; c is its choice for this outcome
+-- what it gives by a rule, over its own answers of the first m rows, in a file whose frames these are: what the rule says, and its choice c for this outcome where
+-- the rule itself comes to a newer thing
 abbrev pub theirs : {A : Type 0} → List ℕ → Choice → ℕ → Result A → Rule A → Result A
 theirs fr choice m c rule = later (see fr) typing (λ k. rowAnswerOf (choice .rows k)) m c rule
 
--- THE CLAIM
+-- WHAT THE CLAIM SAYS
 
--- the place of the newer thing that the reading of an outcome meets, none if it meets none; row answers in it are the written rules'
+-- the place of the newer thing that the reading of an outcome meets, none if it meets none. Row answers in a reading are the written rules', not a buffer's.
 abbrev pub meets : {A : Type 0} → List ℕ → ℕ → Rule A → Option Place
 meets fr m rule = met (see fr) (reading (see fr) typing m rule)
 
--- of one outcome: what its reading meets, a reader's bytes, a later reader's bytes, and the bytes of number 22 at each place, in a family
-pub record Kept (family : ℕ) (newerAt : Place → List ℕ) (meets : Option Place) (mine theirs : List ℕ) : Type 0 where
+-- of one outcome: the place that its reading meets, the reader's bytes and the later reader's; with the family of number 22 and its bytes for each place
+pub record Kept (family : ℕ) (newerAt : Place → List ℕ) (met : Option Place) (mine theirs : List ℕ) : Type 0 where
   -- where the reading meets none, the two are equal in every byte
-  pub equal : meets ≡ none → mine ≡ theirs
-  -- it is 22 exactly where the reading meets one
-  pub exactly : SaysNewer family mine ↔ (meets ≡ none → ⊥)
-  -- and names the place where that was met: a row; in a verdict the component, or hex ffffffff for the composed type; in a comparison none
-  pub place : (p : Place) → meets ≡ some p → mine ≡ newerAt p
+  pub equal : met ≡ none → mine ≡ theirs
+  -- the reader says 22 exactly where the reading meets one
+  pub exactly : SaysNewer family mine ↔ (met ≡ none → ⊥)
+  -- and names the place where it was met: a row; in a verdict the component, or hex ffffffff for the composed type; in a comparison none
+  pub place : (p : Place) → met ≡ some p → mine ≡ newerAt p
 
--- of a text whose frames these are: every row, every compose and every two frames handed in
+-- of one text, whose frames these are, and one choice: every row, every compose and every two frames handed in
 pub record Keeps (r : Reader) (t fr : List ℕ) (choice : Choice) : Type 0 where
   pub rows : (m : ℕ) → m < rowCount (startsOf fr)
       → Kept 10 (λ p. rowBytes (newer p)) (meets fr m (typing m)) (r .row t m) (rowBytes (theirs fr choice m (rowAnswerOf (choice .rows m)) (typing m)))
@@ -91,6 +93,12 @@ pub record Keeps (r : Reader) (t fr : List ℕ) (choice : Choice) : Type 0 where
 abbrev pub IsAccepted : List ℕ → ℕ → Type 0
 IsAccepted t n = readFile t (16 * lineCount t) (Lent (answerBytes t)) ≡ Accepted n
 
--- of a reader: for every accepted text and every choice
+-- THE CLAIM of a reader: for every accepted text and every choice
 abbrev pub Claim : Reader → Type 0
 Claim r = (t : List ℕ) (n : ℕ) → IsAccepted t n → (choice : Choice) → Keeps r t (decoded t n) choice
+
+-- two readers give the same bytes for a text whose frames these are
+pub record Agree (r s : Reader) (t fr : List ℕ) : Type 0 where
+  pub rows : (m : ℕ) → m < rowCount (startsOf fr) → r .row t m ≡ s .row t m
+  pub verdicts : (m : ℕ) → m < rowCount (startsOf fr) → (rule : Rule Judgement) → verdictRule (see fr) m ≡ some rule → r .verdict t m ≡ s .verdict t m
+  pub same : (a b : Frame) → r .same t a b ≡ s .same t a b
