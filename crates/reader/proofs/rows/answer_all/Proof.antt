@@ -13,27 +13,7 @@ use Rattle.reader.proofs.Row.{few-rows}
 use Rattle.reader.proofs.rows.answer_all.Statement.{statement}
 use Rattle.reader.proofs.rows.answer_all.Tie as tie
 
-find-starts-requires : tie.Need-find-starts-requires
-find-starts-requires c κs = search needs
-
-slice-aggregate-answer-rows : tie.Need-slice-aggregate-answer-rows
-slice-aggregate-answer-rows c = search needs
-
-answer-rows-requires : tie.Need-answer-rows-requires
-answer-rows-requires c κs = (c .before .before .before .before .before .pre, c .before .before .find-starts .ensures, rw (c .before .before .find-starts .ensures) (few-rows (c .before .before .before .before .before .args .frames .now) (length (c .before .before .before .before .before .args .answers .now)) (c .before .before .before .before .before .pre)))
-
-same-length : tie.Need-same-length
-same-length c = search needs
-
-returns : tie.Need-returns
-returns c = (omega (arith, c .before .before .before .answer-rows .ensures .0, bytes-length (outputs (see (c .before .before .before .before .before .before .before .before .before .args .frames .now)) (rowCount (startsOf (c .before .before .before .before .before .before .before .before .before .args .frames .now)))), ap (λ (z : Starts). length (outputs (see (c .before .before .before .before .before .before .before .before .before .args .frames .now)) (rowCount z))) (c .before .before .before .before .before .before .find-starts .ensures)), c .before .before .before .answer-rows .ensures .1)
-
 pub answer-all-spec : {M : Type 1} → statement M
 answer-all-spec =
     tie.close
-    (tie.spec
-    find-starts-requires
-    slice-aggregate-answer-rows
-    answer-rows-requires
-    same-length
-    returns)
+    (tie.spec (λ c κs. search needs) (λ c. search needs) (λ c κs. (c .before .before .before .before .before .pre, c .before .before .find-starts .ensures, rw (c .before .before .find-starts .ensures) (few-rows (c .before .before .before .before .before .args .frames .now) (length (c .before .before .before .before .before .args .answers .now)) (c .before .before .before .before .before .pre)))) (λ c. search needs) (λ c. (omega (arith, c .before .before .before .answer-rows .ensures .0, bytes-length (outputs (see (c .before .before .before .before .before .before .before .before .before .args .frames .now)) (rowCount (startsOf (c .before .before .before .before .before .before .before .before .before .args .frames .now)))), ap (λ (z : Starts). length (outputs (see (c .before .before .before .before .before .before .before .before .before .args .frames .now)) (rowCount z))) (c .before .before .before .before .before .before .find-starts .ensures)), c .before .before .before .answer-rows .ensures .1)))

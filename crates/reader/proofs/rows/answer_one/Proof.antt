@@ -13,51 +13,7 @@ use Rattle.reader.proofs.One.{places-long, one-answer}
 use Rattle.reader.proofs.rows.answer_one.Statement.{statement}
 use Rattle.reader.proofs.rows.answer_one.Tie as tie
 
-find-starts-requires : tie.Need-find-starts-requires
-find-starts-requires c κs = search needs
-
-is-row-requires : tie.Need-is-row-requires
-is-row-requires c κs = search needs
-
-slice-aggregate-answer-rows : tie.Need-slice-aggregate-answer-rows
-slice-aggregate-answer-rows c = search needs
-
-answer-rows-requires : tie.Need-answer-rows-requires
-answer-rows-requires c κs = (c .before .before .before .before .before .before .before .pre, c .before .before .before .before .find-starts .ensures, rw (c .before .before .before .before .find-starts .ensures) (few-rows (c .before .before .before .before .before .before .before .args .frames .now) (length (c .before .before .before .before .before .before .before .args .answers .now)) (c .before .before .before .before .before .before .before .pre)))
-
-row-count-requires : tie.Need-row-count-requires
-row-count-requires c κs = search needs
-
-array-share-prefix-places : tie.Need-array-share-prefix-places
-array-share-prefix-places c = omega (arith, places-long (c .before .before .before .before .before .before .before .before .before .before .before .before .before .args .frames .now) (c .before .before .before .before .before .answer-rows .last .1 .1 .1 .0) _ (rowCount (c .before .before .before .before .before .before .before .before .before .before .find-starts .result)) (c .before .before .before .before .before .answer-rows .ensures .2), c .before .row-count .ensures)
-
-slice-aggregate-past : tie.Need-slice-aggregate-past
-slice-aggregate-past c = sym (length-take-le _ _ (omega (arith, places-long (c .before .before .before .before .before .before .before .before .before .before .before .before .before .before .args .frames .now) (c .before .before .before .before .before .before .answer-rows .last .1 .1 .1 .0) _ (rowCount (c .before .before .before .before .before .before .before .before .before .before .before .find-starts .result)) (c .before .before .before .before .before .before .answer-rows .ensures .2), c .before .before .row-count .ensures)))
-
-past-requires : tie.Need-past-requires
-past-requires c κs = search needs
-
-same-length : tie.Need-same-length
-same-length c = search needs
-
-returns : tie.Need-returns
-returns c = one-answer (c .before .before .before .before .before .before .before .before .before .before .before .before .before .before .before .args .frames .now) (c .before .before .before .before .before .before .before .before .before .before .before .before .before .before .before .args .answers .now) (c .before .before .before .before .before .before .before .answer-rows .last .1 .1 .0) (c .before .before .before .before .before .before .before .answer-rows .last .1 .1 .1 .0) _ (c .before .before .before .before .before .before .before .before .before .before .before .before .find-starts .result) (c .before .before .before .before .before .before .before .before .before .before .before .before .before .before .before .pre) (c .before .before .before .before .before .before .before .before .before .before .before .before .find-starts .ensures) (c .before .before .before .before .before .before .before .answer-rows .ensures .1) (c .before .before .before .before .before .before .before .answer-rows .ensures .2) (c .before .before .before .before .before .before .before .before .before .before .before .before .before .before .before .args .row) (sym (c .before .before .before .before .before .before .before .before .before .before .before .is-row .ensures) ∙ c .before .before .before .before .before .before .before .before .before .before .if1 .taken) (c .before .before .before .row-count .result) (c .past .result) (c .before .before .before .row-count .ensures) (c .past .ensures)
-
-returns-2 : tie.Need-returns-2
-returns-2 c = (let e : isRow (startsOf (c .before .before .before .before .before .args .frames .now)) (c .before .before .before .before .before .args .row) ≡ false = ap (λ (z : Starts). isRow z (c .before .before .before .before .before .args .row)) (sym (c .before .before .find-starts .ensures)) ∙ sym (c .before .is-row .ensures) ∙ c .if1 .left in rw e (refl, refl))
-
 pub answer-one-spec : {M : Type 1} → statement M
 answer-one-spec =
     tie.close
-    (tie.spec
-    find-starts-requires
-    is-row-requires
-    slice-aggregate-answer-rows
-    answer-rows-requires
-    row-count-requires
-    array-share-prefix-places
-    slice-aggregate-past
-    past-requires
-    same-length
-    returns
-    returns-2)
+    (tie.spec (λ c κs. search needs) (λ c κs. search needs) (λ c. search needs) (λ c κs. (c .before .before .before .before .before .before .before .pre, c .before .before .before .before .find-starts .ensures, rw (c .before .before .before .before .find-starts .ensures) (few-rows (c .before .before .before .before .before .before .before .args .frames .now) (length (c .before .before .before .before .before .before .before .args .answers .now)) (c .before .before .before .before .before .before .before .pre)))) (λ c κs. search needs) (λ c. omega (arith, places-long (c .before .before .before .before .before .before .before .before .before .before .before .before .before .args .frames .now) (c .before .before .before .before .before .answer-rows .last .1 .1 .1 .0) _ (rowCount (c .before .before .before .before .before .before .before .before .before .before .find-starts .result)) (c .before .before .before .before .before .answer-rows .ensures .2), c .before .row-count .ensures)) (λ c. sym (length-take-le _ _ (omega (arith, places-long (c .before .before .before .before .before .before .before .before .before .before .before .before .before .before .args .frames .now) (c .before .before .before .before .before .before .answer-rows .last .1 .1 .1 .0) _ (rowCount (c .before .before .before .before .before .before .before .before .before .before .before .find-starts .result)) (c .before .before .before .before .before .before .answer-rows .ensures .2), c .before .before .row-count .ensures)))) (λ c κs. search needs) (λ c. search needs) (λ c. one-answer (c .before .before .before .before .before .before .before .before .before .before .before .before .before .before .before .args .frames .now) (c .before .before .before .before .before .before .before .before .before .before .before .before .before .before .before .args .answers .now) (c .before .before .before .before .before .before .before .answer-rows .last .1 .1 .0) (c .before .before .before .before .before .before .before .answer-rows .last .1 .1 .1 .0) _ (c .before .before .before .before .before .before .before .before .before .before .before .before .find-starts .result) (c .before .before .before .before .before .before .before .before .before .before .before .before .before .before .before .pre) (c .before .before .before .before .before .before .before .before .before .before .before .before .find-starts .ensures) (c .before .before .before .before .before .before .before .answer-rows .ensures .1) (c .before .before .before .before .before .before .before .answer-rows .ensures .2) (c .before .before .before .before .before .before .before .before .before .before .before .before .before .before .before .args .row) (sym (c .before .before .before .before .before .before .before .before .before .before .before .is-row .ensures) ∙ c .before .before .before .before .before .before .before .before .before .before .if1 .taken) (c .before .before .before .row-count .result) (c .past .result) (c .before .before .before .row-count .ensures) (c .past .ensures)) (λ c. (let e : isRow (startsOf (c .before .before .before .before .before .args .frames .now)) (c .before .before .before .before .before .args .row) ≡ false = ap (λ (z : Starts). isRow z (c .before .before .before .before .before .args .row)) (sym (c .before .before .find-starts .ensures)) ∙ sym (c .before .is-row .ensures) ∙ c .if1 .left in rw e (refl, refl))))

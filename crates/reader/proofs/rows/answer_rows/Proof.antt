@@ -24,102 +24,12 @@ Inv-loop frames s answers₀ places₀ n m₀ at₀ answers places m at =
 abbrev μ-loop : tie.MeasureT-loop
 μ-loop frames s answers₀ places₀ n m₀ at₀ answers places m at = n - m
 
--- src/rows.rt:86:9
-row-count-requires : tie.Need-row-count-requires Inv-loop μ-loop
-row-count-requires c κs = tt
-
 -- src/rows.rt:89:5
 loop-holds : tie.Need-loop-holds Inv-loop μ-loop
 unfolding outputs framesBytes build
 loop-holds c = (omega arith, refl, refl, refl, refl, refl)
 
--- src/rows.rt:90:51
-slice-reshare-prefix-answer-row : tie.Need-slice-reshare-prefix-answer-row Inv-loop μ-loop
-slice-reshare-prefix-answer-row c = omega (arith, c .before .before .loop .inv .5, c .before .before .before .before .before .before .before .pre .2, c .before .before .before .row-count .ensures, c .before .loop-test .taken)
-
--- src/rows.rt:90:51
-slice-aggregate-answer-row : tie.Need-slice-aggregate-answer-row Inv-loop μ-loop
-slice-aggregate-answer-row c = sym (length-take-le _ _ (omega (arith, c .before .before .before .loop .inv .5, c .before .before .before .before .before .before .before .before .pre .2, c .before .before .before .before .row-count .ensures, c .before .before .loop-test .taken)))
-
--- src/rows.rt:90:75
-cast-places : tie.Need-cast-places Inv-loop μ-loop
-cast-places c = omega (arith, c .before .before .loop-test .taken, c .before .before .before .before .row-count .ensures, ap rowCount (c .before .before .before .before .before .before .before .before .pre .1), few-rows (c .before .before .before .before .before .before .before .before .args .frames .now) (length (c .before .before .before .before .before .before .before .before .args .answers .now)) (c .before .before .before .before .before .before .before .before .pre .0))
-
--- src/rows.rt:90:13
-answer-row-requires : tie.Need-answer-row-requires Inv-loop μ-loop
-answer-row-requires c κs = ((c .before .before .before .before .before .before .before .before .pre .0 .0, c .before .before .before .before .before .before .before .before .pre .0 .1, rw (c .before .before .before .loop .inv .4) (c .before .before .before .before .before .before .before .before .pre .0 .2)), c .before .before .before .before .before .before .before .before .pre .1, rw (← c .before .before .before .before .row-count .ensures) (c .before .before .loop-test .taken), c .before .before .before .loop .inv .1, front (c .before .before .before .before .before .before .before .before .args .frames .now) (c .before .before .before .loop .answers) (c .before .before .before .loop .m) (c .before .before .before .loop .at) _ (c .before .before .before .loop .inv .1) (c .before .before .before .loop .inv .2), ap (take (c .before .before .before .loop .m)) (c .before .before .before .loop .inv .3) ∙ take-at (placesOf (c .before .before .before .before .before .before .before .before .args .frames .now) (c .before .before .before .loop .m)) _ (c .before .before .before .loop .m) (length-build _ (c .before .before .before .loop .m)))
-
--- src/rows.rt:91:21
-cast-places-2 : tie.Need-cast-places-2 Inv-loop μ-loop
-cast-places-2 c = omega (arith, c .before .before .before .before .before .before .loop .inv .1, two-a-row (see (c .before .before .before .before .before .before .before .before .before .before .before .args .frames .now)) (c .before .before .before .before .before .before .loop .m), c .before .before .before .before .before .loop-test .taken, c .before .before .before .before .before .before .before .row-count .ensures, ap rowCount (c .before .before .before .before .before .before .before .before .before .before .before .pre .1), few-rows (c .before .before .before .before .before .before .before .before .before .before .before .args .frames .now) (length (c .before .before .before .before .before .before .before .before .before .before .before .args .answers .now)) (c .before .before .before .before .before .before .before .before .before .before .before .pre .0))
-
--- src/rows.rt:91:9
-mul-places : tie.Need-mul-places Inv-loop μ-loop
-mul-places c = omega (arith, c .before .before .before .before .before .loop-test .taken, c .before .before .before .before .before .before .before .row-count .ensures, ap rowCount (c .before .before .before .before .before .before .before .before .before .before .before .pre .1), few-rows (c .before .before .before .before .before .before .before .before .before .before .before .args .frames .now) (length (c .before .before .before .before .before .before .before .before .before .before .before .args .answers .now)) (c .before .before .before .before .before .before .before .before .before .before .before .pre .0))
-
--- src/rows.rt:91:9
-slice-write-places : tie.Need-slice-write-places Inv-loop μ-loop
-slice-write-places c = omega (arith, c .before .before .before .before .before .before .loop .inv .5, c .before .before .before .before .before .before .before .before .before .before .before .pre .2, c .before .before .before .before .before .before .before .row-count .ensures, c .before .before .before .before .before .loop-test .taken)
-
--- src/rows.rt:93:9
-add-m : tie.Need-add-m Inv-loop μ-loop
-add-m c = omega (arith, c .before .before .before .before .before .loop-test .taken, c .before .before .before .before .before .before .before .row-count .ensures, ap rowCount (c .before .before .before .before .before .before .before .before .before .before .before .pre .1), few-rows (c .before .before .before .before .before .before .before .before .before .before .before .args .frames .now) (length (c .before .before .before .before .before .before .before .before .before .before .before .args .answers .now)) (c .before .before .before .before .before .before .before .before .before .before .before .pre .0))
-
--- src/rows.rt:89:5
-loop-less : tie.Need-loop-less Inv-loop μ-loop
-loop-less c = omega (arith, c .before .before .before .before .before .loop-test .taken)
-
--- src/rows.rt:89:5
-loop-again : tie.Need-loop-again Inv-loop μ-loop
-loop-again c =
-    let f = c .before .before .before .before .before .before .before .before .before .before .before .args .frames .now in
-    let l = c .before .before .before .before .before .before .loop in
-    let b = c .before .before .before .before .before .before .before .before .before .before .before .args .answers .now in
-    let r = c .before .before .answer-row in
-    let below : l .m < rowCount (startsOf f) = omega (arith, c .before .before .before .before .before .loop-test .taken, c .before .before .before .before .before .before .before .row-count .ensures, ap rowCount (c .before .before .before .before .before .before .before .before .before .before .before .pre .1)) in
-    let n : length (framesBytes (outputs (see f) (l .m))) ≡ 16 * l .at = omega (arith, bytes-length (outputs (see f) (l .m)), l .inv .1) in
-    let k : length (framesBytes (outputs (see f) (l .m + 1))) ≡ 16 * r .result = omega (arith, bytes-length (outputs (see f) (l .m + 1)), r .ensures .0) in
-    let grown : 16 * l .at ≤ 16 * r .result = omega (arith, l .inv .1, r .ensures .0, grows (see f) (l .m) (l .m + 1) (omega arith)) in
-    let e = r .ensures .1 ∙ ap (λ (x : List ℕ). framesBytes (outputs (see f) (l .m + 1)) ++ x) (rest-stays (framesBytes (outputs (see f) (l .m))) (l .answers) b (16 * l .at) (16 * r .result) (l .inv .2) n grown) in
-    let room : 16 * r .result ≤ length b = omega (arith, r .ensures .0, room-for f (length b) (c .before .before .before .before .before .before .before .before .before .before .before .pre .0) (l .m + 1) (omega (arith, below))) in
-    (omega (arith, c .before .before .before .before .before .loop-test .taken), r .ensures .0, e, build-turn _ _ (l .places) _ _ (l .inv .3) (omega (arith, c .before .before .before .before .before .before .before .before .before .before .before .pre .2, c .before .before .before .before .before .before .before .row-count .ensures, c .before .before .before .before .before .loop-test .taken)) (l .inv .1), long-as-was (framesBytes (outputs (see f) (l .m + 1))) _ b (16 * r .result) e k room, simp length-set (l .inv .5))
-
--- src/rows.rt:82:1
-same-length : tie.Need-same-length Inv-loop μ-loop
-same-length c = c .before .loop .inv .4
-
--- src/rows.rt:82:1
-same-length-2 : tie.Need-same-length-2 Inv-loop μ-loop
-same-length-2 c = c .before .loop .inv .5
-
--- src/rows.rt:82:1
-returns : tie.Need-returns Inv-loop μ-loop
-returns c =
-    let f = c .before .before .before .before .before .before .args .frames .now in
-    let i = c .before .loop in
-    let n : i .m ≡ rowCount (c .before .before .before .before .before .before .args .s) = le-antisymm (i .inv .0) (c .loop-test .left) ∙ c .before .before .row-count .ensures in
-    let q : i .m ≡ rowCount (startsOf f) = n ∙ ap rowCount (c .before .before .before .before .before .before .pre .1) in
-    let k : 16 * i .at ≡ length (framesBytes (outputs (see f) (i .m))) = omega (arith, bytes-length (outputs (see f) (i .m)), i .inv .1) in
-    (rw (← n) (i .inv .1), rw (← q, ← k) (i .inv .2), rw (← n) (i .inv .3))
-
 pub answer-rows-spec : {M : Type 1} → statement M
 answer-rows-spec =
     tie.close
-    (tie.spec
-    Inv-loop
-    μ-loop
-    row-count-requires
-    loop-holds
-    slice-reshare-prefix-answer-row
-    slice-aggregate-answer-row
-    cast-places
-    answer-row-requires
-    cast-places-2
-    mul-places
-    slice-write-places
-    add-m
-    loop-less
-    loop-again
-    same-length
-    same-length-2
-    returns)
+    (tie.spec Inv-loop μ-loop (λ c κs. tt) loop-holds (λ c. omega (arith, c .before .before .loop .inv .5, c .before .before .before .before .before .before .before .pre .2, c .before .before .before .row-count .ensures, c .before .loop-test .taken)) (λ c. sym (length-take-le _ _ (omega (arith, c .before .before .before .loop .inv .5, c .before .before .before .before .before .before .before .before .pre .2, c .before .before .before .before .row-count .ensures, c .before .before .loop-test .taken)))) (λ c. omega (arith, c .before .before .loop-test .taken, c .before .before .before .before .row-count .ensures, ap rowCount (c .before .before .before .before .before .before .before .before .pre .1), few-rows (c .before .before .before .before .before .before .before .before .args .frames .now) (length (c .before .before .before .before .before .before .before .before .args .answers .now)) (c .before .before .before .before .before .before .before .before .pre .0))) (λ c κs. ((c .before .before .before .before .before .before .before .before .pre .0 .0, c .before .before .before .before .before .before .before .before .pre .0 .1, rw (c .before .before .before .loop .inv .4) (c .before .before .before .before .before .before .before .before .pre .0 .2)), c .before .before .before .before .before .before .before .before .pre .1, rw (← c .before .before .before .before .row-count .ensures) (c .before .before .loop-test .taken), c .before .before .before .loop .inv .1, front (c .before .before .before .before .before .before .before .before .args .frames .now) (c .before .before .before .loop .answers) (c .before .before .before .loop .m) (c .before .before .before .loop .at) _ (c .before .before .before .loop .inv .1) (c .before .before .before .loop .inv .2), ap (take (c .before .before .before .loop .m)) (c .before .before .before .loop .inv .3) ∙ take-at (placesOf (c .before .before .before .before .before .before .before .before .args .frames .now) (c .before .before .before .loop .m)) _ (c .before .before .before .loop .m) (length-build _ (c .before .before .before .loop .m)))) (λ c. omega (arith, c .before .before .before .before .before .before .loop .inv .1, two-a-row (see (c .before .before .before .before .before .before .before .before .before .before .before .args .frames .now)) (c .before .before .before .before .before .before .loop .m), c .before .before .before .before .before .loop-test .taken, c .before .before .before .before .before .before .before .row-count .ensures, ap rowCount (c .before .before .before .before .before .before .before .before .before .before .before .pre .1), few-rows (c .before .before .before .before .before .before .before .before .before .before .before .args .frames .now) (length (c .before .before .before .before .before .before .before .before .before .before .before .args .answers .now)) (c .before .before .before .before .before .before .before .before .before .before .before .pre .0))) (λ c. omega (arith, c .before .before .before .before .before .loop-test .taken, c .before .before .before .before .before .before .before .row-count .ensures, ap rowCount (c .before .before .before .before .before .before .before .before .before .before .before .pre .1), few-rows (c .before .before .before .before .before .before .before .before .before .before .before .args .frames .now) (length (c .before .before .before .before .before .before .before .before .before .before .before .args .answers .now)) (c .before .before .before .before .before .before .before .before .before .before .before .pre .0))) (λ c. omega (arith, c .before .before .before .before .before .before .loop .inv .5, c .before .before .before .before .before .before .before .before .before .before .before .pre .2, c .before .before .before .before .before .before .before .row-count .ensures, c .before .before .before .before .before .loop-test .taken)) (λ c. omega (arith, c .before .before .before .before .before .loop-test .taken, c .before .before .before .before .before .before .before .row-count .ensures, ap rowCount (c .before .before .before .before .before .before .before .before .before .before .before .pre .1), few-rows (c .before .before .before .before .before .before .before .before .before .before .before .args .frames .now) (length (c .before .before .before .before .before .before .before .before .before .before .before .args .answers .now)) (c .before .before .before .before .before .before .before .before .before .before .before .pre .0))) (λ c. omega (arith, c .before .before .before .before .before .loop-test .taken)) (λ c. let f = c .before .before .before .before .before .before .before .before .before .before .before .args .frames .now in let l = c .before .before .before .before .before .before .loop in let b = c .before .before .before .before .before .before .before .before .before .before .before .args .answers .now in let r = c .before .before .answer-row in let below : l .m < rowCount (startsOf f) = omega (arith, c .before .before .before .before .before .loop-test .taken, c .before .before .before .before .before .before .before .row-count .ensures, ap rowCount (c .before .before .before .before .before .before .before .before .before .before .before .pre .1)) in let n : length (framesBytes (outputs (see f) (l .m))) ≡ 16 * l .at = omega (arith, bytes-length (outputs (see f) (l .m)), l .inv .1) in let k : length (framesBytes (outputs (see f) (l .m + 1))) ≡ 16 * r .result = omega (arith, bytes-length (outputs (see f) (l .m + 1)), r .ensures .0) in let grown : 16 * l .at ≤ 16 * r .result = omega (arith, l .inv .1, r .ensures .0, grows (see f) (l .m) (l .m + 1) (omega arith)) in let e = r .ensures .1 ∙ ap (λ (x : List ℕ). framesBytes (outputs (see f) (l .m + 1)) ++ x) (rest-stays (framesBytes (outputs (see f) (l .m))) (l .answers) b (16 * l .at) (16 * r .result) (l .inv .2) n grown) in let room : 16 * r .result ≤ length b = omega (arith, r .ensures .0, room-for f (length b) (c .before .before .before .before .before .before .before .before .before .before .before .pre .0) (l .m + 1) (omega (arith, below))) in (omega (arith, c .before .before .before .before .before .loop-test .taken), r .ensures .0, e, build-turn _ _ (l .places) _ _ (l .inv .3) (omega (arith, c .before .before .before .before .before .before .before .before .before .before .before .pre .2, c .before .before .before .before .before .before .before .row-count .ensures, c .before .before .before .before .before .loop-test .taken)) (l .inv .1), long-as-was (framesBytes (outputs (see f) (l .m + 1))) _ b (16 * r .result) e k room, simp length-set (l .inv .5))) (λ c. c .before .loop .inv .4) (λ c. c .before .loop .inv .5) (λ c. let f = c .before .before .before .before .before .before .args .frames .now in let i = c .before .loop in let n : i .m ≡ rowCount (c .before .before .before .before .before .before .args .s) = le-antisymm (i .inv .0) (c .loop-test .left) ∙ c .before .before .row-count .ensures in let q : i .m ≡ rowCount (startsOf f) = n ∙ ap rowCount (c .before .before .before .before .before .before .pre .1) in let k : 16 * i .at ≡ length (framesBytes (outputs (see f) (i .m))) = omega (arith, bytes-length (outputs (see f) (i .m)), i .inv .1) in (rw (← n) (i .inv .1), rw (← q, ← k) (i .inv .2), rw (← n) (i .inv .3))))
