@@ -10,7 +10,7 @@ use Rattle.frames.specs.Bytes.{zeroFrame}
 use Rattle.rule.specs.Answers.{Place, alike, told}
 use Rattle.later_readers.specs.Reader.{Reader, Choice, Kept, Keeps, IsAccepted, Claim, Agree}
 use Rattle.later_readers.specs.Ours.{framesFor, answersFor, byBuffer}
-use Rattle.later_readers.proofs.Ours.{just-enough, by-buffer}
+use Rattle.later_readers.proofs.Ours.{just-enough, type-rows-keeps}
 
 -- any choice will do
 pub choice : Choice
@@ -41,6 +41,6 @@ ours = byBuffer framesFor answersFor
 
 pub only-ours : (r : Reader) → Claim r ↔ ((t : List ℕ) (n : ℕ) → IsAccepted t n → Agree r ours t (decoded t n))
 only-ours r = (
-  λ claim t n a. agree r ours t (decoded t n) (claim t n a choice) (by-buffer framesFor answersFor just-enough t n a choice),
-  λ g t n a c. keeps-too r ours t (decoded t n) c (g t n a) (by-buffer framesFor answersFor just-enough t n a c),
+  λ claim t n a. agree r ours t (decoded t n) (claim t n a choice) (type-rows-keeps framesFor answersFor just-enough t n a choice),
+  λ g t n a c. keeps-too r ours t (decoded t n) c (g t n a) (type-rows-keeps framesFor answersFor just-enough t n a c),
 )

@@ -225,8 +225,8 @@ pub just-enough : Suffice framesFor answersFor
 just-enough = record { for-frames = λ t. omega (arith, length-replicate {A = ℕ} (16 * lineCount t) 0); for-answers = λ t. omega (arith, length-replicate {A = ℕ} (answerBytes t) 0) }
 
 module _ (frames answers : List ℕ → List ℕ) (enough : Suffice frames answers) where
-  pub by-buffer : Claim (byBuffer frames answers)
-  by-buffer t n accepted =
+  pub type-rows-keeps : Claim (byBuffer frames answers)
+  type-rows-keeps t n accepted =
       let f = length (frames t) in
       let hf = enough .for-frames t in
       let ha = enough .for-answers t in
@@ -242,8 +242,8 @@ module _ (frames answers : List ℕ → List ℕ) (enough : Suffice frames answe
         same = same-given t n f (answers t) accepted hf ha;
       })
 
-  pub by-row : Claim (byRow frames answers)
-  by-row t n accepted =
+  pub row-type-keeps : Claim (byRow frames answers)
+  row-type-keeps t n accepted =
       let f = length (frames t) in
       let hf = enough .for-frames t in
       let ha = enough .for-answers t in
