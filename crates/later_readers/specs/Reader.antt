@@ -39,7 +39,7 @@ rowBytes a = bytesOf (rowFrame a)
 abbrev pub verdictBytes : ℕ → Result Judgement → List ℕ
 verdictBytes m v = bytesOf (verdictFrame (record { 0 = m }) v)
 
--- a comparison: yes is 1, no is 0, and a number with its place is the frame of a refusal; its 22 names no place
+-- a comparison: yes is 1, no is 0, and a number with its place is the frame of a refusal; its 22 names no place, so b2-3 are zero
 abbrev pub saidBytes : Said → List ℕ
 saidBytes alike = 1 ∷ []
 saidBytes different = 0 ∷ []
@@ -80,7 +80,8 @@ pub record Kept (family : ℕ) (newerAt : Place → List ℕ) (met : Option Plac
   -- and names the place where it was met: a row; in a verdict the component, or hex ffffffff for the composed type; in a comparison none
   pub place : (p : Place) → met ≡ some p → mine ≡ newerAt p
 
--- of one text, whose frames these are, and one choice: every row, every compose and every two frames handed in
+-- of one text, whose frames these are, and one choice: every row, every compose (a row whose verdict has a rule: those of kind 5, `one-each`, verdict_laws) and every
+-- two frames handed in
 pub record Keeps (r : Reader) (t fr : List ℕ) (choice : Choice) : Type 0 where
   pub rows : (m : ℕ) → m < rowCount (startsOf fr)
       → Kept 10 (λ p. rowBytes (newer p)) (meets fr m (typing m)) (r .row t m) (rowBytes (theirs fr choice m (rowAnswerOf (choice .rows m)) (typing m)))
