@@ -9,8 +9,8 @@ use Rattle.answers.specs.declared.Sameness.{Sameness}
 use Rattle.frames.specs.declared.Frame.{Frame}
 use Rattle.reader.specs.Types.{sameTypes}
 use borrow.Author.Needs.{needs}
-use Rattle.gelmusko.proofs.gelmusko_same_type.Statement.{statement}
-use Rattle.gelmusko.proofs.gelmusko_same_type.Tie as tie
+use Rattle.gelmusko.proofs.types.gelmusko_same_type.Statement.{statement}
+use Rattle.gelmusko.proofs.types.gelmusko_same_type.Tie as tie
 
 returns : tie.Need-returns
 returns c =

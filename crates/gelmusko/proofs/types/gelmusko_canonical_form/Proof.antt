@@ -7,8 +7,8 @@ use Rattle.gelmusko.specs.Exported.{typeSaidNumber, typeSaidFrame}
 use Rattle.answers.specs.Numbers.{canonicalSaid}
 use Rattle.answers.specs.declared.CanonicalType.{CanonicalType}
 use borrow.Author.Needs.{needs}
-use Rattle.gelmusko.proofs.gelmusko_canonical_form.Statement.{statement}
-use Rattle.gelmusko.proofs.gelmusko_canonical_form.Tie as tie
+use Rattle.gelmusko.proofs.types.gelmusko_canonical_form.Statement.{statement}
+use Rattle.gelmusko.proofs.types.gelmusko_canonical_form.Tie as tie
 
 returns : tie.Need-returns
 returns c =

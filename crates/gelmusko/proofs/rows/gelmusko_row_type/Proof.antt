@@ -5,8 +5,8 @@ use Rattle.frames.specs.Bytes.{putFrame}
 use lib.ListN.{length}
 use Rattle.gelmusko.specs.Exported.{rowNumber, rowGivenFrame}
 use borrow.Author.Needs.{needs}
-use Rattle.gelmusko.proofs.gelmusko_row_type.Statement.{statement}
-use Rattle.gelmusko.proofs.gelmusko_row_type.Tie as tie
+use Rattle.gelmusko.proofs.rows.gelmusko_row_type.Statement.{statement}
+use Rattle.gelmusko.proofs.rows.gelmusko_row_type.Tie as tie
 
 returns : tie.Need-returns
 returns c =

@@ -5,8 +5,8 @@ use Rattle.frames.specs.Bytes.{putFrame}
 use Rattle.gelmusko.specs.Exported.{outcomeNumber}
 use Rattle.frames.specs.Out.{outcomeFrame}
 use borrow.Author.Needs.{needs}
-use Rattle.gelmusko.proofs.gelmusko_type_rows.Statement.{statement}
-use Rattle.gelmusko.proofs.gelmusko_type_rows.Tie as tie
+use Rattle.gelmusko.proofs.rows.gelmusko_type_rows.Statement.{statement}
+use Rattle.gelmusko.proofs.rows.gelmusko_type_rows.Tie as tie
 
 returns : tie.Need-returns
 returns c =

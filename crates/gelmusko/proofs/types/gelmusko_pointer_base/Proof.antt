@@ -7,8 +7,8 @@ use Rattle.gelmusko.specs.Exported.{typeSaidNumber, typeSaidFrame}
 use Rattle.answers.specs.Numbers.{baseSaid}
 use Rattle.answers.specs.declared.PointerBase.{PointerBase}
 use borrow.Author.Needs.{needs}
-use Rattle.gelmusko.proofs.gelmusko_pointer_base.Statement.{statement}
-use Rattle.gelmusko.proofs.gelmusko_pointer_base.Tie as tie
+use Rattle.gelmusko.proofs.types.gelmusko_pointer_base.Statement.{statement}
+use Rattle.gelmusko.proofs.types.gelmusko_pointer_base.Tie as tie
 
 returns : tie.Need-returns
 returns c =
