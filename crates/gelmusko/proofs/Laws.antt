@@ -6,17 +6,15 @@ use native.Mathlib.Omega.{arith}
 use mathlib.Core.Path.{_≡_, refl, sym, ap, _∙_}
 use mathlib.Core.Bool.{Bool, true, false, cond}
 use mathlib.Core.List.{List}
-use lib.Dec.{ltb, eqb}
+use lib.Dec.{ltb}
 use lib.ListN.{length}
-use borrow.Author.Tests.{lt-ltb, le-ltb, ne-eqb}
+use borrow.Author.Tests.{lt-ltb, le-ltb}
 use Rattle.scan.specs.Lowest.{lowest}
 use Rattle.scan.specs.declared.Found.{Found}
 use Rattle.scan.specs.declared.Found.the-variants as Fo
 use Rattle.answers.specs.declared.Outcome.{Outcome}
 use Rattle.answers.specs.declared.Outcome.the-variants.{Accepted, Long, Torn, Short, Order, Field, Index}
-use Rattle.answers.specs.declared.CanonicalType.{CanonicalType}
 use Rattle.answers.specs.declared.CanonicalType.the-variants as Ct
-use Rattle.answers.specs.declared.PointerBase.{PointerBase}
 use Rattle.answers.specs.declared.PointerBase.the-variants as Pb
 use Rattle.text.specs.declared.AnswerRoom.{AnswerRoom}
 use Rattle.text.specs.declared.AnswerRoom.the-variants.{NotLent, Lent}
@@ -24,7 +22,7 @@ use Rattle.text.specs.Lines.{lineOk, lineCount, decoded}
 use Rattle.text.specs.Reading.{afterTorn, tooShort, readText}
 use Rattle.text.proofs.Laws.{count-small}
 use Rattle.frames.specs.declared.Frame.{Frame}
-use Rattle.frames.specs.Bytes.{frameCount, frameAt, zeroFrame, putFrame}
+use Rattle.frames.specs.Bytes.{frameCount, putFrame}
 use Rattle.archive.specs.Starts.{startsOf, rowCount, typeCount}
 use Rattle.archive.specs.Names.{isRow, isType}
 use Rattle.archive.specs.Access.{typeIn}

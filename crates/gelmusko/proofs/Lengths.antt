@@ -1,14 +1,12 @@
 -- Frames handed in to a comparison of an accepted file: one of another length than 16 gets 5, and the left one's 5 or 6 comes before the right one's. From the laws of the
 -- comparison. Assumes nothing.
 use Prim.Native.Nat.{ℕ}
-use mathlib.Core.Path.{_≡_, refl, sym, ap, _∙_}
+use mathlib.Core.Path.{_≡_, refl, ap, _∙_}
 use mathlib.Core.Bool.{Bool, cond}
 use mathlib.Core.List.{List}
 use lib.ListN.{length}
 use borrow.Author.Tests.{ne-eqb}
-use Rattle.answers.specs.declared.Outcome.{Outcome}
 use Rattle.answers.specs.declared.Outcome.the-variants.{Accepted}
-use Rattle.answers.specs.declared.Sameness.{Sameness}
 use Rattle.answers.specs.declared.Sameness.the-variants as Sa
 use Rattle.text.specs.declared.AnswerRoom.the-variants.{NotLent}
 use Rattle.text.specs.Lines.{decoded}
@@ -16,9 +14,8 @@ use Rattle.frames.specs.declared.Frame.{Frame}
 use Rattle.frames.specs.Bytes.{frameAt, zeroFrame}
 use Rattle.archive.specs.declared.Starts.{Starts}
 use Rattle.archive.specs.Starts.{startsOf}
-use Rattle.rule.specs.declared.Fault.{Fault}
 use Rattle.rule.specs.declared.Fault.the-variants as Fa
-use Rattle.rule.specs.Answers.{Compared, Result, typeAnswerOf}
+use Rattle.rule.specs.Answers.{typeAnswerOf}
 use Rattle.rule.specs.Things.{faultOf}
 use Rattle.type_methods.specs.Comparison.{samenessOf, sameIn, sameType}
 use Rattle.type_methods.proofs.Laws.{left-five, left-six, right-five}

@@ -8,7 +8,7 @@ use lib.ListN.{length}
 use Rattle.ir.specs.declared.RowNumber.{RowNumber}
 use Rattle.answers.specs.declared.Outcome.{Outcome}
 use Rattle.answers.specs.declared.Outcome.the-variants as O
-use Rattle.answers.specs.Numbers.{Refused, at, outcomeValues, Said, SaidOf, alike, different, numbered, type, noPointer, refused}
+use Rattle.answers.specs.Numbers.{at, outcomeValues, Said, SaidOf, alike, different, numbered, type, noPointer, refused}
 use Rattle.text.specs.declared.AnswerRoom.the-variants.{NotLent}
 use Rattle.text.specs.Reading.{readText}
 use Rattle.frames.specs.declared.Frame.{Frame}

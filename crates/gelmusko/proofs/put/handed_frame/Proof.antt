@@ -1,12 +1,12 @@
 -- `handed_frame`: a slice of sixteen bytes has a first frame, and none has a frame of the number of its bytes. Assumes nothing.
-use Prim.Native.Nat.{ℕ, _/_}
+use Prim.Native.Nat.{ℕ}
 use native.Mathlib.Omega.{arith}
 use mathlib.Core.Path.{_≡_, sym, ap, _∙_}
 use mathlib.Core.Bool.{Bool, cond}
 use mathlib.Core.List.{List}
 use lib.ListN.{length}
 use borrow.Author.Tests.{eq-eqb, ne-eqb, le-ltb}
-use Rattle.frames.specs.Bytes.{frameCount, frameAt, frameFrom, zeroFrame}
+use Rattle.frames.specs.Bytes.{frameCount, frameAt, zeroFrame}
 use Rattle.gelmusko.specs.Exported.{handedFrame}
 use borrow.Author.Needs.{needs}
 use Rattle.gelmusko.proofs.put.handed_frame.Statement.{statement}
