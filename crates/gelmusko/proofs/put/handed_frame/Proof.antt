@@ -8,7 +8,6 @@ use lib.ListN.{length}
 use borrow.Author.Tests.{eq-eqb, ne-eqb, le-ltb}
 use Rattle.frames.specs.Bytes.{frameCount, frameAt, zeroFrame}
 use Rattle.gelmusko.specs.Exported.{handedFrame}
-use borrow.Author.Needs.{needs}
 use Rattle.gelmusko.proofs.put.handed_frame.Statement.{statement}
 use Rattle.gelmusko.proofs.put.handed_frame.Tie as tie
 
@@ -29,4 +28,4 @@ returns-2 c =
 pub handed-frame-spec : {M : Type 1} → statement M
 handed-frame-spec =
     tie.close
-    (tie.spec (λ c κs. search needs) (λ c κs. search needs) returns returns-2)
+    (tie.spec (λ c κs. tt) (λ c κs. tt) returns returns-2)

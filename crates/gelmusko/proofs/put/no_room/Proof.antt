@@ -13,4 +13,4 @@ returns c =
 pub no-room-spec : {M : Type 1} → statement M
 no-room-spec =
     tie.close
-    (tie.spec (λ c. search needs) (λ c κs. search needs) (λ c κs. search needs) returns)
+    (tie.spec (λ c. search needs) (λ c κs. tt) (λ c κs. tt) returns)
