@@ -1,6 +1,13 @@
 //! The library's functions as C has them; include/gelmusko.h says what each takes and gives. A slice is a pointer and a length. Slices that are written may not overlap any other.
 extern "C" {
-    pub fn gelmusko_read_file(text: *const u8, text_len: usize, frames: *mut u8, frames_len: usize, out: *mut u8, out_len: usize) -> u32;
+    pub fn gelmusko_read_file(
+        text: *const u8,
+        text_len: usize,
+        frames: *mut u8,
+        frames_len: usize,
+        out: *mut u8,
+        out_len: usize,
+    ) -> u32;
     pub fn gelmusko_type_rows(
         text: *const u8,
         text_len: usize,

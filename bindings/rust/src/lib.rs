@@ -14,6 +14,8 @@
 //! ```
 pub mod ffi;
 
+use std::fmt;
+
 /// Bytes of a frame buffer that are enough for every file.
 pub const FRAMES_BYTES: usize = 16_384;
 /// Bytes of an answer buffer that are enough for every file.
@@ -23,8 +25,15 @@ const DIFFERENT: u32 = 256;
 const NO_POINTER: u32 = 257;
 
 /// Sixteen bytes, numbers with their low byte first. Byte 0 is the family: 1 to 5 in a file, 8 to 11 in what is handed back.
-#[derive(Clone, Copy, Debug, Default, PartialEq, Eq, Hash)]
+#[derive(Clone, Copy, Default, PartialEq, Eq, Hash)]
 pub struct Frame(pub [u8; 16]);
+
+/// As a line of a file has it.
+impl fmt::Debug for Frame {
+    fn fmt(&self, f: &mut fmt::Formatter<'_>) -> fmt::Result {
+        self.0.iter().try_for_each(|byte| write!(f, "{byte:02x}"))
+    }
+}
 
 impl Frame {
     /// The number in bytes 2 and 3.
@@ -59,15 +68,23 @@ pub enum Outcome {
     /// 1: over 1,024 lines.
     Long,
     /// 2: that line is not 32 lower-case digits and a line feed.
-    Torn { line: u16 },
+    Torn {
+        line: u16,
+    },
     /// 3: a lent buffer is too short.
     Short,
     /// 4: that frame is unknown or out of order.
-    Order { frame: u16 },
+    Order {
+        frame: u16,
+    },
     /// 5: a byte of that frame is outside its values.
-    Field { frame: u16 },
+    Field {
+        frame: u16,
+    },
     /// 6: that frame names a number out of range or not earlier.
-    Index { frame: u16 },
+    Index {
+        frame: u16,
+    },
 }
 
 /// A type that is handed back: the number of a type of the file, or a value, whose frame is laid as a type.
@@ -116,7 +133,9 @@ pub enum Answer {
     Typed(Type),
     Refused(Refusal),
     /// 22: its reading met, at that row, something that this reader does not type.
-    Newer { row: u16 },
+    Newer {
+        row: u16,
+    },
 }
 
 /// What a compose is judged. Components count from 0 within their compose.
@@ -126,15 +145,24 @@ pub enum Verdict {
     /// 30
     ComposedType,
     /// 31
-    ComponentCount { expected: u32, given: u32 },
+    ComponentCount {
+        expected: u32,
+        given: u32,
+    },
     /// 32
-    ComponentType { index: u32 },
+    ComponentType {
+        index: u32,
+    },
     /// 33
-    ComponentRefused { index: u32 },
+    ComponentRefused {
+        index: u32,
+    },
     /// 22, of the composed type.
     NewerComposed,
     /// 22, of a component.
-    NewerComponent { index: u32 },
+    NewerComponent {
+        index: u32,
+    },
 }
 
 /// What comparing two types gives. `Refused` has the file's number, or 5 or 6 of a frame handed in.
@@ -184,11 +212,19 @@ impl Outcome {
         match frame.0[1] {
             0 => Outcome::Accepted,
             1 => Outcome::Long,
-            2 => Outcome::Torn { line: frame.place() },
+            2 => Outcome::Torn {
+                line: frame.place(),
+            },
             3 => Outcome::Short,
-            4 => Outcome::Order { frame: frame.place() },
-            5 => Outcome::Field { frame: frame.place() },
-            6 => Outcome::Index { frame: frame.place() },
+            4 => Outcome::Order {
+                frame: frame.place(),
+            },
+            5 => Outcome::Field {
+                frame: frame.place(),
+            },
+            6 => Outcome::Index {
+                frame: frame.place(),
+            },
             _ => never(frame),
         }
     }
@@ -239,7 +275,10 @@ impl Verdict {
             22 if first == u32::MAX => Verdict::NewerComposed,
             22 => Verdict::NewerComponent { index: first },
             30 => Verdict::ComposedType,
-            31 => Verdict::ComponentCount { expected: first, given: frame.second() },
+            31 => Verdict::ComponentCount {
+                expected: first,
+                given: frame.second(),
+            },
             32 => Verdict::ComponentType { index: first },
             33 => Verdict::ComponentRefused { index: first },
             _ => never(frame),
@@ -250,7 +289,10 @@ impl Verdict {
 impl Output {
     fn of(frame: Frame) -> Output {
         match frame.0[0] {
-            11 => Output::Compose { row: frame.place(), verdict: Verdict::of(frame) },
+            11 => Output::Compose {
+                row: frame.place(),
+                verdict: Verdict::of(frame),
+            },
             _ => Output::Row(Answer::of(frame)),
         }
     }
@@ -261,7 +303,16 @@ impl Output {
 /// Whether a file is accepted. After numbers 1 to 3 the buffer is as it was; else the text's frames stand at its front.
 pub fn read_file(text: &[u8], frames: &mut [u8]) -> Outcome {
     let mut out = Frame::default();
-    unsafe { ffi::gelmusko_read_file(text.as_ptr(), text.len(), frames.as_mut_ptr(), frames.len(), out.0.as_mut_ptr(), 16) };
+    unsafe {
+        ffi::gelmusko_read_file(
+            text.as_ptr(),
+            text.len(),
+            frames.as_mut_ptr(),
+            frames.len(),
+            out.0.as_mut_ptr(),
+            16,
+        )
+    };
     Outcome::of(out)
 }
 
@@ -284,7 +335,12 @@ pub fn type_rows(text: &[u8], frames: &mut [u8], answers: &mut [u8]) -> Outcome 
 }
 
 /// The answer of one row, with the buffers as [`type_rows`] leaves them; number 6, and the answer buffer as it was, where the file has no such row.
-pub fn row_type(text: &[u8], frames: &mut [u8], answers: &mut [u8], row: u32) -> Result<Answer, Outcome> {
+pub fn row_type(
+    text: &[u8],
+    frames: &mut [u8],
+    answers: &mut [u8],
+    row: u32,
+) -> Result<Answer, Outcome> {
     let mut out = Frame::default();
     let number = unsafe {
         ffi::gelmusko_row_type(
@@ -308,7 +364,12 @@ pub fn row_type(text: &[u8], frames: &mut [u8], answers: &mut [u8], row: u32) ->
 
 /// The verdict on one compose, by its row, with the buffers as [`type_rows`] leaves them; number 6, and the answer buffer as it was, where the file has no such row or the row is
 /// no compose.
-pub fn compose_verdict(text: &[u8], frames: &mut [u8], answers: &mut [u8], row: u32) -> Result<Verdict, Outcome> {
+pub fn compose_verdict(
+    text: &[u8],
+    frames: &mut [u8],
+    answers: &mut [u8],
+    row: u32,
+) -> Result<Verdict, Outcome> {
     let mut out = Frame::default();
     let number = unsafe {
         ffi::gelmusko_compose_verdict(
@@ -358,8 +419,17 @@ pub fn same_type(text: &[u8], frames: &mut [u8], left: &[u8], right: &[u8]) -> S
 /// The canonical form of type n: of a pointer to a scalar or a vector the value pointer, of any other type its own number.
 pub fn canonical_form(text: &[u8], frames: &mut [u8], n: u32) -> CanonicalForm {
     let mut out = Frame::default();
-    let number =
-        unsafe { ffi::gelmusko_canonical_form(text.as_ptr(), text.len(), frames.as_mut_ptr(), frames.len(), n, out.0.as_mut_ptr(), 16) };
+    let number = unsafe {
+        ffi::gelmusko_canonical_form(
+            text.as_ptr(),
+            text.len(),
+            frames.as_mut_ptr(),
+            frames.len(),
+            n,
+            out.0.as_mut_ptr(),
+            16,
+        )
+    };
     match number {
         0 => CanonicalForm::Form(Type::of(out)),
         22 => CanonicalForm::Newer,
@@ -370,8 +440,17 @@ pub fn canonical_form(text: &[u8], frames: &mut [u8], n: u32) -> CanonicalForm {
 /// The base of type n: of a pointer its base's number, of a value pointer the scalar or vector by value.
 pub fn pointer_base(text: &[u8], frames: &mut [u8], n: u32) -> PointerBase {
     let mut out = Frame::default();
-    let number =
-        unsafe { ffi::gelmusko_pointer_base(text.as_ptr(), text.len(), frames.as_mut_ptr(), frames.len(), n, out.0.as_mut_ptr(), 16) };
+    let number = unsafe {
+        ffi::gelmusko_pointer_base(
+            text.as_ptr(),
+            text.len(),
+            frames.as_mut_ptr(),
+            frames.len(),
+            n,
+            out.0.as_mut_ptr(),
+            16,
+        )
+    };
     match number {
         0 => PointerBase::Base(Type::of(out)),
         NO_POINTER => PointerBase::NotPointer,
@@ -387,9 +466,14 @@ pub fn type_file(text: &[u8]) -> Result<Vec<Output>, Outcome> {
     match type_rows(text, &mut frames, &mut answers) {
         Outcome::Accepted => {
             let lines = text.len() / 33;
-            let rows = frames_of(&frames).take(lines).filter(|frame| frame.0[0] == 4);
+            let rows = frames_of(&frames)
+                .take(lines)
+                .filter(|frame| frame.0[0] == 4);
             let handed_back = rows.map(|frame| if frame.0[1] == 5 { 2 } else { 1 }).sum();
-            Ok(frames_of(&answers).take(handed_back).map(Output::of).collect())
+            Ok(frames_of(&answers)
+                .take(handed_back)
+                .map(Output::of)
+                .collect())
         }
         refused => Err(refused),
     }

@@ -2,10 +2,17 @@
 mod common;
 
 use common::*;
-use gelmusko::{compose_verdict, frames_of, row_type, type_file, type_rows, Answer, Outcome, Output, Refusal, Type, Verdict};
+use gelmusko::{
+    compose_verdict, frames_of, row_type, type_file, type_rows, Answer, Outcome, Output, Refusal,
+    Type, Verdict,
+};
 
 fn paper_answers() -> Vec<Answer> {
-    let value = |i: usize| Answer::Typed(Type::Value(frames_of(&bytes(PAPER_ANSWERS)).nth(i).expect("six")));
+    let value = |i: usize| {
+        Answer::Typed(Type::Value(
+            frames_of(&bytes(PAPER_ANSWERS)).nth(i).expect("six"),
+        ))
+    };
     vec![
         value(0),
         value(1),
@@ -19,17 +26,26 @@ fn paper_answers() -> Vec<Answer> {
 #[test]
 fn paper_example() {
     let (mut frames, mut answers) = (lent(16 * 11), lent(16 * 6));
-    assert_eq!(type_rows(&text(PAPER), &mut frames, &mut answers), Outcome::Accepted);
+    assert_eq!(
+        type_rows(&text(PAPER), &mut frames, &mut answers),
+        Outcome::Accepted
+    );
     assert_eq!(frames, bytes(PAPER));
     assert_eq!(answers, bytes(PAPER_ANSWERS));
-    assert_eq!(type_file(&text(PAPER)), Ok(paper_answers().into_iter().map(Output::Row).collect()));
+    assert_eq!(
+        type_file(&text(PAPER)),
+        Ok(paper_answers().into_iter().map(Output::Row).collect())
+    );
 }
 
 #[test]
 fn paper_row_by_row() {
     for (row, answer) in paper_answers().into_iter().enumerate() {
         let (mut frames, mut answers) = (lent(16 * 11), lent(16 * 6 + 1));
-        assert_eq!(row_type(&text(PAPER), &mut frames, &mut answers, row as u32), Ok(answer));
+        assert_eq!(
+            row_type(&text(PAPER), &mut frames, &mut answers, row as u32),
+            Ok(answer)
+        );
         assert_eq!(frames, bytes(PAPER));
         assert_eq!(answers[..16 * 6], bytes(PAPER_ANSWERS)[..]);
         assert_eq!(answers[16 * 6], BEFORE);
@@ -39,14 +55,30 @@ fn paper_row_by_row() {
 #[test]
 fn rows_that_are_not_there() {
     // 65,536 and more keep none of their low bits: row 0 and row 2 are there
-    for row in [6, 7, 1024, 65_535, 65_536, 65_538, 131_072, 0x8000_0000, u32::MAX] {
+    for row in [
+        6,
+        7,
+        1024,
+        65_535,
+        65_536,
+        65_538,
+        131_072,
+        0x8000_0000,
+        u32::MAX,
+    ] {
         let (mut frames, mut answers) = (lent(16 * 11), lent(16 * 6));
-        assert_eq!(row_type(&text(PAPER), &mut frames, &mut answers, row), Err(Outcome::Index { frame: 0 }));
+        assert_eq!(
+            row_type(&text(PAPER), &mut frames, &mut answers, row),
+            Err(Outcome::Index { frame: 0 })
+        );
         assert_eq!((frames, answers), (bytes(PAPER), lent(16 * 6)));
     }
     for row in [4, 65_535, 65_536, 65_538, u32::MAX] {
         let (mut frames, mut answers) = (lent(16 * 11), lent(16 * 6));
-        assert_eq!(compose_verdict(&text(COMPOSES), &mut frames, &mut answers, row), Err(Outcome::Index { frame: 0 }));
+        assert_eq!(
+            compose_verdict(&text(COMPOSES), &mut frames, &mut answers, row),
+            Err(Outcome::Index { frame: 0 })
+        );
         assert_eq!((frames, answers), (bytes(COMPOSES), lent(16 * 6)));
     }
 }
@@ -57,18 +89,36 @@ fn verdicts() {
         Output::Row(Answer::Typed(Type::Number(0))),
         Output::Row(Answer::Typed(Type::Number(1))),
         Output::Row(Answer::Typed(Type::Number(2))),
-        Output::Compose { row: 2, verdict: Verdict::Passes },
+        Output::Compose {
+            row: 2,
+            verdict: Verdict::Passes,
+        },
         Output::Row(Answer::Typed(Type::Number(2))),
-        Output::Compose { row: 3, verdict: Verdict::ComponentCount { expected: 4, given: 6 } },
+        Output::Compose {
+            row: 3,
+            verdict: Verdict::ComponentCount {
+                expected: 4,
+                given: 6,
+            },
+        },
     ];
     assert_eq!(type_file(&text(COMPOSES)), Ok(outputs.to_vec()));
     for (row, verdict) in [
         (0, Err(Outcome::Index { frame: 0 })),
         (2, Ok(Verdict::Passes)),
-        (3, Ok(Verdict::ComponentCount { expected: 4, given: 6 })),
+        (
+            3,
+            Ok(Verdict::ComponentCount {
+                expected: 4,
+                given: 6,
+            }),
+        ),
     ] {
         let (mut frames, mut answers) = (lent(16 * 11), lent(16 * 6));
-        assert_eq!(compose_verdict(&text(COMPOSES), &mut frames, &mut answers, row), verdict);
+        assert_eq!(
+            compose_verdict(&text(COMPOSES), &mut frames, &mut answers, row),
+            verdict
+        );
         // a row that is no compose leaves the answers as they were
         assert_eq!(answers == lent(16 * 6), verdict.is_err());
     }
@@ -99,13 +149,23 @@ fn every_verdict() {
     ];
     for (row, verdict) in [
         (4, Verdict::ComposedType),
-        (5, Verdict::ComponentCount { expected: 2, given: 1 }),
+        (
+            5,
+            Verdict::ComponentCount {
+                expected: 2,
+                given: 1,
+            },
+        ),
         (6, Verdict::ComponentType { index: 1 }),
         (7, Verdict::ComponentRefused { index: 0 }),
         (8, Verdict::NewerComposed),
         (9, Verdict::NewerComponent { index: 0 }),
     ] {
-        let (mut frames, mut answers) = (lent(gelmusko::FRAMES_BYTES), lent(gelmusko::ANSWERS_BYTES));
-        assert_eq!(compose_verdict(&text(&file), &mut frames, &mut answers, row), Ok(verdict));
+        let (mut frames, mut answers) =
+            (lent(gelmusko::FRAMES_BYTES), lent(gelmusko::ANSWERS_BYTES));
+        assert_eq!(
+            compose_verdict(&text(&file), &mut frames, &mut answers, row),
+            Ok(verdict)
+        );
     }
 }

@@ -34,21 +34,36 @@ fn answers_short_exact_and_long() {
         let needed = 16 * rows;
         for bytes_lent in [0, 15, needed - 16, needed - 1] {
             let (mut frames, mut answers) = (lent(16 * file.len()), lent(bytes_lent));
-            assert_eq!(type_rows(&text(file), &mut frames, &mut answers), Outcome::Short);
-            assert_eq!(row_type(&text(file), &mut frames, &mut answers, 0), Err(Outcome::Short));
-            assert_eq!(compose_verdict(&text(file), &mut frames, &mut answers, 2), Err(Outcome::Short));
+            assert_eq!(
+                type_rows(&text(file), &mut frames, &mut answers),
+                Outcome::Short
+            );
+            assert_eq!(
+                row_type(&text(file), &mut frames, &mut answers, 0),
+                Err(Outcome::Short)
+            );
+            assert_eq!(
+                compose_verdict(&text(file), &mut frames, &mut answers, 2),
+                Err(Outcome::Short)
+            );
             assert_eq!((frames, answers), (lent(16 * file.len()), lent(bytes_lent)));
         }
         for bytes_lent in [needed, needed + 1, needed + 16, gelmusko::ANSWERS_BYTES] {
             let (mut frames, mut answers) = (lent(16 * file.len()), lent(bytes_lent));
-            assert_eq!(type_rows(&text(file), &mut frames, &mut answers), Outcome::Accepted);
+            assert_eq!(
+                type_rows(&text(file), &mut frames, &mut answers),
+                Outcome::Accepted
+            );
             assert_eq!(frames, bytes(file));
             assert_eq!(answers[needed..], lent(bytes_lent - needed)[..]);
             assert_ne!(answers[needed - 16..needed], lent(16)[..]);
         }
         // frames too short, and answers long enough
         let (mut frames, mut answers) = (lent(16 * file.len() - 1), lent(needed));
-        assert_eq!(type_rows(&text(file), &mut frames, &mut answers), Outcome::Short);
+        assert_eq!(
+            type_rows(&text(file), &mut frames, &mut answers),
+            Outcome::Short
+        );
         assert_eq!((frames, answers), (lent(16 * file.len() - 1), lent(needed)));
     }
 }
@@ -58,7 +73,10 @@ fn empty_file_asks_for_nothing() {
     assert_eq!(read_file(&[], &mut []), Outcome::Accepted);
     assert_eq!(type_rows(&[], &mut [], &mut []), Outcome::Accepted);
     assert_eq!(type_file(&[]), Ok(vec![]));
-    assert_eq!(row_type(&[], &mut [], &mut [], 0), Err(Outcome::Index { frame: 0 }));
+    assert_eq!(
+        row_type(&[], &mut [], &mut [], 0),
+        Err(Outcome::Index { frame: 0 })
+    );
 }
 
 #[test]
@@ -83,11 +101,17 @@ fn long_and_torn_files_change_no_buffer() {
             let (mut frames, mut answers) = (lent(f), lent(a));
             assert_eq!(read_file(&file, &mut frames), outcome);
             assert_eq!(type_rows(&file, &mut frames, &mut answers), outcome);
-            assert_eq!(row_type(&file, &mut frames, &mut answers, u32::MAX), Err(outcome));
+            assert_eq!(
+                row_type(&file, &mut frames, &mut answers, u32::MAX),
+                Err(outcome)
+            );
             assert_eq!((frames, answers), (lent(f), lent(a)));
         }
     }
-    assert_eq!(read_file(&lines(1024), &mut lent(gelmusko::FRAMES_BYTES)), Outcome::Accepted);
+    assert_eq!(
+        read_file(&lines(1024), &mut lent(gelmusko::FRAMES_BYTES)),
+        Outcome::Accepted
+    );
 }
 
 #[test]
@@ -101,15 +125,26 @@ fn faults_of_frames_leave_the_frames() {
         assert_eq!(type_rows(&text(file), &mut frames, &mut answers), outcome);
         assert_eq!((&frames, &answers), (&after(&bytes(file), 40), &lent(40)));
         assert_eq!(read_file(&text(file), &mut frames), outcome);
-        assert_eq!(row_type(&text(file), &mut frames, &mut answers, 65_536), Err(outcome));
-        assert_eq!(compose_verdict(&text(file), &mut frames, &mut answers, 0), Err(outcome));
+        assert_eq!(
+            row_type(&text(file), &mut frames, &mut answers, 65_536),
+            Err(outcome)
+        );
+        assert_eq!(
+            compose_verdict(&text(file), &mut frames, &mut answers, 0),
+            Err(outcome)
+        );
         assert_eq!((&frames, &answers), (&after(&bytes(file), 40), &lent(40)));
         assert_eq!(type_file(&text(file)), Err(outcome));
     }
 }
 
 /// What the seven functions return with these buffers, an `out` of so many bytes among them, and that `out`.
-fn with_out(file: &[u8], frames: &mut [u8], answers: &mut [u8], out_bytes: usize) -> Vec<(u32, Vec<u8>)> {
+fn with_out(
+    file: &[u8],
+    frames: &mut [u8],
+    answers: &mut [u8],
+    out_bytes: usize,
+) -> Vec<(u32, Vec<u8>)> {
     let (t, n, f, m) = (file.as_ptr(), file.len(), frames.as_mut_ptr(), frames.len());
     let (a, k) = (answers.as_mut_ptr(), answers.len());
     let frame = bytes(&["08000000000000000000000000000000"]);

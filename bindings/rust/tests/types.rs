@@ -2,10 +2,15 @@
 mod common;
 
 use common::*;
-use gelmusko::{canonical_form, pointer_base, read_file, same_type, CanonicalForm, Frame, Outcome, PointerBase, Sameness, Type};
+use gelmusko::{
+    canonical_form, pointer_base, read_file, same_type, CanonicalForm, Frame, Outcome, PointerBase,
+    Sameness, Type,
+};
 
 fn value(line: &str) -> Frame {
-    gelmusko::frames_of(&bytes(&[line])).next().expect("a frame")
+    gelmusko::frames_of(&bytes(&[line]))
+        .next()
+        .expect("a frame")
 }
 
 fn number(n: u16) -> Vec<u8> {
@@ -25,7 +30,10 @@ const INDEX: Outcome = Outcome::Index { frame: 0 };
 
 #[test]
 fn same_or_not() {
-    assert_eq!(read_file(&text(TYPES), &mut lent(16 * TYPES.len())), Outcome::Accepted);
+    assert_eq!(
+        read_file(&text(TYPES), &mut lent(16 * TYPES.len())),
+        Outcome::Accepted
+    );
     let value_pointer = value("09070000020400000000000000000000").0;
     assert_eq!(compare(&number(3), &value_pointer), Sameness::Same);
     assert_eq!(compare(&value_pointer, &number(3)), Sameness::Same);
@@ -70,12 +78,23 @@ fn frames_that_are_no_types() {
         "09090000010000000000000004000000", // a struct as value
     ] {
         let bad = value(line).0;
-        assert_eq!(compare(&bad, &number(0)), Sameness::Refused(FIELD), "{line}");
-        assert_eq!(compare(&number(0), &bad), Sameness::Refused(FIELD), "{line}");
+        assert_eq!(
+            compare(&bad, &number(0)),
+            Sameness::Refused(FIELD),
+            "{line}"
+        );
+        assert_eq!(
+            compare(&number(0), &bad),
+            Sameness::Refused(FIELD),
+            "{line}"
+        );
         assert_eq!(compare(&bad, &bad), Sameness::Refused(FIELD), "{line}");
     }
     for stray in [7, 1024, 65_535] {
-        assert_eq!(compare(&number(stray), &number(stray)), Sameness::Refused(INDEX));
+        assert_eq!(
+            compare(&number(stray), &number(stray)),
+            Sameness::Refused(INDEX)
+        );
     }
 }
 
@@ -84,7 +103,10 @@ fn canonical_forms() {
     for (n, form) in [
         (0, CanonicalForm::Form(Type::Number(0))),
         (1, CanonicalForm::Form(Type::Number(1))),
-        (3, CanonicalForm::Form(Type::Value(value("09070000020400000000000000000000")))),
+        (
+            3,
+            CanonicalForm::Form(Type::Value(value("09070000020400000000000000000000"))),
+        ),
         (4, CanonicalForm::Form(Type::Number(4))),
         (5, CanonicalForm::Newer),
         (6, CanonicalForm::Newer),
@@ -95,7 +117,11 @@ fn canonical_forms() {
         (u32::MAX, CanonicalForm::Refused(INDEX)),
     ] {
         let mut frames = lent(16 * TYPES.len());
-        assert_eq!(canonical_form(&text(TYPES), &mut frames, n), form, "type {n}");
+        assert_eq!(
+            canonical_form(&text(TYPES), &mut frames, n),
+            form,
+            "type {n}"
+        );
         assert_eq!(frames, bytes(TYPES));
     }
 }
@@ -119,22 +145,47 @@ fn pointer_bases() {
         assert_eq!(frames, bytes(TYPES));
     }
     // of a value pointer the scalar, or the vector, by value
-    let file = text(&["01070000020400000000000000000000", "01070300020400000000000000000000"]);
+    let file = text(&[
+        "01070000020400000000000000000000",
+        "01070300020400000000000000000000",
+    ]);
     let mut frames = lent(32);
-    assert_eq!(pointer_base(&file, &mut frames, 0), PointerBase::Base(Type::Value(value("09010000020400000000000000000000"))));
-    assert_eq!(pointer_base(&file, &mut frames, 1), PointerBase::Base(Type::Value(value("09020300020400000000000000000000"))));
+    assert_eq!(
+        pointer_base(&file, &mut frames, 0),
+        PointerBase::Base(Type::Value(value("09010000020400000000000000000000")))
+    );
+    assert_eq!(
+        pointer_base(&file, &mut frames, 1),
+        PointerBase::Base(Type::Value(value("09020300020400000000000000000000")))
+    );
 }
 
 #[test]
 fn refused_file_first() {
-    for (file, outcome) in [(DISORDERED, Outcome::Order { frame: 1 }), (UNFIT, Outcome::Field { frame: 1 }), (STRAY, Outcome::Index { frame: 1 })] {
+    for (file, outcome) in [
+        (DISORDERED, Outcome::Order { frame: 1 }),
+        (UNFIT, Outcome::Field { frame: 1 }),
+        (STRAY, Outcome::Index { frame: 1 }),
+    ] {
         let mut frames = lent(32);
-        assert_eq!(same_type(&text(file), &mut frames, &[], &number(9)), Sameness::Refused(outcome));
-        assert_eq!(canonical_form(&text(file), &mut frames, u32::MAX), CanonicalForm::Refused(outcome));
-        assert_eq!(pointer_base(&text(file), &mut frames, 65_536), PointerBase::Refused(outcome));
+        assert_eq!(
+            same_type(&text(file), &mut frames, &[], &number(9)),
+            Sameness::Refused(outcome)
+        );
+        assert_eq!(
+            canonical_form(&text(file), &mut frames, u32::MAX),
+            CanonicalForm::Refused(outcome)
+        );
+        assert_eq!(
+            pointer_base(&text(file), &mut frames, 65_536),
+            PointerBase::Refused(outcome)
+        );
         assert_eq!(frames, bytes(file));
     }
     let mut frames = lent(31);
-    assert_eq!(same_type(&text(STRAY), &mut frames, &[], &[]), Sameness::Refused(Outcome::Short));
+    assert_eq!(
+        same_type(&text(STRAY), &mut frames, &[], &[]),
+        Sameness::Refused(Outcome::Short)
+    );
     assert_eq!(frames, lent(31));
 }

@@ -10,14 +10,20 @@ pub fn lent(bytes: usize) -> Vec<u8> {
 
 /// Lines, each with its line feed.
 pub fn text(lines: &[&str]) -> Vec<u8> {
-    lines.iter().flat_map(|line| line.bytes().chain([b'\n'])).collect()
+    lines
+        .iter()
+        .flat_map(|line| line.bytes().chain([b'\n']))
+        .collect()
 }
 
 /// The frames that lines stand for, one after the other.
 pub fn bytes(lines: &[&str]) -> Vec<u8> {
     lines
         .iter()
-        .flat_map(|line| (0..line.len() / 2).map(move |i| u8::from_str_radix(&line[2 * i..2 * i + 2], 16).expect("digits")))
+        .flat_map(|line| {
+            (0..line.len() / 2)
+                .map(move |i| u8::from_str_radix(&line[2 * i..2 * i + 2], 16).expect("digits"))
+        })
         .collect()
 }
 
@@ -75,6 +81,15 @@ pub const TYPES: &[&str] = &[
 ];
 
 /// Refused at frame 1: out of order (4), a constant array with count 0 (5), a row that names type 1 of one type (6).
-pub const DISORDERED: &[&str] = &["04040000000000000000000000000000", "01010000020400000000000000000000"];
-pub const UNFIT: &[&str] = &["01010000020400000000000000000000", "01080000000000000000000000000000"];
-pub const STRAY: &[&str] = &["01010000020400000000000000000000", "04040100000000000000000000000000"];
+pub const DISORDERED: &[&str] = &[
+    "04040000000000000000000000000000",
+    "01010000020400000000000000000000",
+];
+pub const UNFIT: &[&str] = &[
+    "01010000020400000000000000000000",
+    "01080000000000000000000000000000",
+];
+pub const STRAY: &[&str] = &[
+    "01010000020400000000000000000000",
+    "04040100000000000000000000000000",
+];
