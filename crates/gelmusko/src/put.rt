@@ -57,7 +57,7 @@ fn short_number(o: Outcome) -> u32
     }
 }
 
-// What is returned where the out-slice is too small.
+// What is returned where the out-slice is too small: numbers 1 and 2 are the text's whatever is lent, so nothing is lent here.
 pub(crate) fn no_room(text: &[u8]) -> u32
     ensures { λ r. ⌜ r ≡ noRoom (now (text .entry)) ⌝ }
 {
@@ -66,6 +66,7 @@ pub(crate) fn no_room(text: &[u8]) -> u32
     short_number(read)
 }
 
+// A file's number; 0 where it is accepted.
 fn outcome_number(o: Outcome) -> u32
     ensures { λ r. ⌜ r ≡ outcomeNumber o ⌝ }
 {
@@ -88,7 +89,7 @@ pub(crate) fn put_outcome(out: &mut [u8], o: Outcome) -> u32
     outcome_number(o)
 }
 
-// Number 5 or 6 with place 0, and the frame of number 0.
+// Number 5, 6 or 22, each with place 0.
 fn put_field(out: &mut [u8]) -> u32
     ensures { λ r. ⌜ (r ≡ 5) × (now (out .exit) ≡ putFrame (now (out .entry)) 0 (refusedFrame (at 5 0))) ⌝ }
 {
@@ -110,6 +111,7 @@ fn put_newer(out: &mut [u8]) -> u32
     22
 }
 
+// The frame of number 0, and what is said by the number returned.
 fn put_zero(out: &mut [u8], said: u32) -> u32
     ensures { λ r. ⌜ (r ≡ said) × (now (out .exit) ≡ putFrame (now (out .entry)) 0 (refusedFrame (at 0 0))) ⌝ }
 {
