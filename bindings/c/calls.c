@@ -1,0 +1,52 @@
+/* Calls every function once, on an empty file with null pointers of length 0 and on a file of one type, and checks the numbers. Prints nothing if all are right. */
+#include <stdio.h>
+#include <string.h>
+
+#include "gelmusko.h"
+
+static int wrong;
+
+static void expect(const char *what, uint32_t got, uint32_t want)
+{
+    if (got != want) {
+        printf("%s: %u, and not %u\n", what, (unsigned)got, (unsigned)want);
+        wrong = 1;
+    }
+}
+
+int main(void)
+{
+    uint8_t out[16], frames[16], answers[16], before[16];
+    memset(out, 7, 16);
+    memcpy(before, out, 16);
+
+    /* an empty file asks for no bytes of frames and answers */
+    expect("read_file", gelmusko_read_file(NULL, 0, NULL, 0, out, 16), GELMUSKO_GIVEN);
+    expect("frame of number 0", out[0] * 256u + out[1], 10 * 256);
+    expect("type_rows", gelmusko_type_rows(NULL, 0, NULL, 0, NULL, 0, out, 16), GELMUSKO_GIVEN);
+    expect("row_type", gelmusko_row_type(NULL, 0, NULL, 0, NULL, 0, 0, out, 16), GELMUSKO_INDEX);
+    expect("compose_verdict", gelmusko_compose_verdict(NULL, 0, NULL, 0, NULL, 0, 65536, out, 16), GELMUSKO_INDEX);
+    expect("same_type", gelmusko_same_type(NULL, 0, NULL, 0, NULL, 0, NULL, 0, out, 16), GELMUSKO_FIELD);
+    expect("canonical_form", gelmusko_canonical_form(NULL, 0, NULL, 0, 0, out, 16), GELMUSKO_INDEX);
+    expect("pointer_base", gelmusko_pointer_base(NULL, 0, NULL, 0, 0, out, 16), GELMUSKO_INDEX);
+    expect("frame of number 6", out[0] * 256u + out[1], 10 * 256 + 6);
+
+    /* no out, or one that is too short */
+    memcpy(out, before, 16);
+    expect("no out", gelmusko_read_file(NULL, 0, NULL, 0, NULL, 0), GELMUSKO_SHORT);
+    expect("short out", gelmusko_read_file(NULL, 0, NULL, 0, out, 15), GELMUSKO_SHORT);
+    expect("out unchanged", memcmp(out, before, 16) != 0, 0);
+
+    /* f32 as type 0 */
+    const uint8_t *text = (const uint8_t *)"01010000020400000000000000000000\n";
+    uint8_t number[16] = {8}, value[16] = {9, 1, 0, 0, 2, 4}, other[16] = {9, 1, 0, 0, 2, 8};
+    expect("one type", gelmusko_type_rows(text, 33, frames, 16, answers, 16, out, 16), GELMUSKO_GIVEN);
+    expect("short frames", gelmusko_type_rows(text, 33, frames, 15, answers, 16, out, 16), GELMUSKO_SHORT);
+    expect("the same type", gelmusko_same_type(text, 33, frames, 16, number, 16, value, 16, out, 16), GELMUSKO_GIVEN);
+    expect("another type", gelmusko_same_type(text, 33, frames, 16, number, 16, other, 16, out, 16), GELMUSKO_DIFFERENT);
+    expect("its own canonical form", gelmusko_canonical_form(text, 33, frames, 16, 0, out, 16), GELMUSKO_GIVEN);
+    expect("frame of type 0", memcmp(out, number, 16) != 0, 0);
+    expect("no pointer", gelmusko_pointer_base(text, 33, frames, 16, 0, out, 16), GELMUSKO_NO_POINTER);
+    expect("65,536 is no type", gelmusko_pointer_base(text, 33, frames, 16, 65536, out, 16), GELMUSKO_INDEX);
+    return wrong;
+}

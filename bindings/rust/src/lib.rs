@@ -1,0 +1,480 @@
+//! Types of archived shader rows: safe functions over libgelmusko.a, whose functions are proved to give, for all inputs, what their definitions say.
+//!
+//! A file is a text of lines, one frame of 16 bytes a line. Each function is lent a buffer for the text's frames, of 16 bytes a line, and those that answer rows one for the
+//! answers, of 16 bytes a row and 16 more a compose. [`FRAMES_BYTES`] and [`ANSWERS_BYTES`] are enough for every file; bytes past what is written stay as they were.
+//! [`type_file`] brings its own. Rows, types, lines and frames count from 0.
+//!
+//! ```
+//! use gelmusko::{row_type, Answer, Type, ANSWERS_BYTES, FRAMES_BYTES};
+//!
+//! // f32, and a value of it
+//! let text = b"01010000020400000000000000000000\n04040000000000000000000000000000\n";
+//! let (mut frames, mut answers) = ([0; FRAMES_BYTES], [0; ANSWERS_BYTES]);
+//! assert_eq!(row_type(text, &mut frames, &mut answers, 0), Ok(Answer::Typed(Type::Number(0))));
+//! ```
+pub mod ffi;
+
+use std::fmt;
+
+/// Bytes of a frame buffer that are enough for every file.
+pub const FRAMES_BYTES: usize = 16_384;
+/// Bytes of an answer buffer that are enough for every file.
+pub const ANSWERS_BYTES: usize = 32_768;
+
+const DIFFERENT: u32 = 256;
+const NO_POINTER: u32 = 257;
+
+/// Sixteen bytes, numbers with their low byte first. Byte 0 is the family: 1 to 5 in a file, 8 to 11 in what is handed back.
+#[derive(Clone, Copy, Default, PartialEq, Eq, Hash)]
+pub struct Frame(pub [u8; 16]);
+
+/// As a line of a file has it.
+impl fmt::Debug for Frame {
+    fn fmt(&self, f: &mut fmt::Formatter<'_>) -> fmt::Result {
+        self.0.iter().try_for_each(|byte| write!(f, "{byte:02x}"))
+    }
+}
+
+impl Frame {
+    /// The number in bytes 2 and 3.
+    pub fn place(self) -> u16 {
+        u16::from_le_bytes([self.0[2], self.0[3]])
+    }
+
+    /// The number in bytes 4 to 7.
+    pub fn first(self) -> u32 {
+        u32::from_le_bytes([self.0[4], self.0[5], self.0[6], self.0[7]])
+    }
+
+    /// The number in bytes 8 to 11.
+    pub fn second(self) -> u32 {
+        u32::from_le_bytes([self.0[8], self.0[9], self.0[10], self.0[11]])
+    }
+}
+
+/// The whole frames of a buffer, in order.
+pub fn frames_of(buffer: &[u8]) -> impl Iterator<Item = Frame> + '_ {
+    buffer.chunks_exact(16).map(|bytes| {
+        let mut frame = [0; 16];
+        frame.copy_from_slice(bytes);
+        Frame(frame)
+    })
+}
+
+/// What reading or typing a file gives. Where a number or a frame handed in is at fault, `Field` and `Index` name frame 0.
+#[derive(Clone, Copy, Debug, PartialEq, Eq)]
+pub enum Outcome {
+    Accepted,
+    /// 1: over 1,024 lines.
+    Long,
+    /// 2: that line is not 32 lower-case digits and a line feed.
+    Torn {
+        line: u16,
+    },
+    /// 3: a lent buffer is too short.
+    Short,
+    /// 4: that frame is unknown or out of order.
+    Order {
+        frame: u16,
+    },
+    /// 5: a byte of that frame is outside its values.
+    Field {
+        frame: u16,
+    },
+    /// 6: that frame names a number out of range or not earlier.
+    Index {
+        frame: u16,
+    },
+}
+
+/// A type that is handed back: the number of a type of the file, or a value, whose frame is laid as a type.
+#[derive(Clone, Copy, Debug, PartialEq, Eq)]
+pub enum Type {
+    Number(u16),
+    Value(Frame),
+}
+
+impl Type {
+    /// The frame that a comparison takes.
+    pub fn frame(self) -> Frame {
+        match self {
+            Type::Number(n) => {
+                let [low, high] = n.to_le_bytes();
+                let mut bytes = [0; 16];
+                bytes[0] = 8;
+                bytes[2] = low;
+                bytes[3] = high;
+                Frame(bytes)
+            }
+            Type::Value(frame) => frame,
+        }
+    }
+}
+
+/// Why a row has no type: numbers 10 to 20.
+#[derive(Clone, Copy, Debug, PartialEq, Eq)]
+pub enum Refusal {
+    OutOfBoundsIndex { expr: u16, index: u32 },
+    InvalidAccess { expr: u16, indexed: bool },
+    InvalidSubAccess { ty: u16, indexed: bool },
+    InvalidScalar { expr: u16 },
+    InvalidVector { expr: u16 },
+    InvalidPointer { expr: u16 },
+    InvalidImage { expr: u16 },
+    FunctionReturnsVoid,
+    IncompatibleOperands,
+    FunctionArgumentNotFound { index: u32 },
+    MissingSpecialType,
+}
+
+/// A row's answer.
+#[derive(Clone, Copy, Debug, PartialEq, Eq)]
+pub enum Answer {
+    Typed(Type),
+    Refused(Refusal),
+    /// 22: its reading met, at that row, something that this reader does not type.
+    Newer {
+        row: u16,
+    },
+}
+
+/// What a compose is judged. Components count from 0 within their compose.
+#[derive(Clone, Copy, Debug, PartialEq, Eq)]
+pub enum Verdict {
+    Passes,
+    /// 30
+    ComposedType,
+    /// 31
+    ComponentCount {
+        expected: u32,
+        given: u32,
+    },
+    /// 32
+    ComponentType {
+        index: u32,
+    },
+    /// 33
+    ComponentRefused {
+        index: u32,
+    },
+    /// 22, of the composed type.
+    NewerComposed,
+    /// 22, of a component.
+    NewerComponent {
+        index: u32,
+    },
+}
+
+/// What comparing two types gives. `Refused` has the file's number, or 5 or 6 of a frame handed in.
+#[derive(Clone, Copy, Debug, PartialEq, Eq)]
+pub enum Sameness {
+    Same,
+    Different,
+    /// 22
+    Newer,
+    Refused(Outcome),
+}
+
+/// What asking for a canonical form gives. `Refused` has the file's number, or 6.
+#[derive(Clone, Copy, Debug, PartialEq, Eq)]
+pub enum CanonicalForm {
+    Form(Type),
+    /// 22
+    Newer,
+    Refused(Outcome),
+}
+
+/// What asking for a pointer's base gives. `Refused` has the file's number, or 6.
+#[derive(Clone, Copy, Debug, PartialEq, Eq)]
+pub enum PointerBase {
+    Base(Type),
+    NotPointer,
+    /// 22
+    Newer,
+    Refused(Outcome),
+}
+
+/// What a file hands back, in order: an answer for each row, and after a compose its verdict.
+#[derive(Clone, Copy, Debug, PartialEq, Eq)]
+pub enum Output {
+    Row(Answer),
+    Compose { row: u16, verdict: Verdict },
+}
+
+/// For a frame that the contracts of the library rule out.
+fn never(frame: Frame) -> ! {
+    unreachable!("no function of the library hands back {frame:?}")
+}
+
+impl Outcome {
+    /// The outcome that a frame of family 10 stands for, by its number 0 to 6.
+    fn of(frame: Frame) -> Outcome {
+        match frame.0[1] {
+            0 => Outcome::Accepted,
+            1 => Outcome::Long,
+            2 => Outcome::Torn {
+                line: frame.place(),
+            },
+            3 => Outcome::Short,
+            4 => Outcome::Order {
+                frame: frame.place(),
+            },
+            5 => Outcome::Field {
+                frame: frame.place(),
+            },
+            6 => Outcome::Index {
+                frame: frame.place(),
+            },
+            _ => never(frame),
+        }
+    }
+}
+
+impl Type {
+    /// The type that a frame of family 8 or 9 stands for.
+    fn of(frame: Frame) -> Type {
+        match frame.0[0] {
+            8 => Type::Number(frame.place()),
+            9 => Type::Value(frame),
+            _ => never(frame),
+        }
+    }
+}
+
+impl Answer {
+    /// The answer that a frame of family 8, 9 or 10 stands for, as a row has it.
+    fn of(frame: Frame) -> Answer {
+        if frame.0[0] != 10 {
+            return Answer::Typed(Type::of(frame));
+        }
+        let (expr, index, indexed) = (frame.place(), frame.first(), frame.0[8] == 1);
+        Answer::Refused(match frame.0[1] {
+            10 => Refusal::OutOfBoundsIndex { expr, index },
+            11 => Refusal::InvalidAccess { expr, indexed },
+            12 => Refusal::InvalidSubAccess { ty: expr, indexed },
+            13 => Refusal::InvalidScalar { expr },
+            14 => Refusal::InvalidVector { expr },
+            15 => Refusal::InvalidPointer { expr },
+            16 => Refusal::InvalidImage { expr },
+            17 => Refusal::FunctionReturnsVoid,
+            18 => Refusal::IncompatibleOperands,
+            19 => Refusal::FunctionArgumentNotFound { index },
+            20 => Refusal::MissingSpecialType,
+            22 => return Answer::Newer { row: expr },
+            _ => never(frame),
+        })
+    }
+}
+
+impl Verdict {
+    /// The verdict that a frame of family 11 stands for.
+    fn of(frame: Frame) -> Verdict {
+        let first = frame.first();
+        match frame.0[1] {
+            0 => Verdict::Passes,
+            22 if first == u32::MAX => Verdict::NewerComposed,
+            22 => Verdict::NewerComponent { index: first },
+            30 => Verdict::ComposedType,
+            31 => Verdict::ComponentCount {
+                expected: first,
+                given: frame.second(),
+            },
+            32 => Verdict::ComponentType { index: first },
+            33 => Verdict::ComponentRefused { index: first },
+            _ => never(frame),
+        }
+    }
+}
+
+impl Output {
+    fn of(frame: Frame) -> Output {
+        match frame.0[0] {
+            11 => Output::Compose {
+                row: frame.place(),
+                verdict: Verdict::of(frame),
+            },
+            _ => Output::Row(Answer::of(frame)),
+        }
+    }
+}
+
+// In each call below the slices are those of references, so they point to as many bytes as they say, and those that are written overlap no other.
+
+/// Whether a file is accepted. After numbers 1 to 3 the buffer is as it was; else the text's frames stand at its front.
+pub fn read_file(text: &[u8], frames: &mut [u8]) -> Outcome {
+    let mut out = Frame::default();
+    unsafe {
+        ffi::gelmusko_read_file(
+            text.as_ptr(),
+            text.len(),
+            frames.as_mut_ptr(),
+            frames.len(),
+            out.0.as_mut_ptr(),
+            16,
+        )
+    };
+    Outcome::of(out)
+}
+
+/// Types every row and judges every compose. Of an accepted file the answers and verdicts stand at the front of the answer buffer; else that is as it was.
+pub fn type_rows(text: &[u8], frames: &mut [u8], answers: &mut [u8]) -> Outcome {
+    let mut out = Frame::default();
+    unsafe {
+        ffi::gelmusko_type_rows(
+            text.as_ptr(),
+            text.len(),
+            frames.as_mut_ptr(),
+            frames.len(),
+            answers.as_mut_ptr(),
+            answers.len(),
+            out.0.as_mut_ptr(),
+            16,
+        )
+    };
+    Outcome::of(out)
+}
+
+/// The answer of one row, with the buffers as [`type_rows`] leaves them; number 6, and the answer buffer as it was, where the file has no such row.
+pub fn row_type(
+    text: &[u8],
+    frames: &mut [u8],
+    answers: &mut [u8],
+    row: u32,
+) -> Result<Answer, Outcome> {
+    let mut out = Frame::default();
+    let number = unsafe {
+        ffi::gelmusko_row_type(
+            text.as_ptr(),
+            text.len(),
+            frames.as_mut_ptr(),
+            frames.len(),
+            answers.as_mut_ptr(),
+            answers.len(),
+            row,
+            out.0.as_mut_ptr(),
+            16,
+        )
+    };
+    if number == 0 {
+        Ok(Answer::of(out))
+    } else {
+        Err(Outcome::of(out))
+    }
+}
+
+/// The verdict on one compose, by its row, with the buffers as [`type_rows`] leaves them; number 6, and the answer buffer as it was, where the file has no such row or the row is
+/// no compose.
+pub fn compose_verdict(
+    text: &[u8],
+    frames: &mut [u8],
+    answers: &mut [u8],
+    row: u32,
+) -> Result<Verdict, Outcome> {
+    let mut out = Frame::default();
+    let number = unsafe {
+        ffi::gelmusko_compose_verdict(
+            text.as_ptr(),
+            text.len(),
+            frames.as_mut_ptr(),
+            frames.len(),
+            answers.as_mut_ptr(),
+            answers.len(),
+            row,
+            out.0.as_mut_ptr(),
+            16,
+        )
+    };
+    if number == 0 {
+        Ok(Verdict::of(out))
+    } else {
+        Err(Outcome::of(out))
+    }
+}
+
+/// Whether two types of a file are the same. Each is a frame of family 8 or 9, as [`Type::frame`] gives it; one of another length than 16 gets 5.
+pub fn same_type(text: &[u8], frames: &mut [u8], left: &[u8], right: &[u8]) -> Sameness {
+    let mut out = Frame::default();
+    let number = unsafe {
+        ffi::gelmusko_same_type(
+            text.as_ptr(),
+            text.len(),
+            frames.as_mut_ptr(),
+            frames.len(),
+            left.as_ptr(),
+            left.len(),
+            right.as_ptr(),
+            right.len(),
+            out.0.as_mut_ptr(),
+            16,
+        )
+    };
+    match number {
+        0 => Sameness::Same,
+        DIFFERENT => Sameness::Different,
+        22 => Sameness::Newer,
+        _ => Sameness::Refused(Outcome::of(out)),
+    }
+}
+
+/// The canonical form of type n: of a pointer to a scalar or a vector the value pointer, of any other type its own number.
+pub fn canonical_form(text: &[u8], frames: &mut [u8], n: u32) -> CanonicalForm {
+    let mut out = Frame::default();
+    let number = unsafe {
+        ffi::gelmusko_canonical_form(
+            text.as_ptr(),
+            text.len(),
+            frames.as_mut_ptr(),
+            frames.len(),
+            n,
+            out.0.as_mut_ptr(),
+            16,
+        )
+    };
+    match number {
+        0 => CanonicalForm::Form(Type::of(out)),
+        22 => CanonicalForm::Newer,
+        _ => CanonicalForm::Refused(Outcome::of(out)),
+    }
+}
+
+/// The base of type n: of a pointer its base's number, of a value pointer the scalar or vector by value.
+pub fn pointer_base(text: &[u8], frames: &mut [u8], n: u32) -> PointerBase {
+    let mut out = Frame::default();
+    let number = unsafe {
+        ffi::gelmusko_pointer_base(
+            text.as_ptr(),
+            text.len(),
+            frames.as_mut_ptr(),
+            frames.len(),
+            n,
+            out.0.as_mut_ptr(),
+            16,
+        )
+    };
+    match number {
+        0 => PointerBase::Base(Type::of(out)),
+        NO_POINTER => PointerBase::NotPointer,
+        22 => PointerBase::Newer,
+        _ => PointerBase::Refused(Outcome::of(out)),
+    }
+}
+
+/// Types a whole file with buffers of its own.
+pub fn type_file(text: &[u8]) -> Result<Vec<Output>, Outcome> {
+    let mut frames = vec![0; FRAMES_BYTES];
+    let mut answers = vec![0; ANSWERS_BYTES];
+    match type_rows(text, &mut frames, &mut answers) {
+        Outcome::Accepted => {
+            let lines = text.len() / 33;
+            let rows = frames_of(&frames)
+                .take(lines)
+                .filter(|frame| frame.0[0] == 4);
+            let handed_back = rows.map(|frame| if frame.0[1] == 5 { 2 } else { 1 }).sum();
+            Ok(frames_of(&answers)
+                .take(handed_back)
+                .map(Output::of)
+                .collect())
+        }
+        refused => Err(refused),
+    }
+}

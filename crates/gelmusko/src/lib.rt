@@ -1,0 +1,28 @@
+// The public functions over a file, exported for C and Rust; include/gelmusko.h says what each takes and gives. Every one takes last an out-slice, which gets one frame of 16
+// bytes, and returns a number. No slice that is written may overlap another of the same call.
+mod put;
+pub mod rows;
+pub mod types;
+
+use put::no_room;
+use put::put_outcome;
+use reader::read_file;
+ghost use mathlib.Core.Path.{_≡_};
+ghost use lib.ListN.{length};
+ghost use Rattle.text.specs.declared.AnswerRoom.the-variants.{NotLent};
+ghost use Rattle.frames.specs.Bytes.{putFrame};
+ghost use Rattle.frames.specs.Out.{outcomeFrame};
+ghost use Rattle.reader.specs.File.{readFile, framesAfter};
+ghost use Rattle.gelmusko.specs.Exported.{noRoom, byRoom, outcomeNumber};
+
+// Whether a file is accepted.
+#[no_mangle]
+pub extern "C" fn gelmusko_read_file(text: &[u8], frames: &mut [u8], out: &mut [u8]) -> u32
+    ensures { λ r. ⌜ (r ≡ byRoom (now (out .entry)) (noRoom (now (text .entry))) (outcomeNumber (readFile (now (text .entry)) (length (now (frames .entry))) NotLent))) × (now (frames .exit) ≡ byRoom (now (out .entry)) (now (frames .entry)) (framesAfter (now (text .entry)) (now (frames .entry)) NotLent)) × (now (out .exit) ≡ putFrame (now (out .entry)) 0 (outcomeFrame (readFile (now (text .entry)) (length (now (frames .entry))) NotLent))) ⌝ }
+{
+    if out.len() < 16 {
+        return no_room(text);
+    }
+    let read = read_file(text, frames);
+    put_outcome(out, read)
+}

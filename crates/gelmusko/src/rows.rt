@@ -1,0 +1,72 @@
+// The rows of a file, and its composes.
+use super::put::clamped;
+use super::put::no_room;
+use super::put::put_outcome;
+use super::put::put_row;
+use super::put::put_verdict;
+use ir::RowNumber;
+use reader::rows::compose_verdict;
+use reader::rows::row_type;
+use reader::rows::type_rows;
+ghost use mathlib.Core.Path.{_≡_};
+ghost use lib.ListN.{length};
+ghost use Rattle.text.specs.declared.AnswerRoom.the-variants.{Lent};
+ghost use Rattle.frames.specs.Bytes.{putFrame};
+ghost use Rattle.frames.specs.Out.{outcomeFrame};
+ghost use Rattle.reader.specs.File.{readFile, framesAfter};
+ghost use Rattle.reader.specs.Typing.{answersAfter, rowType, answersAfterRow, composeVerdict, answersAfterVerdict};
+ghost use Rattle.gelmusko.specs.Exported.{noRoom, byRoom, outcomeNumber, rowNumber, rowGivenFrame, verdictNumber, verdictGivenFrame};
+
+// Types every row of a file and judges every compose.
+#[no_mangle]
+pub extern "C" fn gelmusko_type_rows(
+    text: &[u8],
+    frames: &mut [u8],
+    answers: &mut [u8],
+    out: &mut [u8],
+) -> u32
+    ensures { λ r. ⌜ (r ≡ byRoom (now (out .entry)) (noRoom (now (text .entry))) (outcomeNumber (readFile (now (text .entry)) (length (now (frames .entry))) (Lent (length (now (answers .entry))))))) × (now (frames .exit) ≡ byRoom (now (out .entry)) (now (frames .entry)) (framesAfter (now (text .entry)) (now (frames .entry)) (Lent (length (now (answers .entry)))))) × (now (answers .exit) ≡ byRoom (now (out .entry)) (now (answers .entry)) (answersAfter (now (text .entry)) (length (now (frames .entry))) (now (answers .entry)))) × (now (out .exit) ≡ putFrame (now (out .entry)) 0 (outcomeFrame (readFile (now (text .entry)) (length (now (frames .entry))) (Lent (length (now (answers .entry))))))) ⌝ }
+{
+    if out.len() < 16 {
+        return no_room(text);
+    }
+    let read = type_rows(text, frames, answers);
+    put_outcome(out, read)
+}
+
+// The answer of one row.
+#[no_mangle]
+pub extern "C" fn gelmusko_row_type(
+    text: &[u8],
+    frames: &mut [u8],
+    answers: &mut [u8],
+    row: u32,
+    out: &mut [u8],
+) -> u32
+    ensures { λ r. ⌜ (r ≡ byRoom (now (out .entry)) (noRoom (now (text .entry))) (rowNumber (rowType (now (text .entry)) (length (now (frames .entry))) (length (now (answers .entry))) (record { 0 = row })))) × (now (frames .exit) ≡ byRoom (now (out .entry)) (now (frames .entry)) (framesAfter (now (text .entry)) (now (frames .entry)) (Lent (length (now (answers .entry)))))) × (now (answers .exit) ≡ byRoom (now (out .entry)) (now (answers .entry)) (answersAfterRow (now (text .entry)) (length (now (frames .entry))) (now (answers .entry)) (record { 0 = row }))) × (now (out .exit) ≡ putFrame (now (out .entry)) 0 (rowGivenFrame (rowType (now (text .entry)) (length (now (frames .entry))) (length (now (answers .entry))) (record { 0 = row })))) ⌝ }
+{
+    if out.len() < 16 {
+        return no_room(text);
+    }
+    let given = row_type(text, frames, answers, RowNumber(clamped(row)));
+    put_row(out, given)
+}
+
+// The verdict on one compose.
+#[no_mangle]
+pub extern "C" fn gelmusko_compose_verdict(
+    text: &[u8],
+    frames: &mut [u8],
+    answers: &mut [u8],
+    row: u32,
+    out: &mut [u8],
+) -> u32
+    ensures { λ r. ⌜ (r ≡ byRoom (now (out .entry)) (noRoom (now (text .entry))) (verdictNumber (composeVerdict (now (text .entry)) (length (now (frames .entry))) (length (now (answers .entry))) (record { 0 = row })))) × (now (frames .exit) ≡ byRoom (now (out .entry)) (now (frames .entry)) (framesAfter (now (text .entry)) (now (frames .entry)) (Lent (length (now (answers .entry)))))) × (now (answers .exit) ≡ byRoom (now (out .entry)) (now (answers .entry)) (answersAfterVerdict (now (text .entry)) (length (now (frames .entry))) (now (answers .entry)) (record { 0 = row }))) × (now (out .exit) ≡ putFrame (now (out .entry)) 0 (verdictGivenFrame (record { 0 = row }) (composeVerdict (now (text .entry)) (length (now (frames .entry))) (length (now (answers .entry))) (record { 0 = row })))) ⌝ }
+{
+    if out.len() < 16 {
+        return no_room(text);
+    }
+    let n = clamped(row);
+    let given = compose_verdict(text, frames, answers, RowNumber(n));
+    put_verdict(out, RowNumber(n), given)
+}

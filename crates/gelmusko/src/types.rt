@@ -1,0 +1,74 @@
+// The types of a file: two compared, a canonical form, a pointer's base.
+use super::put::clamped;
+use super::put::handed_frame;
+use super::put::no_room;
+use super::put::put_base;
+use super::put::put_canonical;
+use super::put::put_sameness;
+use ir::TypeNumber;
+use pointer_forms::canonical_form;
+use pointer_forms::pointer_base;
+use reader::same_type;
+ghost use mathlib.Core.Path.{_≡_};
+ghost use lib.ListN.{length};
+ghost use Rattle.answers.specs.Numbers.{samenessSaid, canonicalSaid, baseSaid};
+ghost use Rattle.text.specs.declared.AnswerRoom.the-variants.{NotLent};
+ghost use Rattle.frames.specs.Bytes.{putFrame};
+ghost use Rattle.reader.specs.File.{framesAfter};
+ghost use Rattle.reader.specs.Types.{sameTypes};
+ghost use Rattle.pointer_forms.specs.Forms.{canonicalType, pointerBaseType};
+ghost use Rattle.gelmusko.specs.Exported.{noRoom, byRoom, saidNumber, saidFrame, typeSaidNumber, typeSaidFrame, handedFrame};
+
+// Whether two answers of a file, as frames of family 8 or 9, are the same type.
+#[no_mangle]
+pub extern "C" fn gelmusko_same_type(
+    text: &[u8],
+    frames: &mut [u8],
+    left: &[u8],
+    right: &[u8],
+    out: &mut [u8],
+) -> u32
+    ensures { λ r. ⌜ (r ≡ byRoom (now (out .entry)) (noRoom (now (text .entry))) (saidNumber (samenessSaid (sameTypes (now (text .entry)) (length (now (frames .entry))) (handedFrame (now (left .entry))) (handedFrame (now (right .entry))))))) × (now (frames .exit) ≡ byRoom (now (out .entry)) (now (frames .entry)) (framesAfter (now (text .entry)) (now (frames .entry)) NotLent)) × (now (out .exit) ≡ putFrame (now (out .entry)) 0 (saidFrame (samenessSaid (sameTypes (now (text .entry)) (length (now (frames .entry))) (handedFrame (now (left .entry))) (handedFrame (now (right .entry))))))) ⌝ }
+{
+    if out.len() < 16 {
+        return no_room(text);
+    }
+    let l = handed_frame(left);
+    let r = handed_frame(right);
+    let given = same_type(text, frames, l, r);
+    put_sameness(out, given)
+}
+
+// The canonical form of a type: the value pointer, or the type's own number.
+#[no_mangle]
+pub extern "C" fn gelmusko_canonical_form(
+    text: &[u8],
+    frames: &mut [u8],
+    n: u32,
+    out: &mut [u8],
+) -> u32
+    ensures { λ r. ⌜ (r ≡ byRoom (now (out .entry)) (noRoom (now (text .entry))) (typeSaidNumber (canonicalSaid (canonicalType (now (text .entry)) (length (now (frames .entry))) (record { 0 = n }))))) × (now (frames .exit) ≡ byRoom (now (out .entry)) (now (frames .entry)) (framesAfter (now (text .entry)) (now (frames .entry)) NotLent)) × (now (out .exit) ≡ putFrame (now (out .entry)) 0 (typeSaidFrame (canonicalSaid (canonicalType (now (text .entry)) (length (now (frames .entry))) (record { 0 = n }))))) ⌝ }
+{
+    if out.len() < 16 {
+        return no_room(text);
+    }
+    let given = canonical_form(text, frames, TypeNumber(clamped(n)));
+    put_canonical(out, given)
+}
+
+// The base of a pointer.
+#[no_mangle]
+pub extern "C" fn gelmusko_pointer_base(
+    text: &[u8],
+    frames: &mut [u8],
+    n: u32,
+    out: &mut [u8],
+) -> u32
+    ensures { λ r. ⌜ (r ≡ byRoom (now (out .entry)) (noRoom (now (text .entry))) (typeSaidNumber (baseSaid (pointerBaseType (now (text .entry)) (length (now (frames .entry))) (record { 0 = n }))))) × (now (frames .exit) ≡ byRoom (now (out .entry)) (now (frames .entry)) (framesAfter (now (text .entry)) (now (frames .entry)) NotLent)) × (now (out .exit) ≡ putFrame (now (out .entry)) 0 (typeSaidFrame (baseSaid (pointerBaseType (now (text .entry)) (length (now (frames .entry))) (record { 0 = n }))))) ⌝ }
+{
+    if out.len() < 16 {
+        return no_room(text);
+    }
+    let given = pointer_base(text, frames, TypeNumber(clamped(n)));
+    put_base(out, given)
+}
