@@ -1,5 +1,5 @@
 -- What the frame of a component's answer shows of its type is what the answer's look and comparison give. Assumes nothing.
-use Prim.Native.Nat.{ℕ}
+use Prim.Native.Nat.{ℕ, _+_, _*_}
 use mathlib.Core.Path.{_≡_, refl, sym, ap, _∙_}
 use mathlib.Core.Bool.{Bool, true, false, cond, _&&_, _||_}
 use mathlib.Core.List.{List}
@@ -19,7 +19,7 @@ use Rattle.ir.specs.declared.TypeForm.{TypeForm}
 use Rattle.ir.specs.declared.TypeForm.the-variants as Tf
 use Rattle.ir.specs.declared.TypeResolution.{TypeResolution}
 use Rattle.ir.specs.declared.TypeResolution.the-variants as Tr
-use Rattle.ir.specs.Numbers.{typeKindOf, scalarKindOf, scalarKindNumber, vectorSizeOf, vectorSizeNumber}
+use Rattle.ir.specs.Numbers.{typeKindOf, spaceOf, scalarKindOf, scalarKindNumber, vectorSizeOf, vectorSizeNumber}
 use Rattle.ir.proofs.Numbered.{vectorSize-back, scalarKind-back}
 use Rattle.answers.specs.declared.Answer.{Answer}
 use Rattle.answers.specs.declared.Answer.the-variants as An
@@ -33,8 +33,8 @@ use Rattle.archive.specs.Names.{isType}
 use Rattle.archive.specs.Access.{typeIn}
 use Rattle.rule.specs.declared.Fault.the-variants as Fa
 use Rattle.rule.specs.Answers.{TypeAnswer, number, value, resolved}
-use Rattle.rule.specs.Things.{valueFault, soundForm, formIn, isStructInner, isStruct}
-use Rattle.type_methods.specs.Canonical.{canonicalFormIn, orSelf, canonicalOf, equalTypes, identical}
+use Rattle.rule.specs.Things.{inRange, valueFault, soundForm, formIn, isStructInner, isStruct}
+use Rattle.type_methods.specs.Canonical.{valuePointer, orOwn, formFound, throughBase, canonicalFormIn, orSelf, canonicalOf, equalTypes, identical}
 use Rattle.type_methods.specs.Comparison.{byAnswers, likeness}
 use Rattle.type_methods.proofs.Equality.{equal-types, identical-self}
 use Rattle.type_methods.proofs.Seen.{never}
@@ -45,7 +45,7 @@ use Rattle.compose.specs.declared.Part.the-variants as Pa
 use Rattle.compose.specs.declared.OptionVerdict.the-variants as Ov
 use Rattle.compose.specs.Verdict.{adds}
 use Rattle.compose.specs.Judged.{memberType, partIs, partVerdict, answerVerdict, answerAdded, countAdded, formAdded}
-use Rattle.compose.specs.Shown.{pastFrame, typeFrame, formFrame, sameScalar, columnShown, sameForm, typeShown, partShown}
+use Rattle.compose.specs.Shown.{pastFrame, typeFrame, formFrame, sameScalar, columnShown, isPlain, sameForm, samePointer, valueShown, typeShown, partShown}
 
 -- a row's answer is that of its frame
 pub past-frame : (an pl : List ℕ) (n : RowNumber) → answerIn an pl n ≡ answerOf (pastFrame an pl n)
@@ -88,6 +88,23 @@ vector-form f e = ap (λ (k : ℕ). typeAs (typeKindOf k) f) e
 matrix-form : (f : Frame) → byte f 1 ≡ 3 → typeOf f ≡ Tf.Known (Ti.Matrix (vectorSizeOf (byte f 2)) (vectorSizeOf (byte f 3)) (scalarIn f))
 unfolding typeOf
 matrix-form f e = ap (λ (k : ℕ). typeAs (typeKindOf k) f) e
+
+pointer-form : (f : Frame) → byte f 1 ≡ 6 → typeOf f ≡ Tf.Known (Ti.Pointer (record { 0 = half f 2 }) (spaceOf (byte f 6) (byte f 7)))
+unfolding typeOf
+pointer-form f e = ap (λ (k : ℕ). typeAs (typeKindOf k) f) e
+
+record Formed (x : TypeForm) : Type 0 where
+  pub inner : TypeInner
+  pub is : x ≡ Tf.Known inner
+
+plain-form : (f : Frame) → isPlain f ≡ true → Formed (typeOf f)
+plain-form f h = go (eqb (byte f 1) 1) (eqb (byte f 1) 2) (eqb (byte f 1) 3) refl refl refl h
+  where
+    go : (x y z : Bool) → eqb (byte f 1) 1 ≡ x → eqb (byte f 1) 2 ≡ y → eqb (byte f 1) 3 ≡ z → (x || (y || z)) ≡ true → Formed (typeOf f)
+    go true y z p q r o = record { inner = _; is = scalar-form f (eqb-true _ _ p) }
+    go false true z p q r o = record { inner = _; is = vector-form f (eqb-true _ _ q) }
+    go false false true p q r o = record { inner = _; is = matrix-form f (eqb-true _ _ r) }
+    go false false false p q r o = never (cc)
 
 kind-same : (k j : ScalarKind) → scalarKindNumber k ≡ scalarKindNumber j → k ≡ j
 kind-same k j e = sym (scalarKind-back k) ∙ ap scalarKindOf e ∙ scalarKind-back j
@@ -229,17 +246,72 @@ module _ (fr : List ℕ) (s : Starts) where
           record { inner = t; form = matrix-form f k; alike = like-value n t t e refl refl refl }
       go false false false p q r o = never (cc)
 
+  -- a pointer's base that is a type is in range
+  in-range : (b : TypeNumber) (c : TypeInner) → typeIn fr s b ≡ Tf.Known c → inRange (isType s b) ≡ Fa.Sound
+  unfolding typeIn
+  in-range b c e = go (isType s b) e
+    where
+      go : (q : Bool) → cond q (typeOf (frameAt fr (b .0))) Tf.Unknown ≡ Tf.Known c → inRange q ≡ Fa.Sound
+      go true h = refl
+      go false h = never (cc)
+
+  own-form : (t : TypeInner) (o : Option TypeInner) → orSelf t (formFound o) ≡ Tf.Known (orOwn t o)
+  own-form t none = refl
+  own-form t (some u) = refl
+
+  valued-pointer : (n : TypeNumber) (f g : Frame) → typeIn fr s n ≡ typeOf g → byte f 1 ≡ 6 → samePointer fr s f g ≡ true → Valued n f
+  valued-pointer n f g e0 k h =
+      go (eqb (byte g 1) 6 && (eqb (byte f 2) (byte g 2) && (eqb (byte f 3) (byte g 3) && (eqb (byte f 6) (byte g 6) && eqb (byte f 7) (byte g 7))))) refl h
+    where
+      go : (q : Bool) → (eqb (byte g 1) 6 && (eqb (byte f 2) (byte g 2) && (eqb (byte f 3) (byte g 3) && (eqb (byte f 6) (byte g 6) && eqb (byte f 7) (byte g 7))))) ≡ q
+          → cond q (isPlain (typeFrame fr s (record { 0 = half f 2 }))) false ≡ true → Valued n f
+      go true h1 plain =
+          let b : TypeNumber = record { 0 = half f 2 } in
+          let p = spaceOf (byte f 6) (byte f 7) in
+          let t = Ti.Pointer b p in
+          let w = plain-form (typeFrame fr s b) plain in
+          let base : typeIn fr s b ≡ Tf.Known (w .inner) = type-frame fr s b ∙ w .is in
+          let k1 : byte g 1 ≡ 6 = eqb-true _ _ (and-first _ _ h1) in
+          let h2 = and-second (eqb (byte g 1) 6) _ h1 in
+          let e2 : byte f 2 ≡ byte g 2 = eqb-true _ _ (and-first _ _ h2) in
+          let h3 = and-second (eqb (byte f 2) (byte g 2)) _ h2 in
+          let e3 : byte f 3 ≡ byte g 3 = eqb-true _ _ (and-first _ _ h3) in
+          let h4 = and-second (eqb (byte f 3) (byte g 3)) _ h3 in
+          let e6 : byte f 6 ≡ byte g 6 = eqb-true _ _ (and-first _ _ h4) in
+          let e7 : byte f 7 ≡ byte g 7 = eqb-true _ _ (and-second (eqb (byte f 6) (byte g 6)) _ h4) in
+          let e : typeIn fr s n ≡ Tf.Known t =
+          e0 ∙ pointer-form g k1
+          ∙ ap (λ (x : ℕ). Tf.Known (Ti.Pointer (record { 0 = x + byte g 3 * 256 }) (spaceOf (byte g 6) (byte g 7)))) (sym e2)
+          ∙ ap (λ (x : ℕ). Tf.Known (Ti.Pointer (record { 0 = byte f 2 + x * 256 }) (spaceOf (byte g 6) (byte g 7)))) (sym e3)
+          ∙ ap (λ (x : ℕ). Tf.Known (Ti.Pointer b (spaceOf x (byte g 7)))) (sym e6)
+          ∙ ap (λ (x : ℕ). Tf.Known (Ti.Pointer b (spaceOf (byte f 6) x))) (sym e7) in
+          let own : orSelf t (canonicalFormIn fr s t) ≡ Tf.Known (orOwn t (valuePointer p (w .inner))) =
+          ap (λ (x : TypeForm). orSelf t (throughBase p x)) base ∙ own-form t (valuePointer p (w .inner)) in
+          record {
+            inner = t;
+            form = pointer-form f k;
+            alike = like-value n t (orOwn t (valuePointer p (w .inner))) e (in-range b (w .inner) base) refl own;
+          }
+      go false h1 plain = never (cc)
+
+  valued-shown : (n : TypeNumber) (f g : Frame) → typeIn fr s n ≡ typeOf g → valueShown fr s f g ≡ true → Valued n f
+  valued-shown n f g e0 h = go (eqb (byte f 1) 6) refl h
+    where
+      go : (q : Bool) → eqb (byte f 1) 6 ≡ q → cond q (samePointer fr s f g) (sameForm f g) ≡ true → Valued n f
+      go true e r = valued-pointer n f g e0 (eqb-true _ _ e) r
+      go false e r = valued n f g e0 r
+
   type-shown : (n : TypeNumber) (i : ℕ) (f : Frame) → typeShown fr s n f ≡ true
       → answerVerdict i (λ t. partVerdict i (likeness fr s (number n) (resolved t))) (answerOf f) ≡ Ov.None
   unfolding answerOf
   type-shown n i f h = go (eqb (byte f 0) 8) (eqb (byte f 0) 9) refl refl h
     where
       go : (a b : Bool) → eqb (byte f 0) 8 ≡ a → eqb (byte f 0) 9 ≡ b
-          → cond a (eqb (half f 2) (n .0)) (cond b (sameForm f (typeFrame fr s n)) false) ≡ true
+          → cond a (eqb (half f 2) (n .0)) (cond b (valueShown fr s f (typeFrame fr s n)) false) ≡ true
           → answerVerdict i (λ t. partVerdict i (likeness fr s (number n) (resolved t))) (answerOf f) ≡ Ov.None
       go true b p q h =
           rw p (ap (λ (m : ℕ). partVerdict i (likeness fr s (number n) (number (record { 0 = m })))) (eqb-true (half f 2) (n .0) h) ∙ ap (partVerdict i) (like-self (number n)))
-      go false true p q h = let w = valued n f (typeFrame fr s n) (type-frame fr s n) h in rw (p, q, w .form) (ap (partVerdict i) (w .alike))
+      go false true p q h = let w = valued-shown n f (typeFrame fr s n) (type-frame fr s n) h in rw (p, q, w .form) (ap (partVerdict i) (w .alike))
       go false false p q h = never (cc)
 
   -- WHAT IS ASKED

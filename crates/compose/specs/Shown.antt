@@ -38,16 +38,32 @@ sameScalar f k = equalScalars (record { kind = scalarKindOf (byte f 4); width = 
 abbrev pub columnShown : Frame → VectorSize → Scalar → Bool
 columnShown f rows k = eqb (byte f 1) 2 && (eqb (vectorSizeNumber (vectorSizeOf (byte f 2))) (vectorSizeNumber rows) && sameScalar f k)
 
+-- a frame is of a scalar, a vector or a matrix
+abbrev pub isPlain : Frame → Bool
+isPlain f = eqb (byte f 1) 1 || (eqb (byte f 1) 2 || eqb (byte f 1) 3)
+
 -- two frames are of the same scalar, vector or matrix: of the same kind, with the same bytes 2 to 5
 abbrev pub sameForm : Frame → Frame → Bool
 sameForm f g =
-    (eqb (byte f 1) 1 || (eqb (byte f 1) 2 || eqb (byte f 1) 3))
+    isPlain f
     && (eqb (byte f 1) (byte g 1)
     && (eqb (byte f 2) (byte g 2) && (eqb (byte f 3) (byte g 3) && (eqb (byte f 4) (byte g 4) && eqb (byte f 5) (byte g 5)))))
 
+-- the frame of a pointer and another are of the same pointer to a scalar, a vector or a matrix
+abbrev pub samePointer : List ℕ → Starts → Frame → Frame → Bool
+samePointer fr s f g =
+    cond
+    (eqb (byte g 1) 6
+    && (eqb (byte f 2) (byte g 2) && (eqb (byte f 3) (byte g 3) && (eqb (byte f 6) (byte g 6) && eqb (byte f 7) (byte g 7)))))
+    (isPlain (typeFrame fr s (record { 0 = half f 2 }))) false
+
+-- the frames of a value and of a type show that they are the same
+abbrev pub valueShown : List ℕ → Starts → Frame → Frame → Bool
+valueShown fr s f g = cond (eqb (byte f 1) 6) (samePointer fr s f g) (sameForm f g)
+
 -- an answer's frame shows that it is the same as type n: its number, or a value with that type's bytes
 abbrev pub typeShown : List ℕ → Starts → TypeNumber → Frame → Bool
-typeShown fr s n f = cond (eqb (byte f 0) 8) (eqb (half f 2) (n .0)) (cond (eqb (byte f 0) 9) (sameForm f (typeFrame fr s n)) false)
+typeShown fr s n f = cond (eqb (byte f 0) 8) (eqb (half f 2) (n .0)) (cond (eqb (byte f 0) 9) (valueShown fr s f (typeFrame fr s n)) false)
 
 -- the frame of component i's answer shows that it is as asked
 abbrev pub partShown : List ℕ → Starts → Part → ℕ → Frame → Bool

@@ -34,7 +34,7 @@ ghost use Rattle.type_methods.specs.Comparison.{found};
 ghost use Rattle.row_rules.specs.Operators.{equalScalars};
 ghost use Rattle.compose.specs.Verdict.{verdict, byForm, eachPart, vectorParts, counted, arrayParts, adds};
 ghost use Rattle.compose.specs.Judged.{toJudged, judgedBy, partsIn, askedOf, columnSeen, memberType, partIs, partSaid, partVerdict, answerVerdict, partJudged, countAdded, formAdded, answerAdded, addedBy};
-ghost use Rattle.compose.specs.Shown.{pastFrame, typeFrame, formFrame, sameScalar, columnShown, sameForm, typeShown, partShown};
+ghost use Rattle.compose.specs.Shown.{pastFrame, typeFrame, formFrame, sameScalar, columnShown, isPlain, sameForm, samePointer, valueShown, typeShown, partShown};
 
 // What is asked of each component: that it is a column of a matrix, an element of an array, or the member of its index of a struct whose `count` members
 // begin at `first`.
@@ -141,12 +141,42 @@ fn column_shown(f: Frame, rows: VectorSize, scalar: Scalar) -> bool
     (f.b1 == 2) & ((size.number() == rows.number()) & same_scalar(f, scalar))
 }
 
+// Whether a frame is of a scalar, a vector or a matrix.
+fn is_plain(f: Frame) -> bool
+    ensures { λ r. ⌜ r ≡ isPlain f ⌝ }
+{
+    (f.b1 == 1) | ((f.b1 == 2) | (f.b1 == 3))
+}
+
 // Whether two frames are of the same scalar, vector or matrix.
 fn same_form(f: Frame, g: Frame) -> bool
     ensures { λ r. ⌜ r ≡ sameForm f g ⌝ }
 {
-    ((f.b1 == 1) | ((f.b1 == 2) | (f.b1 == 3)))
+    is_plain(f)
         & ((f.b1 == g.b1) & ((f.b2 == g.b2) & ((f.b3 == g.b3) & ((f.b4 == g.b4) & (f.b5 == g.b5)))))
+}
+
+// Whether the frame of a pointer and another are of the same pointer to a scalar, a vector or a matrix.
+fn same_pointer(frames: &[u8], s: Starts, f: Frame, g: Frame) -> bool
+    ensures { λ r. ⌜ r ≡ samePointer (now (frames .entry)) s f g ⌝ }
+{
+    if (g.b1 == 6) & ((f.b2 == g.b2) & ((f.b3 == g.b3) & ((f.b6 == g.b6) & (f.b7 == g.b7)))) {
+        let n = f.named();
+        is_plain(type_frame(frames, s, TypeNumber(n)))
+    } else {
+        false
+    }
+}
+
+// Whether the frames of a value and of a type show that they are the same.
+fn value_shown(frames: &[u8], s: Starts, f: Frame, g: Frame) -> bool
+    ensures { λ r. ⌜ r ≡ valueShown (now (frames .entry)) s f g ⌝ }
+{
+    if f.b1 == 6 {
+        same_pointer(frames, s, f, g)
+    } else {
+        same_form(f, g)
+    }
 }
 
 // Whether an answer's frame shows, without a comparison, that it is the same as type n.
@@ -156,7 +186,7 @@ fn type_shown(frames: &[u8], s: Starts, n: TypeNumber, f: Frame) -> bool
     if f.b0 == 8 {
         f.named() == n.0
     } else if f.b0 == 9 {
-        same_form(f, type_frame(frames, s, n))
+        value_shown(frames, s, f, type_frame(frames, s, n))
     } else {
         false
     }

@@ -11,5 +11,5 @@ type-shown-spec =
     (λ c κs. tt)
     (λ c κs. tt)
     (λ c. rw (c .before .before .before .struct-known .given .1, eq-eqb _ _ (c .before .before .if1 .taken), c .before .named .ensures))
-    (λ c. rw (c .before .before .before .before .before .struct-known .given .1, ne-eqb _ _ (c .before .before .before .before .if1 .left), eq-eqb _ _ (c .before .before .if2 .taken), c .same-form .ensures, c .before .type-frame .ensures))
+    (λ c. rw (c .before .before .before .before .before .struct-known .given .1, ne-eqb _ _ (c .before .before .before .before .if1 .left), eq-eqb _ _ (c .before .before .if2 .taken), c .value-shown .ensures, c .before .type-frame .ensures))
     (λ c. rw (c .before .before .before .struct-known .given .1, ne-eqb _ _ (c .before .before .if1 .left), ne-eqb _ _ (c .if2 .left))))
