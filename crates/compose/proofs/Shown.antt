@@ -10,6 +10,10 @@ use borrow.Author.Tests.{eqb-true}
 use Rattle.scan.proofs.Laws.{and-first, and-second}
 use Rattle.ir.specs.declared.TypeNumber.{TypeNumber}
 use Rattle.ir.specs.declared.RowNumber.{RowNumber}
+use Rattle.ir.specs.declared.MemberNumber.{MemberNumber}
+use Rattle.ir.specs.declared.ComponentNumber.{ComponentNumber}
+use Rattle.ir.specs.declared.ArraySize.{ArraySize}
+use Rattle.ir.specs.declared.ArraySize.the-variants as As
 use Rattle.ir.specs.declared.VectorSize.{VectorSize}
 use Rattle.ir.specs.declared.ScalarKind.{ScalarKind}
 use Rattle.ir.specs.declared.Scalar.{Scalar}
@@ -25,7 +29,8 @@ use Rattle.answers.specs.declared.Answer.{Answer}
 use Rattle.answers.specs.declared.Answer.the-variants as An
 use Rattle.answers.specs.declared.Refusal.the-variants.{MissingSpecialType}
 use Rattle.frames.specs.declared.Frame.{Frame}
-use Rattle.frames.specs.Bytes.{byte, half, zeroFrame, frameAt}
+use Rattle.frames.specs.Bytes.{byte, half, word, zeroFrame, frameAt}
+use Rattle.frames.specs.Fields.{arraySizeOf}
 use Rattle.frames.specs.Forms.{typeAs, typeOf}
 use Rattle.frames.specs.Out.{answerOf}
 use Rattle.archive.specs.declared.Starts.{Starts}
@@ -43,9 +48,11 @@ use Rattle.operands.specs.Past.{answerIn}
 use Rattle.compose.specs.declared.Part.{Part}
 use Rattle.compose.specs.declared.Part.the-variants as Pa
 use Rattle.compose.specs.declared.OptionVerdict.the-variants as Ov
+use Rattle.compose.specs.Verdict.{eachPart, vectorParts, counted, arrayParts, verdict}
 use Rattle.compose.specs.Verdict.{adds}
-use Rattle.compose.specs.Judged.{memberType, partIs, partVerdict, answerVerdict, answerAdded, countAdded, formAdded}
-use Rattle.compose.specs.Shown.{pastFrame, typeFrame, formFrame, sameScalar, columnShown, isPlain, sameForm, samePointer, valueShown, typeShown, partShown}
+use Rattle.compose.specs.Judged.{judgedBy, partsIn, askedOf, memberType, partIs, partVerdict, answerVerdict, answerAdded, countAdded, formAdded}
+use Rattle.compose.proofs.Runs.{composed-known, struct-counted}
+use Rattle.compose.specs.Shown.{pastFrame, typeFrame, formFrame, scalarIn, sameScalar, columnShown, isPlain, sameForm, samePointer, valueShown, typeShown, partShown}
 
 -- a row's answer is that of its frame
 pub past-frame : (an pl : List ℕ) (n : RowNumber) → answerIn an pl n ≡ answerOf (pastFrame an pl n)
@@ -57,7 +64,7 @@ past-frame an pl n = go (ltb (n .0) (length pl))
     go false = refl
 
 -- a type is that of its frame
-type-frame : (fr : List ℕ) (s : Starts) (n : TypeNumber) → typeIn fr s n ≡ typeOf (typeFrame fr s n)
+pub type-frame : (fr : List ℕ) (s : Starts) (n : TypeNumber) → typeIn fr s n ≡ typeOf (typeFrame fr s n)
 unfolding typeIn typeOf
 type-frame fr s n = go (isType s n)
   where
@@ -74,9 +81,6 @@ no-form t e = never (cc)
 abbrev made : ScalarKind → ℕ → Scalar
 made k w = record { kind = k; width = w }
 
-abbrev scalarIn : Frame → Scalar
-scalarIn f = made (scalarKindOf (byte f 4)) (byte f 5)
-
 scalar-form : (f : Frame) → byte f 1 ≡ 1 → typeOf f ≡ Tf.Known (Ti.Scalar (scalarIn f))
 unfolding typeOf
 scalar-form f e = ap (λ (k : ℕ). typeAs (typeKindOf k) f) e
@@ -92,6 +96,14 @@ matrix-form f e = ap (λ (k : ℕ). typeAs (typeKindOf k) f) e
 pointer-form : (f : Frame) → byte f 1 ≡ 6 → typeOf f ≡ Tf.Known (Ti.Pointer (record { 0 = half f 2 }) (spaceOf (byte f 6) (byte f 7)))
 unfolding typeOf
 pointer-form f e = ap (λ (k : ℕ). typeAs (typeKindOf k) f) e
+
+array-form : (f : Frame) → byte f 1 ≡ 8 → typeOf f ≡ Tf.Known (Ti.Array (record { 0 = half f 2 }) (arraySizeOf (byte f 4) (word f 8)) (word f 12))
+unfolding typeOf
+array-form f e = ap (λ (k : ℕ). typeAs (typeKindOf k) f) e
+
+struct-form : (f : Frame) → byte f 1 ≡ 9 → typeOf f ≡ Tf.Known (Ti.Struct (record { 0 = half f 2 }) (half f 4) (word f 12))
+unfolding typeOf
+struct-form f e = ap (λ (k : ℕ). typeAs (typeKindOf k) f) e
 
 record Formed (x : TypeForm) : Type 0 where
   pub inner : TypeInner
@@ -321,3 +333,37 @@ module _ (fr : List ℕ) (s : Starts) where
   part-shown (Pa.Column rows k) i f h = column-shown rows k i f h
   part-shown (Pa.Element base) i f h = type-shown base i f h
   part-shown (Pa.Member first n) i f h = type-shown (memberType fr s first n i) i f h
+
+  -- THE COMPOSED TYPE, by its frame: what its components are held to
+
+  module _ (an pl : List ℕ) (ty : TypeNumber) (first : ComponentNumber) (n : ℕ) (f : Frame) (e : typeIn fr s ty ≡ typeOf f) where
+    pub vector-composed : (z : VectorSize) (k : Scalar) → byte f 1 ≡ 2 → z ≡ vectorSizeOf (byte f 2) → k ≡ scalarIn f
+        → judgedBy fr s an pl (vectorParts z k 0 0 (partsIn fr s first n)) ≡ judgedBy fr s an pl (verdict ty (partsIn fr s first n))
+    vector-composed z k h p q =
+        rw (p, q) (sym (composed-known fr s an pl ty (partsIn fr s first n) (Ti.Vector (vectorSizeOf (byte f 2)) (scalarIn f)) (e ∙ vector-form f h)))
+
+    pub matrix-composed : (m : ℕ) (c z : VectorSize) (k : Scalar) → byte f 1 ≡ 3 → m ≡ vectorSizeNumber c → c ≡ vectorSizeOf (byte f 2) → z ≡ vectorSizeOf (byte f 3)
+        → k ≡ scalarIn f
+        → judgedBy fr s an pl (counted m (partsIn fr s first n) (eachPart (askedOf fr s (Pa.Column z k)) 0 (partsIn fr s first n)))
+        ≡ judgedBy fr s an pl (verdict ty (partsIn fr s first n))
+    matrix-composed m c z k h o p q r =
+        rw (o, p, q, r)
+        (sym (composed-known fr s an pl ty (partsIn fr s first n) (Ti.Matrix (vectorSizeOf (byte f 2)) (vectorSizeOf (byte f 3)) (scalarIn f)) (e ∙ matrix-form f h)))
+
+    pub array-composed : (m b : ℕ) → (eqb (byte f 1) 8 && eqb (byte f 4) 0) ≡ true → m ≡ word f 8 → b ≡ half f 2
+        → judgedBy fr s an pl (counted m (partsIn fr s first n) (eachPart (askedOf fr s (Pa.Element (record { 0 = b }))) 0 (partsIn fr s first n)))
+        ≡ judgedBy fr s an pl (verdict ty (partsIn fr s first n))
+    array-composed m b h p q =
+        let z : arraySizeOf (byte f 4) (word f 8) ≡ As.Constant (word f 8) =
+        ap (λ (x : ℕ). arraySizeOf x (word f 8)) (eqb-true (byte f 4) 0 (and-second (eqb (byte f 1) 8) _ h)) in
+        let t : typeIn fr s ty ≡ Tf.Known (Ti.Array (record { 0 = half f 2 }) (As.Constant (word f 8)) (word f 12)) =
+        e ∙ array-form f (eqb-true _ _ (and-first _ (eqb (byte f 4) 0) h)) ∙ ap (λ (x : ArraySize). Tf.Known (Ti.Array (record { 0 = half f 2 }) x (word f 12))) z in
+        rw (p, q) (sym (composed-known fr s an pl ty (partsIn fr s first n) (Ti.Array (record { 0 = half f 2 }) (As.Constant (word f 8)) (word f 12)) t))
+
+    pub struct-composed : (j m : ℕ) → byte f 1 ≡ 9 → j ≡ half f 4 → m ≡ half f 2
+        → judgedBy fr s an pl (counted j (partsIn fr s first n) (eachPart (askedOf fr s (Pa.Member (record { 0 = m }) j)) 0 (partsIn fr s first n)))
+        ≡ judgedBy fr s an pl (verdict ty (partsIn fr s first n))
+    struct-composed j m h p q =
+        rw (p, q)
+        (struct-counted fr s an pl first n (record { 0 = half f 2 }) (half f 4)
+        ∙ sym (composed-known fr s an pl ty (partsIn fr s first n) (Ti.Struct (record { 0 = half f 2 }) (half f 4) (word f 12)) (e ∙ struct-form f h)))

@@ -30,9 +30,13 @@ typeFrame fr s n = cond (isType s n) (frameAt fr (n .0)) zeroFrame
 abbrev pub formFrame : List ℕ → Starts → Frame → Frame
 formFrame fr s f = cond (eqb (byte f 0) 8) (typeFrame fr s (record { 0 = half f 2 })) (cond (eqb (byte f 0) 9) f zeroFrame)
 
+-- the scalar in bytes 4 and 5
+abbrev pub scalarIn : Frame → Scalar
+scalarIn f = record { kind = scalarKindOf (byte f 4); width = byte f 5 }
+
 -- the scalar in bytes 4 and 5 is this one
 abbrev pub sameScalar : Frame → Scalar → Bool
-sameScalar f k = equalScalars (record { kind = scalarKindOf (byte f 4); width = byte f 5 }) k
+sameScalar f k = equalScalars (scalarIn f) k
 
 -- a frame is that of a vector of this size and scalar
 abbrev pub columnShown : Frame → VectorSize → Scalar → Bool

@@ -34,7 +34,7 @@ ghost use Rattle.type_methods.specs.Comparison.{found};
 ghost use Rattle.row_rules.specs.Operators.{equalScalars};
 ghost use Rattle.compose.specs.Verdict.{verdict, byForm, eachPart, vectorParts, counted, arrayParts, adds};
 ghost use Rattle.compose.specs.Judged.{toJudged, judgedBy, partsIn, askedOf, columnSeen, memberType, partIs, partSaid, partVerdict, answerVerdict, partJudged, countAdded, formAdded, answerAdded, addedBy};
-ghost use Rattle.compose.specs.Shown.{pastFrame, typeFrame, formFrame, sameScalar, columnShown, isPlain, sameForm, samePointer, valueShown, typeShown, partShown};
+ghost use Rattle.compose.specs.Shown.{pastFrame, typeFrame, formFrame, scalarIn, sameScalar, columnShown, isPlain, sameForm, samePointer, valueShown, typeShown, partShown};
 
 // What is asked of each component: that it is a column of a matrix, an element of an array, or the member of its index of a struct whose `count` members
 // begin at `first`.
@@ -125,12 +125,19 @@ fn form_frame(frames: &[u8], s: Starts, f: Frame) -> Frame
     }
 }
 
+// The scalar in bytes 4 and 5.
+fn scalar_of(f: Frame) -> Scalar
+    ensures { λ r. ⌜ r ≡ scalarIn f ⌝ }
+{
+    let kind = ScalarKind::from_number(f.b4);
+    Scalar { kind, width: f.b5 }
+}
+
 // Whether the scalar in bytes 4 and 5 is this one.
 fn same_scalar(f: Frame, scalar: Scalar) -> bool
     ensures { λ r. ⌜ r ≡ sameScalar f scalar ⌝ }
 {
-    let kind = ScalarKind::from_number(f.b4);
-    equal_scalars(Scalar { kind, width: f.b5 }, scalar)
+    equal_scalars(scalar_of(f), scalar)
 }
 
 // Whether a frame is that of a vector of this size and scalar.
@@ -601,8 +608,8 @@ fn by_form(
     }
 }
 
-// The verdict on a compose of type `ty` from the `count` components from `first` on.
-pub fn judge(
+// By the composed type's form, whatever its kind.
+fn by_type(
     frames: &[u8],
     s: Starts,
     answers: &[u8],
@@ -616,5 +623,71 @@ pub fn judge(
     match type_at(frames, s, ty) {
         TypeForm::Known(t) => by_form(frames, s, answers, places, t, first, count),
         TypeForm::Unknown => Verdict::NewerComposed,
+    }
+}
+
+// The verdict on a compose of type `ty` from the `count` components from `first` on. What is asked of the components of a vector, a matrix, an array of
+// constant size and a struct is read from the type's frame.
+pub fn judge(
+    frames: &[u8],
+    s: Starts,
+    answers: &[u8],
+    places: &[u16],
+    ty: TypeNumber,
+    first: ComponentNumber,
+    count: u16,
+) -> Verdict
+    ensures { λ r. ⌜ toJudged r ≡ judgedBy (now (frames .entry)) s (now (answers .entry)) (now (places .entry)) (verdict ty (partsIn (now (frames .entry)) s first count)) ⌝ }
+{
+    let f = type_frame(frames, s, ty);
+    if f.b1 == 2 {
+        let size = VectorSize::from_number(f.b2);
+        let scalar = scalar_of(f);
+        vector_parts(frames, s, answers, places, size, scalar, first, count)
+    } else if f.b1 == 3 {
+        let columns = VectorSize::from_number(f.b2);
+        let rows = VectorSize::from_number(f.b3);
+        let scalar = scalar_of(f);
+        counted_parts(
+            frames,
+            s,
+            answers,
+            places,
+            columns.number() as u32,
+            Part::Column { rows, scalar },
+            first,
+            count,
+        )
+    } else if (f.b1 == 8) & (f.b4 == 0) {
+        let base = f.named();
+        let n = f.third();
+        counted_parts(
+            frames,
+            s,
+            answers,
+            places,
+            n,
+            Part::Element(TypeNumber(base)),
+            first,
+            count,
+        )
+    } else if f.b1 == 9 {
+        let m = f.named();
+        let n = f.second();
+        counted_parts(
+            frames,
+            s,
+            answers,
+            places,
+            n as u32,
+            Part::Member {
+                first: MemberNumber(m),
+                count: n,
+            },
+            first,
+            count,
+        )
+    } else {
+        by_type(frames, s, answers, places, ty, first, count)
     }
 }
