@@ -19,7 +19,7 @@ use ir::TypeInner;
 use ir::TypeNumber;
 use ir::TypeResolution;
 use ir::VectorSize;
-use out::again::answer;
+use operands::past::past;
 use rule::form_of;
 use type_methods::OptionBool;
 use type_methods::compare::compare_types;
@@ -292,7 +292,7 @@ fn judge_part(
     if part_shown(frames, s, asked, i, f) {
         OptionVerdict::None
     } else {
-        answer_verdict(frames, s, asked, i, answer(f))
+        answer_verdict(frames, s, asked, i, past(answers, places, n))
     }
 }
 
@@ -455,7 +455,7 @@ fn added_by(
         let size = VectorSize::from_number(g.b2);
         adds_scalar(i, same_scalar(g, scalar), size.number() as u32)
     } else {
-        answer_added(frames, s, scalar, i, answer(f))
+        answer_added(frames, s, scalar, i, past(answers, places, n))
     }
 }
 

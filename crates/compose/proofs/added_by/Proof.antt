@@ -33,9 +33,7 @@ returns-2 c =
 
 returns-3 : tie.Need-returns-3
 unfolding addedBy
-returns-3 c =
-    let g = c .before .before .before .before .before .before .before .before .before .before .before .args in
-    rw (c .answer-added .ensures, c .before .answer .ensures, c .before .before .before .before .before .before .before .past-frame .ensures, past-frame (g .answers .now) (g .places .now) (g .n))
+returns-3 c = rw (c .answer-added .ensures, c .before .past .ensures)
 
 pub added-by-spec : {M : Type 1} → statement M
 added-by-spec =

@@ -20,9 +20,7 @@ returns c =
 
 returns-2 : tie.Need-returns-2
 unfolding partJudged
-returns-2 c =
-    let g = c .before .before .before .before .before .before .before .before .args in
-    rw (c .answer-verdict .ensures, c .before .answer .ensures, c .before .before .before .before .past-frame .ensures, past-frame (g .answers .now) (g .places .now) (g .n))
+returns-2 c = rw (c .answer-verdict .ensures, c .before .past .ensures)
 
 pub judge-part-spec : {M : Type 1} → statement M
 judge-part-spec =
