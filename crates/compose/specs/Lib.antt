@@ -2,3 +2,4 @@ pub mod Verdict
 pub mod Rows
 pub mod Judged
 pub mod Cases
+pub mod Shown

@@ -3,13 +3,17 @@ use answers::Answer;
 use answers::Verdict;
 use archive::Starts;
 use archive::access::component_at;
+use archive::access::is_type;
 use archive::access::member_at;
 use archive::access::type_at;
+use frames::Frame;
+use frames::frame_at;
 use ir::ArraySize;
 use ir::ComponentNumber;
 use ir::MemberNumber;
 use ir::RowNumber;
 use ir::Scalar;
+use ir::ScalarKind;
 use ir::TypeForm;
 use ir::TypeInner;
 use ir::TypeNumber;
@@ -24,11 +28,13 @@ ghost use mathlib.Core.Path.{_≡_};
 ghost use mathlib.Core.Bool.{cond};
 ghost use mathlib.Core.Option.{none, some};
 ghost use Rattle.rule.specs.Answers.{resolved};
-ghost use Rattle.rule.specs.Things.{memberTypes};
+ghost use Rattle.rule.specs.Things.{memberTypes, formIn};
+ghost use Rattle.frames.specs.Bytes.{zeroFrame};
 ghost use Rattle.type_methods.specs.Comparison.{found};
 ghost use Rattle.row_rules.specs.Operators.{equalScalars};
 ghost use Rattle.compose.specs.Verdict.{verdict, byForm, eachPart, vectorParts, counted, arrayParts, adds};
-ghost use Rattle.compose.specs.Judged.{toJudged, judgedBy, partsIn, askedOf, columnSeen, memberType, partIs, partSaid, partJudged, countAdded, formAdded, addedBy};
+ghost use Rattle.compose.specs.Judged.{toJudged, judgedBy, partsIn, askedOf, columnSeen, memberType, partIs, partSaid, partVerdict, answerVerdict, partJudged, countAdded, formAdded, answerAdded, addedBy};
+ghost use Rattle.compose.specs.Shown.{pastFrame, typeFrame, formFrame, scalarIn, sameScalar, columnShown, isPlain, sameForm, samePointer, valueShown, typeShown, partShown};
 
 // What is asked of each component: that it is a column of a matrix, an element of an array, or the member of its index of a struct whose `count` members
 // begin at `first`.
@@ -56,6 +62,141 @@ fn equal_scalars(k: Scalar, j: Scalar) -> bool
     let a = k.kind;
     let b = j.kind;
     (a.number() == b.number()) & (k.width == j.width)
+}
+
+fn no_frame() -> Frame
+    ensures { λ r. ⌜ r ≡ zeroFrame ⌝ }
+{
+    Frame {
+        b0: 0,
+        b1: 0,
+        b2: 0,
+        b3: 0,
+        b4: 0,
+        b5: 0,
+        b6: 0,
+        b7: 0,
+        b8: 0,
+        b9: 0,
+        b10: 0,
+        b11: 0,
+        b12: 0,
+        b13: 0,
+        b14: 0,
+        b15: 0,
+    }
+}
+
+// The frame of row n's answer; zeros, which read as the fixed refusal, of a row that is not typed yet.
+fn past_frame(answers: &[u8], places: &[u16], n: RowNumber) -> Frame
+    ensures { λ r. ⌜ r ≡ pastFrame (now (answers .entry)) (now (places .entry)) n ⌝ }
+{
+    let i = n.0 as usize;
+    if i < places.len() {
+        let at = places[i] as usize;
+        frame_at(answers, at)
+    } else {
+        no_frame()
+    }
+}
+
+// The frame of type n; zeros, of unknown kind, where there is none.
+fn type_frame(frames: &[u8], s: Starts, n: TypeNumber) -> Frame
+    ensures { λ r. ⌜ r ≡ typeFrame (now (frames .entry)) s n ⌝ }
+{
+    if is_type(s, n) {
+        frame_at(frames, n.0 as usize)
+    } else {
+        no_frame()
+    }
+}
+
+// The frame of the form of an answer's type: of a number that type's, of a value its own.
+fn form_frame(frames: &[u8], s: Starts, f: Frame) -> Frame
+    ensures { λ r. ⌜ r ≡ formFrame (now (frames .entry)) s f ⌝ }
+{
+    if f.b0 == 8 {
+        let n = f.named();
+        type_frame(frames, s, TypeNumber(n))
+    } else if f.b0 == 9 {
+        f
+    } else {
+        no_frame()
+    }
+}
+
+// The scalar in bytes 4 and 5.
+fn scalar_of(f: Frame) -> Scalar
+    ensures { λ r. ⌜ r ≡ scalarIn f ⌝ }
+{
+    let kind = ScalarKind::from_number(f.b4);
+    Scalar { kind, width: f.b5 }
+}
+
+// Whether the scalar in bytes 4 and 5 is this one.
+fn same_scalar(f: Frame, scalar: Scalar) -> bool
+    ensures { λ r. ⌜ r ≡ sameScalar f scalar ⌝ }
+{
+    equal_scalars(scalar_of(f), scalar)
+}
+
+// Whether a frame is that of a vector of this size and scalar.
+fn column_shown(f: Frame, rows: VectorSize, scalar: Scalar) -> bool
+    ensures { λ r. ⌜ r ≡ columnShown f rows scalar ⌝ }
+{
+    let size = VectorSize::from_number(f.b2);
+    (f.b1 == 2) & ((size.number() == rows.number()) & same_scalar(f, scalar))
+}
+
+// Whether a frame is of a scalar, a vector or a matrix.
+fn is_plain(f: Frame) -> bool
+    ensures { λ r. ⌜ r ≡ isPlain f ⌝ }
+{
+    (f.b1 == 1) | ((f.b1 == 2) | (f.b1 == 3))
+}
+
+// Whether two frames are of the same scalar, vector or matrix.
+fn same_form(f: Frame, g: Frame) -> bool
+    ensures { λ r. ⌜ r ≡ sameForm f g ⌝ }
+{
+    is_plain(f)
+        & ((f.b1 == g.b1) & ((f.b2 == g.b2) & ((f.b3 == g.b3) & ((f.b4 == g.b4) & (f.b5 == g.b5)))))
+}
+
+// Whether the frame of a pointer and another are of the same pointer to a scalar, a vector or a matrix.
+fn same_pointer(frames: &[u8], s: Starts, f: Frame, g: Frame) -> bool
+    ensures { λ r. ⌜ r ≡ samePointer (now (frames .entry)) s f g ⌝ }
+{
+    if (g.b1 == 6) & ((f.b2 == g.b2) & ((f.b3 == g.b3) & ((f.b6 == g.b6) & (f.b7 == g.b7)))) {
+        let n = f.named();
+        is_plain(type_frame(frames, s, TypeNumber(n)))
+    } else {
+        false
+    }
+}
+
+// Whether the frames of a value and of a type show that they are the same.
+fn value_shown(frames: &[u8], s: Starts, f: Frame, g: Frame) -> bool
+    ensures { λ r. ⌜ r ≡ valueShown (now (frames .entry)) s f g ⌝ }
+{
+    if f.b1 == 6 {
+        same_pointer(frames, s, f, g)
+    } else {
+        same_form(f, g)
+    }
+}
+
+// Whether an answer's frame shows, without a comparison, that it is the same as type n.
+fn type_shown(frames: &[u8], s: Starts, n: TypeNumber, f: Frame) -> bool
+    ensures { λ r. ⌜ r ≡ typeShown (now (frames .entry)) s n f ⌝ }
+{
+    if f.b0 == 8 {
+        f.named() == n.0
+    } else if f.b0 == 9 {
+        value_shown(frames, s, f, type_frame(frames, s, n))
+    } else {
+        false
+    }
 }
 
 fn column_is(form: TypeForm, rows: VectorSize, scalar: Scalar) -> OptionBool
@@ -95,6 +236,20 @@ fn part_is(frames: &[u8], s: Starts, asked: Part, i: u32, t: TypeResolution) -> 
     }
 }
 
+// Whether the frame of component i's answer shows that it is as asked; where it does not, its type is looked into.
+fn part_shown(frames: &[u8], s: Starts, asked: Part, i: u32, f: Frame) -> bool
+    ensures { λ r. ⌜ r ≡ partShown (now (frames .entry)) s asked i f ⌝ }
+{
+    match asked {
+        Part::Column { rows, scalar } => column_shown(form_frame(frames, s, f), rows, scalar),
+        Part::Element(base) => type_shown(frames, s, base, f),
+        Part::Member { first, count } => {
+            let n = member_type(frames, s, first, count, i);
+            type_shown(frames, s, n, f)
+        }
+    }
+}
+
 fn part_verdict(i: u32, same: OptionBool) -> OptionVerdict
     ensures { λ r. ⌜ r ≡ partSaid i same ⌝ }
 {
@@ -110,6 +265,17 @@ fn part_verdict(i: u32, same: OptionBool) -> OptionVerdict
     }
 }
 
+// What component i decides by its row's answer.
+fn answer_verdict(frames: &[u8], s: Starts, asked: Part, i: u32, a: Answer) -> OptionVerdict
+    ensures { λ r. ⌜ r ≡ answerVerdict i (λ t. partVerdict i (partIs (now (frames .entry)) s asked i (resolved t))) a ⌝ }
+{
+    match a {
+        Answer::Resolved(t) => part_verdict(i, part_is(frames, s, asked, i, t)),
+        Answer::Refused(_) => OptionVerdict::Some(Verdict::ComponentRefused { index: i }),
+        Answer::Newer { row: _ } => OptionVerdict::Some(Verdict::NewerComponent { index: i }),
+    }
+}
+
 // What component i, which is row n, decides.
 fn judge_part(
     frames: &[u8],
@@ -122,10 +288,11 @@ fn judge_part(
 ) -> OptionVerdict
     ensures { λ r. ⌜ r ≡ partJudged (now (frames .entry)) s (now (answers .entry)) (now (places .entry)) asked i n ⌝ }
 {
-    match past(answers, places, n) {
-        Answer::Resolved(t) => part_verdict(i, part_is(frames, s, asked, i, t)),
-        Answer::Refused(_) => OptionVerdict::Some(Verdict::ComponentRefused { index: i }),
-        Answer::Newer { row: _ } => OptionVerdict::Some(Verdict::NewerComponent { index: i }),
+    let f = past_frame(answers, places, n);
+    if part_shown(frames, s, asked, i, f) {
+        OptionVerdict::None
+    } else {
+        answer_verdict(frames, s, asked, i, past(answers, places, n))
     }
 }
 
@@ -257,7 +424,18 @@ fn form_added(i: u32, scalar: Scalar, form: TypeForm) -> Added
     }
 }
 
-// What component i, which is row n, adds to a vector.
+// What component i adds to a vector by its row's answer.
+fn answer_added(frames: &[u8], s: Starts, scalar: Scalar, i: u32, a: Answer) -> Added
+    ensures { λ r. ⌜ r ≡ answerAdded i (λ t. formAdded i scalar (formIn (now (frames .entry)) s (resolved t))) a ⌝ }
+{
+    match a {
+        Answer::Resolved(t) => form_added(i, scalar, form_of(frames, s, t)),
+        Answer::Refused(_) => Added::Decided(Verdict::ComponentRefused { index: i }),
+        Answer::Newer { row: _ } => Added::Decided(Verdict::NewerComponent { index: i }),
+    }
+}
+
+// What component i, which is row n, adds to a vector; of a scalar or a vector its frame says it.
 fn added_by(
     frames: &[u8],
     s: Starts,
@@ -269,10 +447,15 @@ fn added_by(
 ) -> Added
     ensures { λ r. ⌜ r ≡ addedBy (now (frames .entry)) s (now (answers .entry)) (now (places .entry)) scalar i n ⌝ }
 {
-    match past(answers, places, n) {
-        Answer::Resolved(t) => form_added(i, scalar, form_of(frames, s, t)),
-        Answer::Refused(_) => Added::Decided(Verdict::ComponentRefused { index: i }),
-        Answer::Newer { row: _ } => Added::Decided(Verdict::NewerComponent { index: i }),
+    let f = past_frame(answers, places, n);
+    let g = form_frame(frames, s, f);
+    if g.b1 == 1 {
+        adds_scalar(i, same_scalar(g, scalar), 1)
+    } else if g.b1 == 2 {
+        let size = VectorSize::from_number(g.b2);
+        adds_scalar(i, same_scalar(g, scalar), size.number() as u32)
+    } else {
+        answer_added(frames, s, scalar, i, past(answers, places, n))
     }
 }
 
@@ -425,8 +608,8 @@ fn by_form(
     }
 }
 
-// The verdict on a compose of type `ty` from the `count` components from `first` on.
-pub fn judge(
+// By the composed type's form, whatever its kind.
+fn by_type(
     frames: &[u8],
     s: Starts,
     answers: &[u8],
@@ -440,5 +623,71 @@ pub fn judge(
     match type_at(frames, s, ty) {
         TypeForm::Known(t) => by_form(frames, s, answers, places, t, first, count),
         TypeForm::Unknown => Verdict::NewerComposed,
+    }
+}
+
+// The verdict on a compose of type `ty` from the `count` components from `first` on. What is asked of the components of a vector, a matrix, an array of
+// constant size and a struct is read from the type's frame.
+pub fn judge(
+    frames: &[u8],
+    s: Starts,
+    answers: &[u8],
+    places: &[u16],
+    ty: TypeNumber,
+    first: ComponentNumber,
+    count: u16,
+) -> Verdict
+    ensures { λ r. ⌜ toJudged r ≡ judgedBy (now (frames .entry)) s (now (answers .entry)) (now (places .entry)) (verdict ty (partsIn (now (frames .entry)) s first count)) ⌝ }
+{
+    let f = type_frame(frames, s, ty);
+    if f.b1 == 2 {
+        let size = VectorSize::from_number(f.b2);
+        let scalar = scalar_of(f);
+        vector_parts(frames, s, answers, places, size, scalar, first, count)
+    } else if f.b1 == 3 {
+        let columns = VectorSize::from_number(f.b2);
+        let rows = VectorSize::from_number(f.b3);
+        let scalar = scalar_of(f);
+        counted_parts(
+            frames,
+            s,
+            answers,
+            places,
+            columns.number() as u32,
+            Part::Column { rows, scalar },
+            first,
+            count,
+        )
+    } else if (f.b1 == 8) & (f.b4 == 0) {
+        let base = f.named();
+        let n = f.third();
+        counted_parts(
+            frames,
+            s,
+            answers,
+            places,
+            n,
+            Part::Element(TypeNumber(base)),
+            first,
+            count,
+        )
+    } else if f.b1 == 9 {
+        let m = f.named();
+        let n = f.second();
+        counted_parts(
+            frames,
+            s,
+            answers,
+            places,
+            n as u32,
+            Part::Member {
+                first: MemberNumber(m),
+                count: n,
+            },
+            first,
+            count,
+        )
+    } else {
+        by_type(frames, s, answers, places, ty, first, count)
     }
 }
