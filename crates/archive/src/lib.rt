@@ -1,10 +1,5 @@
-// Checks 4 to 6 over the frames of a file (document 01, "Numbers handed back"), and where each family begins.
-pub mod access;
-pub mod checks;
-pub mod families;
-mod names;
-pub mod order;
-mod parts;
+// Where each family of a file begins, and the parts that a frame holds. Checks 4 to 6 (document 01, "Numbers handed back"), what each frame names, and
+// types, members, items, rows and components by their numbers stand in specs/; crates order, families, names and checks have the code.
 
 // The lowest frame of each family after the types, and of each kind of items; types begin the file, and `end` is past its last frame.
 pub struct Starts {

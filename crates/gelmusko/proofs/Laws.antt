@@ -35,7 +35,7 @@ use Rattle.reader.specs.File.{overFile, readFile}
 use Rattle.reader.specs.Typing.{answersWritten, RowGiven, rowGiven, rowType, answersAfterRow, VerdictGiven, orNoCompose, verdictGiven, composeVerdict, ifJudged, answersAfterVerdict}
 use Rattle.reader.proofs.Laws.{count-decoded, accepted-when}
 use Rattle.pointer_forms.specs.Forms.{canonicalType, pointerBaseType}
-use Rattle.gelmusko.specs.Exported.{shortNumber, noRoom, byRoom, verdictGivenFrame}
+use Rattle.exported.specs.Exported.{shortNumber, noRoom, byRoom, verdictGivenFrame}
 
 -- AN OUT-SLICE THAT IS TOO SMALL
 

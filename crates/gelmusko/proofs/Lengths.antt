@@ -21,7 +21,7 @@ use Rattle.type_methods.specs.Comparison.{samenessOf, sameIn, sameType}
 use Rattle.type_methods.proofs.Laws.{left-five, left-six, right-five}
 use Rattle.reader.specs.File.{overFile, readFile}
 use Rattle.reader.specs.Types.{sameTypes}
-use Rattle.gelmusko.specs.Exported.{handedFrame}
+use Rattle.exported.specs.Exported.{handedFrame}
 
 pub zeros-for : (s : List ℕ) → (length s ≡ 16 → ⊥) → handedFrame s ≡ zeroFrame
 unfolding handedFrame

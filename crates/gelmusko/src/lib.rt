@@ -1,11 +1,10 @@
 // The public functions over a file, exported for C and Rust; include/gelmusko.h says what each takes and gives. Every one takes last an out-slice, which gets one frame of 16
 // bytes, and returns a number. No slice that is written may overlap another of the same call.
-mod put;
 pub mod rows;
 pub mod types;
 
-use put::no_room;
-use put::put_outcome;
+use exported::no_room;
+use exported::put_outcome;
 use reader::read_file;
 ghost use mathlib.Core.Path.{_≡_};
 ghost use lib.ListN.{length};
@@ -13,7 +12,7 @@ ghost use Rattle.text.specs.declared.AnswerRoom.the-variants.{NotLent};
 ghost use Rattle.frames.specs.Bytes.{putFrame};
 ghost use Rattle.frames.specs.Out.{outcomeFrame};
 ghost use Rattle.reader.specs.File.{readFile, framesAfter};
-ghost use Rattle.gelmusko.specs.Exported.{noRoom, byRoom, outcomeNumber};
+ghost use Rattle.exported.specs.Exported.{noRoom, byRoom, outcomeNumber};
 
 // Whether a file is accepted.
 #[no_mangle]

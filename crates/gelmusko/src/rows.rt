@@ -1,9 +1,9 @@
 // The rows of a file, and its composes.
-use super::put::clamped;
-use super::put::no_room;
-use super::put::put_outcome;
-use super::put::put_row;
-use super::put::put_verdict;
+use exported::clamped;
+use exported::no_room;
+use exported::put_outcome;
+use exported::put_row;
+use exported::put_verdict;
 use ir::RowNumber;
 use reader::rows::compose_verdict;
 use reader::rows::row_type;
@@ -15,7 +15,7 @@ ghost use Rattle.frames.specs.Bytes.{putFrame};
 ghost use Rattle.frames.specs.Out.{outcomeFrame};
 ghost use Rattle.reader.specs.File.{readFile, framesAfter};
 ghost use Rattle.reader.specs.Typing.{answersAfter, rowType, answersAfterRow, composeVerdict, answersAfterVerdict};
-ghost use Rattle.gelmusko.specs.Exported.{noRoom, byRoom, outcomeNumber, rowNumber, rowGivenFrame, verdictNumber, verdictGivenFrame};
+ghost use Rattle.exported.specs.Exported.{noRoom, byRoom, outcomeNumber, rowNumber, rowGivenFrame, verdictNumber, verdictGivenFrame};
 
 // Types every row of a file and judges every compose.
 #[no_mangle]

@@ -1,10 +1,10 @@
 // The types of a file: two compared, a canonical form, a pointer's base.
-use super::put::clamped;
-use super::put::handed_frame;
-use super::put::no_room;
-use super::put::put_base;
-use super::put::put_canonical;
-use super::put::put_sameness;
+use exported::clamped;
+use exported::handed_frame;
+use exported::no_room;
+use exported::put_base;
+use exported::put_canonical;
+use exported::put_sameness;
 use ir::TypeNumber;
 use pointer_forms::canonical_form;
 use pointer_forms::pointer_base;
@@ -17,7 +17,7 @@ ghost use Rattle.frames.specs.Bytes.{putFrame};
 ghost use Rattle.reader.specs.File.{framesAfter};
 ghost use Rattle.reader.specs.Types.{sameTypes};
 ghost use Rattle.pointer_forms.specs.Forms.{canonicalType, pointerBaseType};
-ghost use Rattle.gelmusko.specs.Exported.{noRoom, byRoom, saidNumber, saidFrame, typeSaidNumber, typeSaidFrame, handedFrame};
+ghost use Rattle.exported.specs.Exported.{noRoom, byRoom, saidNumber, saidFrame, typeSaidNumber, typeSaidFrame, handedFrame};
 
 // Whether two answers of a file, as frames of family 8 or 9, are the same type.
 #[no_mangle]

@@ -1,4 +1,3 @@
 pub mod Reader
 pub mod Ours
 pub mod ShutOut
-pub mod Worked

@@ -1,4 +1,2 @@
 // The rows that read one operand, by the rules of row_rules/specs/.
-pub mod access;
-pub mod images;
 pub mod operators;

@@ -1,18 +1,18 @@
 // What a rule reads: earlier answers, and the types of operands.
 use super::Based;
 use super::Looked;
+use again::answer;
 use answers::Answer;
 use answers::Refusal;
 use archive::Starts;
-use archive::access::type_at;
+use families::type_at;
+use forms::form_of;
 use frames::frame_at;
 use ir::AddressSpace;
 use ir::RowNumber;
 use ir::TypeForm;
 use ir::TypeInner;
 use ir::TypeNumber;
-use out::again::answer;
-use rule::form_of;
 ghost use mathlib.Core.Path.{_≡_};
 ghost use Rattle.operands.specs.Past.{answerIn, lookedAt, lookedIn, basedOn, basedAt, basedIn};
 

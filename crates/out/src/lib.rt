@@ -1,3 +1,2 @@
-// What is handed back, written as frames and read again (document 01, the end of "The file").
-pub mod again;
+// What is handed back, written as frames (document 01, the end of "The file"); crate type_frames has its types, and crate again reads it.
 pub mod write;

@@ -1,12 +1,11 @@
 // Pointer forms over a file: the canonical form of a type, and a pointer's base. Each checks the file first (document 01, "Numbers handed back").
 use answers::CanonicalType;
 use answers::PointerBase;
-use archive::families::find_starts;
+use families::find_starts;
 use ir::TypeNumber;
 use reader::OptionUsize;
 use reader::frames_in;
 use reader::read_file;
-use type_methods::pointers;
 ghost use mathlib.Core.Path.{_≡_};
 ghost use lib.ListN.{length};
 ghost use Rattle.text.specs.declared.AnswerRoom.the-variants.{NotLent};

@@ -4,12 +4,11 @@ pub mod rows;
 
 use answers::Outcome;
 use answers::Sameness;
-use archive::checks::check_frames;
-use archive::families::find_starts;
+use checks::check_frames;
+use decoding::read_text;
+use families::find_starts;
 use frames::Frame;
 use text::AnswerRoom;
-use text::read_text;
-use type_methods::compare;
 ghost use mathlib.Core.Path.{_≡_};
 ghost use lib.ListN.{length};
 ghost use Rattle.text.specs.declared.AnswerRoom.the-variants.{NotLent};
@@ -68,7 +67,7 @@ pub fn same_type(text: &[u8], frames: &mut [u8], left: Frame, right: Frame) -> S
         OptionUsize::Some(n) => {
             let m = 16 * n;
             let s = find_starts(&frames[..m]);
-            compare::same_type(&frames[..m], s, left, right)
+            frame_comparison::same_type(&frames[..m], s, left, right)
         }
     }
 }

@@ -1,4 +1,3 @@
 // What follows for a row from the forms that its rule has looked into: the source's ResolveContext::resolve (proc/typifier.rs), arm by arm.
-// Here Access, AccessIndex, Splat and Swizzle.
+// Here Access, Splat and Swizzle.
 pub mod access;
-pub mod access_index;

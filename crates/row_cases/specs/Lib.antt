@@ -1,4 +1,2 @@
 pub mod Lines
-pub mod AccessCases
-pub mod Cases
 pub mod Reads

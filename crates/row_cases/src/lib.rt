@@ -1,1 +1,1 @@
-// No code: worked files with the types of their rows, and the table of what each row reads, stand in specs/, and one proof over each in proofs/.
+// No code: the lines that worked files are written in, and the table of what each row reads, stand in specs/, and the proof over the table in proofs/.

@@ -1,6 +1,2 @@
-// What follows for a row from the forms that its rule has looked into: the source's ResolveContext::resolve (proc/typifier.rs), arm by arm.
-// Here literals, variables, images and results. The rules of all rows stand in specs/.
-pub mod images;
-pub mod results;
-pub mod values;
-pub mod variables;
+// The rules of rows, in specs/: the source's ResolveContext::resolve (proc/typifier.rs), arm by arm. Crates row_values, row_variables, row_results,
+// row_images, row_access and row_operators have the code of what follows from the forms that a rule has looked into.

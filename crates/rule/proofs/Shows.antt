@@ -12,6 +12,7 @@ use Rattle.ir.specs.declared.TypeNumber.{TypeNumber}
 use Rattle.ir.specs.declared.RowNumber.{RowNumber}
 use Rattle.ir.specs.declared.StorageFormat.{StorageFormat}
 use Rattle.ir.specs.declared.StorageAccess.{StorageAccess}
+use Rattle.ir.specs.declared.ArraySize.the-variants as As
 use Rattle.ir.specs.declared.ImageClass.{ImageClass}
 use Rattle.ir.specs.declared.ImageClass.the-variants as Ic
 use Rattle.ir.specs.declared.TypeInner.{TypeInner}
@@ -74,6 +75,13 @@ module _ (fr : List ℕ) where
   faulty-newer (number n) d = number-faulty n (isType (startsOf fr) n) refl d
   faulty-newer (value t) d = value-faulty t (valueFault (startsOf fr) t) d
   faulty-newer (malformed f) d = refl
+
+  -- 5 comes before 6: a count of 0 is number 5, whatever the base names
+  pub count-first : (b : TypeNumber) (stride : ℕ) → faultOf (startsOf fr) (value (Ti.Array b (As.Constant 0) stride)) ≡ Fa.Field
+  count-first b stride = refl
+
+  pub binding-count-first : (b : TypeNumber) → faultOf (startsOf fr) (value (Ti.BindingArray b (As.Constant 0))) ≡ Fa.Field
+  binding-count-first b = refl
 
   -- and a value that gets neither shows itself
   pub value-shows : (t : TypeInner) → valueFault (startsOf fr) t ≡ Fa.Sound → see fr (form (value t)) ≡ some (record { inner = t; members = [] })

@@ -1,3 +1,2 @@
 // The types of rows: the source's ResolveContext::resolve (proc/typifier.rs), by the rules of row_rules/specs/.
-mod operators;
 pub mod resolve;

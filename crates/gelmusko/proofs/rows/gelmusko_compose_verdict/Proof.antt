@@ -3,7 +3,7 @@ use mathlib.Core.Path.{ap, _∙_}
 use Rattle.gelmusko.proofs.Laws.{is-small, has-room, not-put, verdict-clamped, judged-clamped, frame-clamped}
 use Rattle.frames.specs.Bytes.{putFrame}
 use lib.ListN.{length}
-use Rattle.gelmusko.specs.Exported.{verdictNumber, verdictGivenFrame}
+use Rattle.exported.specs.Exported.{verdictNumber, verdictGivenFrame}
 use borrow.Author.Needs.{needs}
 use Rattle.gelmusko.proofs.rows.gelmusko_compose_verdict.Statement.{statement}
 use Rattle.gelmusko.proofs.rows.gelmusko_compose_verdict.Tie as tie

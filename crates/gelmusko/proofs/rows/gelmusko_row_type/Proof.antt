@@ -3,7 +3,7 @@ use mathlib.Core.Path.{ap, _∙_}
 use Rattle.gelmusko.proofs.Laws.{is-small, has-room, not-put, row-clamped, answers-clamped}
 use Rattle.frames.specs.Bytes.{putFrame}
 use lib.ListN.{length}
-use Rattle.gelmusko.specs.Exported.{rowNumber, rowGivenFrame}
+use Rattle.exported.specs.Exported.{rowNumber, rowGivenFrame}
 use borrow.Author.Needs.{needs}
 use Rattle.gelmusko.proofs.rows.gelmusko_row_type.Statement.{statement}
 use Rattle.gelmusko.proofs.rows.gelmusko_row_type.Tie as tie

@@ -2,7 +2,7 @@
 use mathlib.Core.Path.{ap, _∙_}
 use Rattle.gelmusko.proofs.Laws.{is-small, has-room, not-put}
 use Rattle.frames.specs.Bytes.{putFrame}
-use Rattle.gelmusko.specs.Exported.{outcomeNumber}
+use Rattle.exported.specs.Exported.{outcomeNumber}
 use Rattle.frames.specs.Out.{outcomeFrame}
 use borrow.Author.Needs.{needs}
 use Rattle.gelmusko.proofs.rows.gelmusko_type_rows.Statement.{statement}

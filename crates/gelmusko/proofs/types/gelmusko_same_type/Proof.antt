@@ -3,7 +3,7 @@ use mathlib.Core.Path.{ap, _∙_}
 use Rattle.gelmusko.proofs.Laws.{is-small, has-room, not-put}
 use Rattle.frames.specs.Bytes.{putFrame}
 use lib.ListN.{length}
-use Rattle.gelmusko.specs.Exported.{saidNumber, saidFrame, handedFrame}
+use Rattle.exported.specs.Exported.{saidNumber, saidFrame, handedFrame}
 use Rattle.answers.specs.Numbers.{samenessSaid}
 use Rattle.answers.specs.declared.Sameness.{Sameness}
 use Rattle.frames.specs.declared.Frame.{Frame}

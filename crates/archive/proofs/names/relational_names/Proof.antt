@@ -1,8 +1,0 @@
--- `relational_names`: each arm knows its case, and what its calls ensure. Assumes nothing.
-use Rattle.archive.proofs.names.relational_names.Statement.{statement}
-use Rattle.archive.proofs.names.relational_names.Tie as tie
-
-pub relational-names-spec : {M : Type 1} → statement M
-relational-names-spec =
-    tie.close
-    (tie.spec (λ c. c .match .keys1) (λ c. c .match .keys2) (λ c. c .match .keys3) (λ c κs. tt) (λ c. c .match .keys4) (λ c κs. tt) (λ c. rw (c .enum-told .given .1)) (λ c. rw (c .enum-told2 .given .1)) (λ c. rw (c .before .enum-told3 .given .1, c .is-earlier .ensures)) (λ c. rw (c .before .enum-told4 .given .1, c .is-earlier2 .ensures)))

@@ -1,0 +1,113 @@
+// The comparison of two types, by their canonical forms.
+use archive::Starts;
+use canonical::canonical_of;
+use equality::equal_types;
+use equality::identical;
+use families::type_at;
+use ir::TypeForm;
+use ir::TypeInner;
+use ir::TypeResolution;
+use type_methods::OptionBool;
+ghost use mathlib.Core.Path.{_≡_};
+ghost use Rattle.rule.specs.Answers.{resolved, nowhere};
+ghost use Rattle.rule.specs.Rule.{done};
+ghost use Rattle.rule.specs.Things.{isStructInner, isStructForm, isStruct};
+ghost use Rattle.type_methods.specs.Comparison.{compare, given, optional, found, byForms};
+
+fn is_struct_inner(t: TypeInner) -> bool
+    ensures { λ r. ⌜ r ≡ isStructInner t ⌝ }
+{
+    match t {
+        TypeInner::Scalar(_) => false,
+        TypeInner::Vector { size: _, scalar: _ } => false,
+        TypeInner::Matrix {
+            columns: _,
+            rows: _,
+            scalar: _,
+        } => false,
+        TypeInner::CooperativeMatrix {
+            columns: _,
+            rows: _,
+            scalar: _,
+            role: _,
+        } => false,
+        TypeInner::Atomic(_) => false,
+        TypeInner::Pointer { base: _, space: _ } => false,
+        TypeInner::ValuePointer {
+            size: _,
+            scalar: _,
+            space: _,
+        } => false,
+        TypeInner::Array {
+            base: _,
+            size: _,
+            stride: _,
+        } => false,
+        TypeInner::Struct {
+            first: _,
+            count: _,
+            span: _,
+        } => true,
+        TypeInner::Image {
+            dim: _,
+            arrayed: _,
+            class: _,
+        } => false,
+        TypeInner::Sampler { comparison: _ } => false,
+        TypeInner::AccelerationStructure { vertex_return: _ } => false,
+        TypeInner::RayQuery { vertex_return: _ } => false,
+        TypeInner::BindingArray { base: _, size: _ } => false,
+    }
+}
+
+fn is_struct_form(form: TypeForm) -> bool
+    ensures { λ r. ⌜ r ≡ isStructForm form ⌝ }
+{
+    match form {
+        TypeForm::Known(t) => is_struct_inner(t),
+        TypeForm::Unknown => false,
+    }
+}
+
+// Whether a type is the number of a struct.
+pub fn is_struct(frames: &[u8], s: Starts, t: TypeResolution) -> bool
+    ensures { λ r. ⌜ r ≡ isStruct (now (frames .entry)) s (resolved t) ⌝ }
+{
+    match t {
+        TypeResolution::Handle(n) => is_struct_form(type_at(frames, s, n)),
+        TypeResolution::Value(_) => false,
+    }
+}
+
+fn to_right(t: TypeInner, right: TypeForm) -> OptionBool
+    ensures { λ r. ⌜ r ≡ found (byForms (TypeForm.Known t) right) ⌝ }
+{
+    match right {
+        TypeForm::Known(u) => OptionBool::Some(equal_types(t, u)),
+        TypeForm::Unknown => OptionBool::None,
+    }
+}
+
+fn by_forms(left: TypeForm, right: TypeForm) -> OptionBool
+    ensures { λ r. ⌜ r ≡ found (byForms left right) ⌝ }
+{
+    match left {
+        TypeForm::Known(t) => to_right(t, right),
+        TypeForm::Unknown => OptionBool::None,
+    }
+}
+
+// Whether two types are the same: identical ones are, the number of a struct is no other type, else canonical forms are compared.
+pub fn compare_types(frames: &[u8], s: Starts, a: TypeResolution, b: TypeResolution) -> OptionBool
+    ensures { λ r. ⌜ r ≡ optional (given (now (frames .entry)) s (compare nowhere (resolved a) (resolved b) done)) ⌝ }
+{
+    if identical(a, b) {
+        OptionBool::Some(true)
+    } else {
+        if is_struct(frames, s, a) | is_struct(frames, s, b) {
+            OptionBool::Some(false)
+        } else {
+            by_forms(canonical_of(frames, s, a), canonical_of(frames, s, b))
+        }
+    }
+}

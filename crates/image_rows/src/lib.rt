@@ -1,0 +1,104 @@
+// ImageSample, ImageLoad and ImageQuery.
+use answers::Answer;
+use archive::Starts;
+use ir::ImageQuery;
+use ir::RowNumber;
+use ir::Scalar;
+use operands::Looked;
+use operands::past::look_into;
+use row_images::gathered_of;
+use row_images::image_size_of;
+use row_images::sampled_from;
+use row_values::scalar_type;
+ghost use mathlib.Core.Path.{_≡_};
+ghost use Rattle.row_rules.specs.Steps.{byType};
+ghost use Rattle.row_rules.specs.Images.{gathered, sampled, imageSample, imageSizeOf, imageQuery};
+ghost use Rattle.row_rules.specs.Answered.{toResult};
+ghost use Rattle.operands.specs.Past.{ruled};
+
+fn gathered(
+    frames: &[u8],
+    s: Starts,
+    answers: &[u8],
+    places: &[u16],
+    here: RowNumber,
+    image: RowNumber,
+) -> Answer
+    ensures { λ r. ⌜ toResult r ≡ ruled (now (frames .entry)) s (now (answers .entry)) (now (places .entry)) (gathered here image) ⌝ }
+{
+    match look_into(frames, s, answers, places, here, image) {
+        Looked::Seen(inner) => gathered_of(image, inner),
+        Looked::Ended(answer) => answer,
+    }
+}
+
+// A sample without gather, and a load.
+pub fn sampled(
+    frames: &[u8],
+    s: Starts,
+    answers: &[u8],
+    places: &[u16],
+    here: RowNumber,
+    image: RowNumber,
+) -> Answer
+    ensures { λ r. ⌜ toResult r ≡ ruled (now (frames .entry)) s (now (answers .entry)) (now (places .entry)) (sampled here image) ⌝ }
+{
+    match look_into(frames, s, answers, places, here, image) {
+        Looked::Seen(inner) => sampled_from(here, image, inner),
+        Looked::Ended(answer) => answer,
+    }
+}
+
+pub fn image_sample(
+    frames: &[u8],
+    s: Starts,
+    answers: &[u8],
+    places: &[u16],
+    here: RowNumber,
+    image: RowNumber,
+    gather: bool,
+) -> Answer
+    ensures { λ r. ⌜ toResult r ≡ ruled (now (frames .entry)) s (now (answers .entry)) (now (places .entry)) (imageSample here image gather) ⌝ }
+{
+    if gather {
+        gathered(frames, s, answers, places, here, image)
+    } else {
+        sampled(frames, s, answers, places, here, image)
+    }
+}
+
+fn image_size(
+    frames: &[u8],
+    s: Starts,
+    answers: &[u8],
+    places: &[u16],
+    here: RowNumber,
+    image: RowNumber,
+) -> Answer
+    ensures { λ r. ⌜ toResult r ≡ ruled (now (frames .entry)) s (now (answers .entry)) (now (places .entry)) (byType here image (imageSizeOf image)) ⌝ }
+{
+    match look_into(frames, s, answers, places, here, image) {
+        Looked::Seen(inner) => image_size_of(image, inner),
+        Looked::Ended(answer) => answer,
+    }
+}
+
+// A size reads the image; the other queries read nothing.
+pub fn image_query(
+    frames: &[u8],
+    s: Starts,
+    answers: &[u8],
+    places: &[u16],
+    here: RowNumber,
+    image: RowNumber,
+    query: ImageQuery,
+) -> Answer
+    ensures { λ r. ⌜ toResult r ≡ ruled (now (frames .entry)) s (now (answers .entry)) (now (places .entry)) (imageQuery here image query) ⌝ }
+{
+    match query {
+        ImageQuery::Size => image_size(frames, s, answers, places, here, image),
+        ImageQuery::NumLevels => scalar_type(Scalar::U32),
+        ImageQuery::NumLayers => scalar_type(Scalar::U32),
+        ImageQuery::NumSamples => scalar_type(Scalar::U32),
+    }
+}

@@ -1,7 +1,0 @@
--- `number_frame`: the bytes that its calls ensure. Assumes nothing.
-use borrow.Author.Needs.{needs}
-use Rattle.out.proofs.write.number_frame.Statement.{statement}
-use Rattle.out.proofs.write.number_frame.Tie as tie
-
-pub number-frame-spec : {M : Type 1} → statement M
-number-frame-spec = tie.close (tie.spec (λ c κs. search needs) (λ c κs. search needs) (λ c κs. search needs) (λ c. rw (c .packed .ensures, c .before .high .ensures, c .before .before .low .ensures)))

@@ -1,0 +1,2 @@
+pub mod AccessCases
+pub mod Cases

@@ -1,8 +1,0 @@
--- `product`: each arm knows its case, and what its calls ensure. Assumes nothing.
-use Rattle.row_operators.proofs.multiply.product.Statement.{statement}
-use Rattle.row_operators.proofs.multiply.product.Tie as tie
-
-pub product-spec : {M : Type 1} → statement M
-product-spec =
-    tie.close
-    (tie.spec (λ c. c .match .keys1) (λ c. c .match .keys2) (λ c κs. tt) (λ c. c .match .keys3) (λ c κs. tt) (λ c. c .match .keys4) (λ c κs. tt) (λ c. c .match .keys5) (λ c κs. tt) (λ c. c .match .keys6) (λ c κs. tt) (λ c. c .match .keys7) (λ c κs. tt) (λ c. c .match .keys8) (λ c κs. tt) (λ c. c .match .keys9) (λ c κs. tt) (λ c. c .match .keys10) (λ c κs. tt) (λ c. c .match .keys11) (λ c κs. tt) (λ c. c .match .keys12) (λ c κs. tt) (λ c. c .match .keys13) (λ c κs. tt) (λ c. c .match .keys14) (λ c κs. tt) (λ c. rw (c .enum-told .given .1)) (λ c. rw (c .before .enum-told2 .given .1, c .vector-times .ensures)) (λ c. rw (c .before .before .left .given .1, c .matrix-times .ensures)) (λ c. rw (c .before .before .left2 .given .1, c .cooperative-times .ensures)) (λ c. rw (c .before .enum-told3 .given .1, c .times-scalar .ensures)) (λ c. rw (c .before .enum-told4 .given .1, c .times-scalar2 .ensures)) (λ c. rw (c .before .enum-told5 .given .1, c .times-scalar3 .ensures)) (λ c. rw (c .before .enum-told6 .given .1, c .times-scalar4 .ensures)) (λ c. rw (c .before .enum-told7 .given .1, c .times-scalar5 .ensures)) (λ c. rw (c .before .enum-told8 .given .1, c .times-scalar6 .ensures)) (λ c. rw (c .before .enum-told9 .given .1, c .times-scalar7 .ensures)) (λ c. rw (c .before .enum-told10 .given .1, c .times-scalar8 .ensures)) (λ c. rw (c .before .enum-told11 .given .1, c .times-scalar9 .ensures)) (λ c. rw (c .before .enum-told12 .given .1, c .times-scalar10 .ensures)))
