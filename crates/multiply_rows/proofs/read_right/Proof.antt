@@ -3,8 +3,8 @@ use mathlib.Core.Path.{sym, ap, _∙_}
 use Rattle.rule.specs.Answers.{resolved}
 use Rattle.row_rules.specs.Answered.{toResult}
 use Rattle.operands.specs.Past.{rightRead}
-use Rattle.operator_rows.proofs.read_right.Statement.{statement}
-use Rattle.operator_rows.proofs.read_right.Tie as tie
+use Rattle.multiply_rows.proofs.read_right.Statement.{statement}
+use Rattle.multiply_rows.proofs.read_right.Tie as tie
 
 pub read-right-spec : {M : Type 1} → statement M
 read-right-spec =

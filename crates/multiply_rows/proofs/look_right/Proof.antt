@@ -2,8 +2,8 @@
 use mathlib.Core.Path.{sym, ap, _∙_}
 use Rattle.rule.specs.Answers.{resolved}
 use Rattle.operands.specs.Past.{rightBy}
-use Rattle.operator_rows.proofs.look_right.Statement.{statement}
-use Rattle.operator_rows.proofs.look_right.Tie as tie
+use Rattle.multiply_rows.proofs.look_right.Statement.{statement}
+use Rattle.multiply_rows.proofs.look_right.Tie as tie
 
 pub look-right-spec : {M : Type 1} → statement M
 look-right-spec =

@@ -3,8 +3,8 @@ use mathlib.Core.Path.{sym, ap, _∙_}
 use Rattle.row_rules.specs.Answered.{toResult}
 use Rattle.operands.specs.Past.{answerIn, leftRead}
 use Rattle.operands.proofs.Steps.{multiply-run}
-use Rattle.operator_rows.proofs.multiply.Statement.{statement}
-use Rattle.operator_rows.proofs.multiply.Tie as tie
+use Rattle.multiply_rows.proofs.multiply.Statement.{statement}
+use Rattle.multiply_rows.proofs.multiply.Tie as tie
 
 pub multiply-spec : {M : Type 1} → statement M
 multiply-spec =

@@ -2,8 +2,8 @@
 use mathlib.Core.Path.{sym, ap, _∙_}
 use Rattle.rule.specs.Answers.{resolved}
 use Rattle.operands.specs.Past.{leftBy}
-use Rattle.operator_rows.proofs.look_left.Statement.{statement}
-use Rattle.operator_rows.proofs.look_left.Tie as tie
+use Rattle.multiply_rows.proofs.look_left.Statement.{statement}
+use Rattle.multiply_rows.proofs.look_left.Tie as tie
 
 pub look-left-spec : {M : Type 1} → statement M
 look-left-spec =
