@@ -72,6 +72,12 @@ module _ {t fr an last out : List ℕ} {r : TypedFile} (h : HandsBack t fr an r 
       ap (overFile outcomeText outputText t) (sym (largest h ef ea) ∙ h .outcome) ∙ sym (handed-over h en outcomeText (λ (x y : List ℕ). textOf y (frameCount y)))
 
 -- ALL OF IT FITS into 67,584 bytes, which is 2,048 lines: a file has at most 1,024 rows, and at most two frames are handed back of each
+pub few-outputs : (t : List ℕ) (f a n : ℕ) → readFile t f (Lent a) ≡ Accepted n → frameCount (outputBytes (decoded t n)) ≤ 2048
+few-outputs t f a n e =
+    let fr = decoded t n in
+    let all = rowCount (startsOf fr) in
+    omega (arith, bytes-length (outputs (see fr) all), two-a-row (see fr) all, few-rows fr a (ready-of t f a n e))
+
 lines-long : (b : List ℕ) (n : ℕ) → length (textOf b n) ≡ 33 * n
 lines-long b n = length-build (charOf b) (33 * n)
 
@@ -80,11 +86,7 @@ unfolding typedText
 text-fits t = go (readFile t 16384 (Lent 32768)) refl
   where
     go : (o : Outcome) → readFile t 16384 (Lent 32768) ≡ o → length (overFile outcomeText outputText t o) ≤ 67584
-    go (Accepted n) e =
-        let fr = decoded t n in
-        let r = ready-of t 16384 32768 n e in
-        let all = rowCount (startsOf fr) in
-        omega (arith, lines-long (outputBytes fr) (frameCount (outputBytes fr)), bytes-length (outputs (see fr) all), two-a-row (see fr) all, few-rows fr 32768 r)
+    go (Accepted n) e = let fr = decoded t n in omega (arith, lines-long (outputBytes fr) (frameCount (outputBytes fr)), few-outputs t 16384 32768 n e)
     go Long e = omega (arith, lines-long (bytesOf (outcomeFrame Long)) 1)
     go (Torn k) e = omega (arith, lines-long (bytesOf (outcomeFrame (Torn k))) 1)
     go Short e = omega (arith, lines-long (bytesOf (outcomeFrame Short)) 1)
