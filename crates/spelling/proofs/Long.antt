@@ -32,6 +32,10 @@ by-cond : {A : Type 0} (P : A → Type 0) (b : Bool) (x y : A) → P x → P y �
 by-cond P true x y h k = h
 by-cond P false x y h k = k
 
+-- a piece, and others after it
+more : (p : ℕ) (l : List ℕ) (m a b : ℕ) → Piece p a → Pieces l b → leb (a + b) m ≡ true → Pieces (p ∷ l) m
+more p l m a b h k e = simp piece-long (omega (arith, leb-true (a + b) m e))
+
 -- a word of the table
 word-long : (w m : ℕ) → leb (length (pieceBytes w)) m ≡ true → Piece w m
 word-long w m e = leb-true (length (pieceBytes w)) m e
@@ -93,7 +97,7 @@ unfolding brief pieceBytes wordBytes W.table
 brief-long f n =
     by-cond (ShortLong 59) (eqb (f .b1) 1) _ _ (omega (arith, vector-long 0 (f .b4) (f .b5)))
     (by-cond (ShortLong 59) (eqb (f .b1) 2) _ _ (omega (arith, vector-long (f .b2) (f .b4) (f .b5)))
-    (by-cond (ShortLong 59) (eqb (f .b1) 3) _ _ (around-long W.mat (num (f .b2)) W.x (num (f .b3)) W.less (f .b4) (f .b5) W.more 59 (omega (arith, number-long (f .b2), number-long (f .b3))))
+    (by-cond (ShortLong 59) (eqb (f .b1) 3) _ _ (around-long _ _ _ _ _ _ _ _ 59 (omega (arith, number-long (f .b2), number-long (f .b3))))
     (by-cond (ShortLong 59) (eqb (f .b1) 5) _ _ (around-long W.atomic W.none W.none W.none W.none (f .b4) (f .b5) W.more 59 (omega arith))
     (simp (piece-long, none-long) (omega (arith, number-long n))))))
 
@@ -190,63 +194,26 @@ manner-long : (flag : ℕ) → Piece (manner flag) 21
 unfolding manner pieceBytes wordBytes W.table
 manner-long flag = by-cond (λ p. Piece p 21) (eqb flag 1) _ _ (omega arith) (omega arith)
 
--- what follows the words of a refusal
-abbrev after19 : Frame → List ℕ
-after19 f = cond (eqb (f .b1) 19) (num (word f 4) ∷ []) []
-
-abbrev after13 : Frame → List ℕ
-after13 f = cond (ltb (f .b1) 17) (num (half f 2) ∷ []) (after19 f)
-
-abbrev after11 : Frame → List ℕ
-after11 f = cond (ltb (f .b1) 13) (num (half f 2) ∷ manner (f .b8) ∷ []) (after13 f)
-
-abbrev after10 : Frame → List ℕ
-after10 f = cond (eqb (f .b1) 10) (num (half f 2) ∷ W.index ∷ num (word f 4) ∷ []) (after11 f)
-
-after-long : (f : Frame) → Pieces (after10 f) 31
-unfolding pieceBytes wordBytes W.table
-after-long f =
-    by-cond (λ l. Pieces l 31) (eqb (f .b1) 10) _ (after11 f) (simp (piece-long, none-long) (omega (arith, number-long (half f 2), number-long (word f 4))))
-    (by-cond (λ l. Pieces l 31) (ltb (f .b1) 13) _ (after13 f) (simp (piece-long, none-long) (omega (arith, number-long (half f 2), manner-long (f .b8))))
-    (by-cond (λ l. Pieces l 31) (ltb (f .b1) 17) _ (after19 f) (simp (piece-long, none-long) (omega (arith, number-long (half f 2))))
-    (by-cond (λ l. Pieces l 31) (eqb (f .b1) 19) _ [] (simp (piece-long, none-long) (omega (arith, number-long (word f 4)))) (simp none-long (omega arith)))))
-
 refusal-long : (f : Frame) → TypeLong (refusal f)
 unfolding refusal pieceBytes wordBytes W.table longest
 refusal-long f =
-    by-cond TypeLong (eqb (f .b1) 22) _ (W.refused ∷ num (f .b1) ∷ picked W.reason 10 11 (f .b1) ∷ after10 f) (simp (piece-long, none-long) (omega (arith, number-long (half f 2))))
-    (simp piece-long (omega (arith, number-long (f .b1), picked-long W.reason 10 11 (f .b1) 39 refl refl, after-long f)))
-
--- what follows the first word of a verdict
-abbrev parts32 : Frame → List ℕ
-parts32 f = cond (ltb 31 (f .b1)) (num (word f 4) ∷ []) []
-
-abbrev parts31 : Frame → List ℕ
-parts31 f = cond (eqb (f .b1) 31) (num (word f 4) ∷ W.given ∷ num (word f 8) ∷ []) (parts32 f)
-
-parts-long : (f : Frame) → Pieces (parts31 f) 28
-unfolding pieceBytes wordBytes W.table
-parts-long f =
-    by-cond (λ l. Pieces l 28) (eqb (f .b1) 31) _ (parts32 f) (simp (piece-long, none-long) (omega (arith, number-long (word f 4), number-long (word f 8))))
-    (by-cond (λ l. Pieces l 28) (ltb 31 (f .b1)) _ [] (simp (piece-long, none-long) (omega (arith, number-long (word f 4)))) (simp none-long (omega arith)))
-
-abbrev numbered : Frame → List ℕ
-numbered f = num (f .b1) ∷ picked W.judged 30 4 (f .b1) ∷ parts31 f
-
-abbrev newer : Frame → List ℕ
-newer f = cond (eqb (word f 4) 0xffff_ffff) (W.newerWhole ∷ []) (W.newerPart ∷ num (word f 4) ∷ [])
-
-verdict-long : (f : Frame) → Pieces (cond (eqb (f .b1) 0) (W.passes ∷ []) (cond (eqb (f .b1) 22) (newer f) (numbered f))) 69
-unfolding pieceBytes wordBytes W.table longest
-verdict-long f =
-    by-cond (λ l. Pieces l 69) (eqb (f .b1) 0) _ (cond (eqb (f .b1) 22) (newer f) (numbered f)) (simp (piece-long, none-long) (omega arith))
-    (by-cond (λ l. Pieces l 69) (eqb (f .b1) 22) (newer f) (numbered f)
-    (by-cond (λ l. Pieces l 69) (eqb (word f 4) 0xffff_ffff) _ _ (simp (piece-long, none-long) (omega arith)) (simp (piece-long, none-long) (omega (arith, number-long (word f 4)))))
-    (simp piece-long (omega (arith, number-long (f .b1), picked-long W.judged 30 4 (f .b1) 31 refl refl, parts-long f))))
+    by-cond TypeLong (eqb (f .b1) 22) _ _ (simp (piece-long, none-long) (omega (arith, number-long (half f 2))))
+    (more _ _ _ 8 80 (omega arith) (more _ _ _ 10 70 (number-long (f .b1)) (more _ _ _ 39 31 (picked-long W.reason 10 11 (f .b1) 39 refl refl)
+    (by-cond (λ l. Pieces l 31) (eqb (f .b1) 10) _ _ (simp (piece-long, none-long) (omega (arith, number-long (half f 2), number-long (word f 4))))
+    (by-cond (λ l. Pieces l 31) (ltb (f .b1) 13) _ _ (simp (piece-long, none-long) (omega (arith, number-long (half f 2), manner-long (f .b8))))
+    (by-cond (λ l. Pieces l 31) (ltb (f .b1) 17) _ _ (simp (piece-long, none-long) (omega (arith, number-long (half f 2))))
+    (by-cond (λ l. Pieces l 31) (eqb (f .b1) 19) _ _ (simp (piece-long, none-long) (omega (arith, number-long (word f 4)))) (simp none-long (omega arith)))))) refl) refl) refl)
 
 judged-long : (f : Frame) → TypeLong (judged f)
-unfolding judged pieceBytes wordBytes W.table
-judged-long f = simp piece-long (omega (arith, verdict-long f))
+unfolding judged pieceBytes wordBytes W.table longest
+judged-long f =
+    more _ _ _ 9 69 (omega arith)
+    (by-cond (λ l. Pieces l 69) (eqb (f .b1) 0) _ _ (simp (piece-long, none-long) (omega arith))
+    (by-cond (λ l. Pieces l 69) (eqb (f .b1) 22) _ _
+    (by-cond (λ l. Pieces l 69) (eqb (word f 4) 0xffff_ffff) _ _ (simp (piece-long, none-long) (omega arith)) (simp (piece-long, none-long) (omega (arith, number-long (word f 4)))))
+    (more _ _ _ 10 59 (number-long (f .b1)) (more _ _ _ 31 28 (picked-long W.judged 30 4 (f .b1) 31 refl refl)
+    (by-cond (λ l. Pieces l 28) (eqb (f .b1) 31) _ _ (simp (piece-long, none-long) (omega (arith, number-long (word f 4), number-long (word f 8))))
+    (by-cond (λ l. Pieces l 28) (ltb 31 (f .b1)) _ _ (simp (piece-long, none-long) (omega (arith, number-long (word f 4)))) (simp none-long (omega arith)))) refl) refl))) refl
 
 said-long : (fr : List ℕ) (f : Frame) → TypeLong (said fr f)
 unfolding said
