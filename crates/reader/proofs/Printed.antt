@@ -3,7 +3,7 @@ use Prim.Native.Nat.{ℕ, _+_, _*_, _/_, _≤_, _<_, min}
 use native.Mathlib.Omega.{arith}
 use mathlib.Core.Path.{_≡_, refl, sym, ap, _∙_}
 use mathlib.Core.List.{List, _++_}
-use lib.ListN.{length, take, drop, length-append}
+use lib.ListN.{length, take, drop}
 use lib.Seq.{take-at}
 use borrow.Author.Tests.{lt-ltb}
 use Rattle.scan.proofs.Fill.{length-build}
@@ -19,11 +19,13 @@ use Rattle.rule.specs.Things.{see}
 use Rattle.answering.specs.Outputs.{outputs, outputBytes}
 use Rattle.answering.proofs.Bytes.{bytes-length}
 use Rattle.reader.specs.declared.OptionUsize.the-variants as Ou
-use Rattle.reader.specs.File.{overFile, readFile, framesAfter, framesIn}
-use Rattle.reader.specs.Typing.{answersWritten, outcomeText, outputText, typedText, linesIn}
-use Rattle.reader.proofs.Over.{refused-over, over-part}
+use Rattle.reader.specs.declared.rows.TypedFile.{TypedFile}
+use Rattle.reader.specs.File.{overFile, readFile, framesIn}
+use Rattle.reader.specs.Typing.{HandsBack, outcomeText, outputText, typedText, linesIn}
+use Rattle.reader.proofs.Over.{refused-over}
 use Rattle.reader.proofs.Row.{two-a-row, few-rows}
 use Rattle.reader.proofs.Ready.{ready-of}
+use Rattle.reader.proofs.Typed.{unchanged, handed-over, largest}
 use Rattle.reader.proofs.One.{build-goes-on}
 
 -- the first r lines of a text of n
@@ -42,33 +44,40 @@ printed t b o last r e er el =
       el ∙ ap (λ (x : List ℕ). x ++ drop (33 * r) o) (sym (take-lines b (frameCount b) r h) ∙ ap (take (33 * r)) (sym e)),
     )
 
--- a file that is refused: its number's frame, put at the front of a buffer that has room
-pub front-is : (an : List ℕ) (f : Frame) → 16 ≤ length an → take 16 (putFrame an 0 f) ≡ bytesOf f
+-- a frame put at the front of a buffer that has room
+front-is : (an : List ℕ) (f : Frame) → 16 ≤ length an → take 16 (putFrame an 0 f) ≡ bytesOf f
 unfolding putFrame
 front-is an f h = rw (lt-ltb 0 (frameCount an) (omega (arith, h)))
 
-pub refused-lines : (t an last : List ℕ) (f : ℕ) (r : Outcome) → r ≡ readFile t f (Lent 32768) → f ≡ 16384 → framesIn r ≡ Ou.None → 16 ≤ length an → last ≡ putFrame an 0 (outcomeFrame r)
-    → typedText t ≡ textOf (take 16 last) (frameCount (take 16 last))
-unfolding typedText
-refused-lines t an last f r er ef en h el =
-    let b : take 16 last ≡ bytesOf (outcomeFrame r) = ap (take 16) el ∙ front-is an (outcomeFrame r) h in
-    ap (overFile outcomeText outputText t) (ap (λ (x : ℕ). readFile t x (Lent 32768)) (sym ef) ∙ sym er) ∙ sym (refused-over outcomeText outputText t r en) ∙ ap (λ (x : List ℕ). textOf x (frameCount x)) (sym b)
+-- after a call of `type_file` with buffers of the largest sizes
+module _ {t fr an last out : List ℕ} {r : TypedFile} (h : HandsBack t fr an r last out) (ef : length fr ≡ 16384) (ea : length an ≡ 32768) where
+  -- one that is refused: `put` is the answer buffer with the number's frame at its front
+  module _ (put : List ℕ) (en : framesIn (r .outcome) ≡ Ou.None) (e : put ≡ putFrame out 0 (outcomeFrame (r .outcome))) where
+    number-is : take 16 put ≡ bytesOf (outcomeFrame (r .outcome))
+    number-is = ap (take 16) e ∙ front-is out (outcomeFrame (r .outcome)) (omega (arith, ap length (unchanged h en)))
 
-pub written-long : (an x out : List ℕ) → out ≡ answersWritten an x → length (outputBytes x) ≤ length out
-written-long an x out e = omega (arith, ap length e ∙ length-append (outputBytes x) (drop (length (outputBytes x)) an))
+    pub number-long : length (take 16 put) ≡ 16
+    number-long = ap length number-is
 
--- one that is accepted: all that is handed back
-pub accepted-lines : (t fr an last out : List ℕ) (n e : ℕ) (r : Outcome) → r ≡ readFile t (length fr) (Lent (length an)) → last ≡ framesAfter t fr (Lent (length an)) → framesIn r ≡ Ou.Some n
-    → length fr ≡ 16384 → length an ≡ 32768 → e ≡ length (outputBytes (take (16 * n) last)) → out ≡ answersWritten an (take (16 * n) last)
-    → typedText t ≡ textOf (take e out) (frameCount (take e out))
-unfolding typedText
-accepted-lines t fr an last out n e r er el en ef ea ee eo =
-    let x = take (16 * n) last in
-    let b : take e out ≡ outputBytes x = ap (take e) eo ∙ take-at (outputBytes x) (drop (length (outputBytes x)) an) e (sym ee) in
-    ap (overFile outcomeText outputText t) (ap (λ (k : ℕ). readFile t k (Lent 32768)) (sym ef) ∙ ap (λ (k : ℕ). readFile t (length fr) (Lent k)) (sym ea))
-    ∙ sym (over-part t fr last (Lent (length an)) n r er el en outcomeText outputText) ∙ ap (λ (y : List ℕ). textOf y (frameCount y)) (sym b)
+    pub refused-lines : typedText t ≡ textOf (take 16 put) (frameCount (take 16 put))
+    unfolding typedText
+    refused-lines =
+        ap (overFile outcomeText outputText t) (sym (largest h ef ea)) ∙ sym (refused-over outcomeText outputText t (r .outcome) en)
+        ∙ ap (λ (x : List ℕ). textOf x (frameCount x)) (sym number-is)
+
+  -- one that is accepted: all that is handed back
+  pub accepted-lines : {n : ℕ} → framesIn (r .outcome) ≡ Ou.Some n → typedText t ≡ textOf (take (16 * r .outputs) out) (frameCount (take (16 * r .outputs) out))
+  unfolding typedText
+  accepted-lines en =
+      ap (overFile outcomeText outputText t) (sym (largest h ef ea) ∙ h .outcome) ∙ sym (handed-over h en outcomeText (λ (x y : List ℕ). textOf y (frameCount y)))
 
 -- ALL OF IT FITS into 67,584 bytes, which is 2,048 lines: a file has at most 1,024 rows, and at most two frames are handed back of each
+pub few-outputs : (t : List ℕ) (f a n : ℕ) → readFile t f (Lent a) ≡ Accepted n → frameCount (outputBytes (decoded t n)) ≤ 2048
+few-outputs t f a n e =
+    let fr = decoded t n in
+    let all = rowCount (startsOf fr) in
+    omega (arith, bytes-length (outputs (see fr) all), two-a-row (see fr) all, few-rows fr a (ready-of t f a n e))
+
 lines-long : (b : List ℕ) (n : ℕ) → length (textOf b n) ≡ 33 * n
 lines-long b n = length-build (charOf b) (33 * n)
 
@@ -77,11 +86,7 @@ unfolding typedText
 text-fits t = go (readFile t 16384 (Lent 32768)) refl
   where
     go : (o : Outcome) → readFile t 16384 (Lent 32768) ≡ o → length (overFile outcomeText outputText t o) ≤ 67584
-    go (Accepted n) e =
-        let fr = decoded t n in
-        let r = ready-of t 16384 32768 n e in
-        let all = rowCount (startsOf fr) in
-        omega (arith, lines-long (outputBytes fr) (frameCount (outputBytes fr)), bytes-length (outputs (see fr) all), two-a-row (see fr) all, few-rows fr 32768 r)
+    go (Accepted n) e = let fr = decoded t n in omega (arith, lines-long (outputBytes fr) (frameCount (outputBytes fr)), few-outputs t 16384 32768 n e)
     go Long e = omega (arith, lines-long (bytesOf (outcomeFrame Long)) 1)
     go (Torn k) e = omega (arith, lines-long (bytesOf (outcomeFrame (Torn k))) 1)
     go Short e = omega (arith, lines-long (bytesOf (outcomeFrame Short)) 1)

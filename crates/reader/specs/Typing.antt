@@ -26,13 +26,14 @@ use Rattle.row_rules.specs.Answered.{toResult}
 use Rattle.compose.specs.Rows.{verdictOf}
 use Rattle.compose.specs.Judged.{toJudged}
 use Rattle.answering.specs.Outputs.{rowAnswer, outputBytes}
-use Rattle.reader.specs.File.{overFile, readFile}
+use Rattle.reader.specs.declared.rows.TypedFile.{TypedFile}
+use Rattle.reader.specs.File.{overFile, readFile, framesAfter}
 
 -- the frames of an accepted file, and an answer buffer of a bytes that has room for what is handed back
 abbrev pub Ready : List ℕ → ℕ → Type 0
 Ready fr a = (checkFrames fr ≡ Accepted (frameCount fr)) × (frameCount fr ≤ 1024) × (length (outputBytes fr) ≤ a)
 
--- TYPE_ROWS
+-- TYPE_ROWS, TYPE_FILE
 
 -- an answer buffer with the answers and verdicts of a file at its front, whose frames these are; its bytes past them stay
 abbrev pub answersWritten : List ℕ → List ℕ → List ℕ
@@ -41,6 +42,17 @@ answersWritten an fr = outputBytes fr ++ drop (length (outputBytes fr)) an
 -- the answer buffer `an` after `type_rows`, with a frame buffer of f bytes
 unfoldable pub answersAfter : List ℕ → ℕ → List ℕ → List ℕ
 answersAfter t f an = overFile (λ (o : Outcome). an) (λ (fr : List ℕ). answersWritten an fr) t (readFile t f (Lent (length an)))
+
+-- how many frames are handed back, with an answer buffer of a bytes: as many as a file's answers and verdicts; of a file that is not accepted, none
+unfoldable pub outputCount : List ℕ → ℕ → ℕ → ℕ
+outputCount t f a = overFile (λ (o : Outcome). 0) (λ (fr : List ℕ). frameCount (outputBytes fr)) t (readFile t f (Lent a))
+
+-- what `type_file` gives, r, and leaves: fr and an are the frame buffer and the answer buffer before it, `last` and `out` after it
+pub record HandsBack (t fr an : List ℕ) (r : TypedFile) (last out : List ℕ) : Type 0 where
+  pub outcome : r .outcome ≡ readFile t (length fr) (Lent (length an))
+  pub outputs : r .outputs ≡ outputCount t (length fr) (length an)
+  pub frames : last ≡ framesAfter t fr (Lent (length an))
+  pub answers : out ≡ answersAfter t (length fr) an
 
 -- ROW_TYPE
 

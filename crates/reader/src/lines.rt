@@ -1,12 +1,10 @@
 // What the typing program prints.
 use super::OptionUsize;
 use super::frames_in;
-use super::read_with;
-use super::rows::answer_all;
+use super::rows::type_file;
 use encoding::write_text;
 use frames::put_frame;
 use out::write::outcome_frame;
-use text::AnswerRoom;
 ghost use mathlib.Core.Path.{_≡_};
 ghost use mathlib.Core.List.{_++_};
 ghost use Prim.Native.Nat.{_*_, _/_, min};
@@ -18,15 +16,15 @@ fn type_lines(text: &[u8], frames: &mut [u8], answers: &mut [u8], out: &mut [u8]
     requires { ⌜ (length (now frames) ≡ 16384) × (length (now answers) ≡ 32768) ⌝ }
     ensures { λ r. ⌜ (r ≡ linesIn (now (text .entry)) (length (now (out .entry)))) × (now (out .exit) ≡ take r (typedText (now (text .entry))) ++ drop r (now (out .entry))) ⌝ }
 {
-    let read = read_with(text, frames, AnswerRoom::Lent(answers.len()));
+    let typed = type_file(text, frames, answers);
+    let read = typed.outcome;
     match frames_in(read) {
         OptionUsize::None => {
             put_frame(answers, 0, outcome_frame(read));
             33 * write_text(&answers[..16], out)
         }
-        OptionUsize::Some(n) => {
-            let m = 16 * n;
-            let e = 16 * answer_all(&frames[..m], answers);
+        OptionUsize::Some(_) => {
+            let e = 16 * typed.outputs;
             33 * write_text(&answers[..e], out)
         }
     }

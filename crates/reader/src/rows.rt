@@ -32,7 +32,7 @@ ghost use Rattle.archive.specs.Names.{isRow};
 ghost use Rattle.rule.specs.Things.{see};
 ghost use Rattle.answering.specs.Outputs.{outputs, framesBytes, outputBytes, placesOf};
 ghost use Rattle.reader.specs.File.{readFile, framesAfter};
-ghost use Rattle.reader.specs.Typing.{Ready, answersWritten, answersAfter, toGiven, rowGiven, rowType, answersAfterRow, toVerdict, verdictGiven, ifJudged, composeVerdict, answersAfterVerdict};
+ghost use Rattle.reader.specs.Typing.{Ready, answersWritten, answersAfter, HandsBack, toGiven, rowGiven, rowType, answersAfterRow, toVerdict, verdictGiven, ifJudged, composeVerdict, answersAfterVerdict};
 
 // Writes a row's answer as frame `at`, and after it the verdict if the row is a compose; gives the frame after them.
 fn answer_row(
@@ -96,7 +96,7 @@ fn answer_rows(frames: &[u8], s: Starts, answers: &mut [u8], places: &mut [u16])
 }
 
 // Answers every row, and gives how many frames are written.
-pub(crate) fn answer_all(frames: &[u8], answers: &mut [u8]) -> usize
+fn answer_all(frames: &[u8], answers: &mut [u8]) -> usize
     requires { ⌜ Ready (now frames) (length (now answers)) ⌝ }
     ensures { λ r. ⌜ (16 * r ≡ length (outputBytes (now (frames .entry)))) × (now (answers .exit) ≡ answersWritten (now (answers .entry)) (now (frames .entry))) ⌝ }
 {
@@ -150,20 +150,40 @@ fn judge_one(frames: &[u8], answers: &mut [u8], row: RowNumber) -> ComposeVerdic
     }
 }
 
-// Types every row of a file and judges every compose. The frame buffer is as `read_file` leaves it; of an accepted file the answers and verdicts stand at the front
-// of the answer buffer, and its bytes past them stay.
-pub fn type_rows(text: &[u8], frames: &mut [u8], answers: &mut [u8]) -> Outcome
-    ensures { λ r. ⌜ (r ≡ readFile (now (text .entry)) (length (now (frames .entry))) (Lent (length (now (answers .entry))))) × (now (frames .exit) ≡ framesAfter (now (text .entry)) (now (frames .entry)) (Lent (length (now (answers .entry))))) × (now (answers .exit) ≡ answersAfter (now (text .entry)) (length (now (frames .entry))) (now (answers .entry))) ⌝ }
+// What typing a file gives: the outcome, and how many frames are handed back.
+pub struct TypedFile {
+    pub outcome: Outcome,
+    pub outputs: usize,
+}
+
+// Types every row of a file and judges every compose. The frame buffer is as `read_file` leaves it; of an accepted file the answers and verdicts, 16 bytes each, stand
+// at the front of the answer buffer, and its bytes past them stay. Of a file that is not accepted nothing is handed back.
+pub fn type_file(text: &[u8], frames: &mut [u8], answers: &mut [u8]) -> TypedFile
+    ensures { λ r. ⌜ HandsBack (now (text .entry)) (now (frames .entry)) (now (answers .entry)) r (now (frames .exit)) (now (answers .exit)) ⌝ }
 {
     let read = read_with(text, frames, AnswerRoom::Lent(answers.len()));
     match frames_in(read) {
-        OptionUsize::None => read,
+        OptionUsize::None => TypedFile {
+            outcome: read,
+            outputs: 0,
+        },
         OptionUsize::Some(n) => {
             let m = 16 * n;
-            answer_all(&frames[..m], answers);
-            read
+            let k = answer_all(&frames[..m], answers);
+            TypedFile {
+                outcome: read,
+                outputs: k,
+            }
         }
     }
+}
+
+// The same, where the outcome is enough: how many frames are handed back is known from the file.
+pub fn type_rows(text: &[u8], frames: &mut [u8], answers: &mut [u8]) -> Outcome
+    ensures { λ r. ⌜ (r ≡ readFile (now (text .entry)) (length (now (frames .entry))) (Lent (length (now (answers .entry))))) × (now (frames .exit) ≡ framesAfter (now (text .entry)) (now (frames .entry)) (Lent (length (now (answers .entry))))) × (now (answers .exit) ≡ answersAfter (now (text .entry)) (length (now (frames .entry))) (now (answers .entry))) ⌝ }
+{
+    let typed = type_file(text, frames, answers);
+    typed.outcome
 }
 
 // The answer of one row, with the buffers as `type_rows` leaves them. The answer buffer is unchanged where the file does not have the row.

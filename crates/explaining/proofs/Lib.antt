@@ -1,0 +1,3 @@
+pub mod Fitting
+pub mod File
+pub mod Fits
