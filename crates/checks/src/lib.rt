@@ -12,6 +12,7 @@ use frames::frame_at;
 use frames::frame_count;
 use ir::RowNumber;
 use ir::TypeNumber;
+use names::is_earlier;
 use names::item_names;
 use names::row_form_names;
 use names::type_form_names;
@@ -22,12 +23,65 @@ use scan::Found;
 ghost use mathlib.Core.Path.{_≡_};
 ghost use Prim.Native.Nat.{_+_, _-_, _≤_, min};
 ghost use Rattle.scan.specs.Lowest.{lowest};
-ghost use Rattle.frames.specs.Bytes.{frameCount};
+ghost use Rattle.frames.specs.Bytes.{frameCount, half};
+ghost use Rattle.frames.specs.Forms.{typeOf, rowOf};
 ghost use Rattle.archive.specs.Starts.{startsOf};
-ghost use Rattle.archive.specs.Names.{namesOf, namesOk};
+ghost use Rattle.archive.specs.Names.{isEarlier, typeFormNames, rowFormNames, namesOf, namesOk};
 ghost use Rattle.archive.specs.Parts.{membersOf, componentsOf, heldBy, earlyIn, earlyOk};
 ghost use Rattle.answers.specs.declared.Outcome.the-variants.{Accepted, Field, Index};
 ghost use Rattle.archive.specs.Checks.{fieldOk, indexOk, unless, checkFrames};
+
+// What a type names. Most kinds name nothing, which the kind's number shows.
+fn type_frame_names(s: Starts, n: TypeNumber, f: Frame) -> bool
+    ensures { λ r. ⌜ r ≡ typeFormNames s n (typeOf f) ⌝ }
+{
+    let kind = f.b1;
+    match kind {
+        1 => true,
+        2 => true,
+        3 => true,
+        5 => true,
+        7 => true,
+        10 => true,
+        _ => type_form_names(s, n, f.type_form()),
+    }
+}
+
+// Bytes 2 and 3 name an earlier row.
+fn names_earlier(n: RowNumber, f: Frame) -> bool
+    ensures { λ r. ⌜ r ≡ isEarlier n (record { 0 = half f 2 }) ⌝ }
+{
+    let m = f.named();
+    is_earlier(n, RowNumber(m))
+}
+
+// What a row names. Of the frequent kinds the frame shows it; the others are read first.
+fn row_frame_names(s: Starts, n: RowNumber, f: Frame) -> bool
+    ensures { λ r. ⌜ r ≡ rowFormNames s n (rowOf f) ⌝ }
+{
+    let kind = f.b1;
+    match kind {
+        4 => {
+            let t = f.named();
+            is_type(s, TypeNumber(t))
+        }
+        6 => names_earlier(n, f),
+        7 => names_earlier(n, f),
+        8 => names_earlier(n, f),
+        9 => names_earlier(n, f),
+        13 => names_earlier(n, f),
+        14 => names_earlier(n, f),
+        17 => names_earlier(n, f),
+        18 => {
+            let right = f.second();
+            names_earlier(n, f) & is_earlier(n, RowNumber(right))
+        }
+        19 => names_earlier(n, f),
+        20 => names_earlier(n, f),
+        23 => names_earlier(n, f),
+        _ => row_form_names(s, n, row_form(f)),
+    }
+}
 
 fn names_of(s: Starts, k: usize, f: Frame) -> bool
     requires { ⌜ k ≤ 1024 ⌝ }
@@ -36,7 +90,7 @@ fn names_of(s: Starts, k: usize, f: Frame) -> bool
     let family = f.b0;
     match family {
         0 => true,
-        1 => type_form_names(s, TypeNumber(k as u16), f.type_form()),
+        1 => type_frame_names(s, TypeNumber(k as u16), f),
         2 => {
             let m = f.member();
             is_type(s, m.ty)
@@ -44,7 +98,7 @@ fn names_of(s: Starts, k: usize, f: Frame) -> bool
         3 => item_names(s, item_of(f)),
         4 => {
             let n = minus(k, s.rows);
-            row_form_names(s, RowNumber(n as u16), row_form(f))
+            row_frame_names(s, RowNumber(n as u16), f)
         }
         5 => is_row(s, f.component()),
         _ => true,

@@ -127,7 +127,7 @@ pub fn type_at(frames: &[u8], s: Starts, n: TypeNumber) -> TypeForm
 }
 
 // Frame i of those from `first` on; zeros where there is none.
-fn frame_after(frames: &[u8], first: usize, i: usize) -> Frame
+pub fn frame_after(frames: &[u8], first: usize, i: usize) -> Frame
     ensures { λ r. ⌜ r ≡ frameAt (now (frames .entry)) (first + i) ⌝ }
 {
     let count = frame_count(frames);

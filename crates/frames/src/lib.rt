@@ -59,6 +59,30 @@ fn frame_from(s: &[u8], at: usize) -> Frame
     }
 }
 
+// Zeros, which are of no family: what stands where there is no frame.
+pub fn no_frame() -> Frame
+    ensures { λ r. ⌜ r ≡ zeroFrame ⌝ }
+{
+    Frame {
+        b0: 0,
+        b1: 0,
+        b2: 0,
+        b3: 0,
+        b4: 0,
+        b5: 0,
+        b6: 0,
+        b7: 0,
+        b8: 0,
+        b9: 0,
+        b10: 0,
+        b11: 0,
+        b12: 0,
+        b13: 0,
+        b14: 0,
+        b15: 0,
+    }
+}
+
 // Frame k of a buffer; zeros where it has no such frame.
 pub fn frame_at(s: &[u8], k: usize) -> Frame
     ensures { λ r. ⌜ r ≡ frameAt (now (s .entry)) k ⌝ }
@@ -66,24 +90,7 @@ pub fn frame_at(s: &[u8], k: usize) -> Frame
     if k < s.len() / 16 {
         frame_from(s, 16 * k)
     } else {
-        Frame {
-            b0: 0,
-            b1: 0,
-            b2: 0,
-            b3: 0,
-            b4: 0,
-            b5: 0,
-            b6: 0,
-            b7: 0,
-            b8: 0,
-            b9: 0,
-            b10: 0,
-            b11: 0,
-            b12: 0,
-            b13: 0,
-            b14: 0,
-            b15: 0,
-        }
+        no_frame()
     }
 }
 

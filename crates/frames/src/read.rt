@@ -89,8 +89,8 @@ impl Frame {
         le32(self.b12, self.b13, self.b14, self.b15)
     }
 
-    // Bytes 4 and 5.
-    fn scalar(self) -> Scalar
+    // Bytes 4 and 5, as a scalar.
+    pub fn scalar(self) -> Scalar
         ensures { λ r. ⌜ r ≡ read scalar self ⌝ }
     {
         let kind = ScalarKind::from_number(self.b4);

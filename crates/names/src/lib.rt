@@ -22,7 +22,7 @@ ghost use lib.Dec.{leb, ltb};
 ghost use Rattle.archive.specs.Names.{isType, sizeNames, typeNames, typeFormNames, resultNames, itemNames, isEarlier, queryNames, relationalNames, rowNames, rowFormNames};
 
 // Row m is earlier than row n.
-fn is_earlier(n: RowNumber, m: RowNumber) -> bool
+pub fn is_earlier(n: RowNumber, m: RowNumber) -> bool
     ensures { λ r. ⌜ r ≡ isEarlier n m ⌝ }
 {
     m.0 < n.0

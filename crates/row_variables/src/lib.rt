@@ -25,7 +25,7 @@ ghost use Rattle.row_rules.specs.Variables.{literalScalar, argument, variable, 
 ghost use Rattle.row_rules.specs.Answered.{toResult};
 
 // The source's Literal::scalar (proc/mod.rs).
-fn literal_scalar(l: Literal) -> Scalar
+pub fn literal_scalar(l: Literal) -> Scalar
     ensures { λ r. ⌜ r ≡ literalScalar l ⌝ }
 {
     match l {

@@ -125,7 +125,7 @@ fn image_frame(dim: ImageDimension, arrayed: bool, class: ImageClass) -> Frame
 }
 
 // A value of a kind that has a scalar in bytes 4 and 5.
-fn scalar_frame(kind: u8, b2: u8, b3: u8, s: Scalar, b6: u8, b7: u8) -> Frame
+pub fn scalar_frame(kind: u8, b2: u8, b3: u8, s: Scalar, b6: u8, b7: u8) -> Frame
     ensures { λ r. ⌜ r ≡ packed 9 kind b2 b3 (scalarKindNumber (s .kind)) (s .width) b6 b7 0 0 ⌝ }
 {
     let k = s.kind;
@@ -133,7 +133,7 @@ fn scalar_frame(kind: u8, b2: u8, b3: u8, s: Scalar, b6: u8, b7: u8) -> Frame
 }
 
 // A pointer: base, space and access.
-fn pointer_frame(base: TypeNumber, space: AddressSpace) -> Frame
+pub fn pointer_frame(base: TypeNumber, space: AddressSpace) -> Frame
     ensures { λ r. ⌜ r ≡ typeFrame 9 (TypeInner.Pointer base space) ⌝ }
 {
     packed(

@@ -11,7 +11,7 @@ returns c = rw (lt-ltb _ _ (c .before .if1 .taken)) (c .frame-from .ensures)
 
 returns-2 : tie.Need-returns-2
 unfolding frameAt
-returns-2 c = rw (le-ltb _ _ (c .if1 .left))
+returns-2 c = rw (le-ltb _ _ (c .before .if1 .left)) (c .no-frame .ensures)
 
 pub frame-at-spec : {M : Type 1} → statement M
 frame-at-spec =
@@ -19,5 +19,6 @@ frame-at-spec =
     (tie.spec
     (λ c. search needs)
     (λ c κs. search needs)
+    (λ c κs. tt)
     returns
     returns-2)
