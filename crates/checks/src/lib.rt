@@ -29,21 +29,24 @@ ghost use Rattle.archive.specs.Starts.{startsOf};
 ghost use Rattle.archive.specs.Names.{isEarlier, typeFormNames, rowFormNames, namesOf, namesOk};
 ghost use Rattle.archive.specs.Parts.{membersOf, componentsOf, heldBy, earlyIn, earlyOk};
 ghost use Rattle.answers.specs.declared.Outcome.the-variants.{Accepted, Field, Index};
+ghost use Rattle.checks.specs.Frequent.{isNameless, readsOne};
 ghost use Rattle.archive.specs.Checks.{fieldOk, indexOk, unless, checkFrames};
 
-// What a type names. Most kinds name nothing, which the kind's number shows.
+// A scalar, a vector, a matrix, an atomic, a value pointer or an image: these name nothing.
+fn is_nameless(f: Frame) -> bool
+    ensures { λ r. ⌜ r ≡ isNameless f ⌝ }
+{
+    (f.b1 == 1) | ((f.b1 == 2) | ((f.b1 == 3) | ((f.b1 == 5) | ((f.b1 == 7) | (f.b1 == 10)))))
+}
+
+// What a type names; most kinds name nothing, which the kind's number shows.
 fn type_frame_names(s: Starts, n: TypeNumber, f: Frame) -> bool
     ensures { λ r. ⌜ r ≡ typeFormNames s n (typeOf f) ⌝ }
 {
-    let kind = f.b1;
-    match kind {
-        1 => true,
-        2 => true,
-        3 => true,
-        5 => true,
-        7 => true,
-        10 => true,
-        _ => type_form_names(s, n, f.type_form()),
+    if is_nameless(f) {
+        true
+    } else {
+        type_form_names(s, n, f.type_form())
     }
 }
 
@@ -55,32 +58,35 @@ fn names_earlier(n: RowNumber, f: Frame) -> bool
     is_earlier(n, RowNumber(m))
 }
 
+// A row of a frequent kind that names one row: Access, AccessIndex, Splat, Swizzle, Load, ImageSample, Unary, Select, Derivative, As.
+fn reads_one(f: Frame) -> bool
+    ensures { λ r. ⌜ r ≡ readsOne f ⌝ }
+{
+    (f.b1 == 6)
+        | ((f.b1 == 7)
+            | ((f.b1 == 8)
+                | ((f.b1 == 9)
+                    | ((f.b1 == 13)
+                        | ((f.b1 == 14)
+                            | ((f.b1 == 17) | ((f.b1 == 19) | ((f.b1 == 20) | (f.b1 == 23)))))))))
+}
+
 // What a row names. Of the frequent kinds the frame shows it; the others are read first.
 fn row_frame_names(s: Starts, n: RowNumber, f: Frame) -> bool
     ensures { λ r. ⌜ r ≡ rowFormNames s n (rowOf f) ⌝ }
 {
-    let kind = f.b1;
-    match kind {
-        4 => {
-            let t = f.named();
-            is_type(s, TypeNumber(t))
-        }
-        6 => names_earlier(n, f),
-        7 => names_earlier(n, f),
-        8 => names_earlier(n, f),
-        9 => names_earlier(n, f),
-        13 => names_earlier(n, f),
-        14 => names_earlier(n, f),
-        17 => names_earlier(n, f),
-        18 => {
-            let right = f.second();
-            names_earlier(n, f) & is_earlier(n, RowNumber(right))
-        }
-        19 => names_earlier(n, f),
-        20 => names_earlier(n, f),
-        23 => names_earlier(n, f),
-        _ => row_form_names(s, n, row_form(f)),
+    if reads_one(f) {
+        return names_earlier(n, f);
     }
+    if f.b1 == 18 {
+        let right = f.second();
+        return names_earlier(n, f) & is_earlier(n, RowNumber(right));
+    }
+    if f.b1 == 4 {
+        let t = f.named();
+        return is_type(s, TypeNumber(t));
+    }
+    row_form_names(s, n, row_form(f))
 }
 
 fn names_of(s: Starts, k: usize, f: Frame) -> bool

@@ -1,0 +1,22 @@
+-- `put_row`: frames sufficed, or the row is typed and its answer written. Assumes nothing.
+use mathlib.Core.Path.{refl, sym, ap, _∙_}
+use borrow.Author.Needs.{needs}
+use Rattle.frames.specs.Bytes.{putFrame}
+use Rattle.rule.specs.Answers.{rowFrame}
+use Rattle.row_frames.proofs.Frames.{answer-framed}
+use Rattle.row_frames.proofs.row.put_row.Statement.{statement}
+use Rattle.row_frames.proofs.row.put_row.Tie as tie
+
+pub put-row-spec : {M : Type 1} → statement M
+put-row-spec =
+    tie.close
+    (tie.spec
+    (λ c κs. tt)
+    (λ c κs. tt)
+    (λ c κs. tt)
+    (λ c κs. tt)
+    (λ c κs. tt)
+    (λ c. search needs)
+    (λ c. let a = c .before .before .before .before .before .before .before .before .before .before .before .before .before .before .args in c .before .before .put-frame .ensures ∙ ap (putFrame (a .answers .now) (a .at)) (c .before .before .before .answer-frame .ensures ∙ answer-framed (c .before .before .before .before .before .type-row .result) ∙ ap rowFrame (c .before .before .before .before .before .type-row .ensures)))
+    (λ c. search needs)
+    (λ c. let a = c .before .before .before .before .before .before .before .before .before .before .before .args in c .before .before .put-frame2 .ensures ∙ ap (putFrame (a .answers .now) (a .at)) (c .before .before .before .before .before .before .quick .ensures (c .before .before .before .before .if1 .left))))
