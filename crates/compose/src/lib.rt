@@ -5,23 +5,24 @@ use archive::Starts;
 use comparison::compare_types;
 use equality::equal_types;
 use families::component_at;
-use families::is_type;
 use families::member_at;
 use families::type_at;
 use forms::form_of;
 use frames::Frame;
-use frames::frame_at;
 use ir::ArraySize;
 use ir::ComponentNumber;
 use ir::MemberNumber;
 use ir::RowNumber;
 use ir::Scalar;
-use ir::ScalarKind;
 use ir::TypeForm;
 use ir::TypeInner;
 use ir::TypeNumber;
 use ir::TypeResolution;
 use ir::VectorSize;
+use operand_frames::form_frame;
+use operand_frames::is_plain;
+use operand_frames::past_frame;
+use operand_frames::type_frame;
 use operands::past::past;
 use type_methods::OptionBool;
 ghost use mathlib.Core.Path.{_≡_};
@@ -29,12 +30,11 @@ ghost use mathlib.Core.Bool.{cond};
 ghost use mathlib.Core.Option.{none, some};
 ghost use Rattle.rule.specs.Answers.{resolved};
 ghost use Rattle.rule.specs.Things.{memberTypes, formIn};
-ghost use Rattle.frames.specs.Bytes.{zeroFrame};
 ghost use Rattle.type_methods.specs.Comparison.{found};
 ghost use Rattle.row_rules.specs.Operators.{equalScalars};
 ghost use Rattle.compose.specs.Verdict.{verdict, byForm, eachPart, vectorParts, counted, arrayParts, adds};
 ghost use Rattle.compose.specs.Judged.{toJudged, judgedBy, partsIn, askedOf, columnSeen, memberType, partIs, partSaid, partVerdict, answerVerdict, partJudged, countAdded, formAdded, answerAdded, addedBy};
-ghost use Rattle.compose.specs.Shown.{pastFrame, typeFrame, formFrame, scalarIn, sameScalar, columnShown, isPlain, sameForm, samePointer, valueShown, typeShown, partShown};
+ghost use Rattle.compose.specs.Shown.{sameScalar, columnShown, sameForm, samePointer, valueShown, typeShown, partShown};
 
 // What is asked of each component: that it is a column of a matrix, an element of an array, or the member of its index of a struct whose `count` members
 // begin at `first`.
@@ -64,80 +64,11 @@ fn equal_scalars(k: Scalar, j: Scalar) -> bool
     (a.number() == b.number()) & (k.width == j.width)
 }
 
-fn no_frame() -> Frame
-    ensures { λ r. ⌜ r ≡ zeroFrame ⌝ }
-{
-    Frame {
-        b0: 0,
-        b1: 0,
-        b2: 0,
-        b3: 0,
-        b4: 0,
-        b5: 0,
-        b6: 0,
-        b7: 0,
-        b8: 0,
-        b9: 0,
-        b10: 0,
-        b11: 0,
-        b12: 0,
-        b13: 0,
-        b14: 0,
-        b15: 0,
-    }
-}
-
-// The frame of row n's answer; zeros, which read as the fixed refusal, of a row that is not typed yet.
-fn past_frame(answers: &[u8], places: &[u16], n: RowNumber) -> Frame
-    ensures { λ r. ⌜ r ≡ pastFrame (now (answers .entry)) (now (places .entry)) n ⌝ }
-{
-    let i = n.0 as usize;
-    if i < places.len() {
-        let at = places[i] as usize;
-        frame_at(answers, at)
-    } else {
-        no_frame()
-    }
-}
-
-// The frame of type n; zeros, of unknown kind, where there is none.
-fn type_frame(frames: &[u8], s: Starts, n: TypeNumber) -> Frame
-    ensures { λ r. ⌜ r ≡ typeFrame (now (frames .entry)) s n ⌝ }
-{
-    if is_type(s, n) {
-        frame_at(frames, n.0 as usize)
-    } else {
-        no_frame()
-    }
-}
-
-// The frame of the form of an answer's type: of a number that type's, of a value its own.
-fn form_frame(frames: &[u8], s: Starts, f: Frame) -> Frame
-    ensures { λ r. ⌜ r ≡ formFrame (now (frames .entry)) s f ⌝ }
-{
-    if f.b0 == 8 {
-        let n = f.named();
-        type_frame(frames, s, TypeNumber(n))
-    } else if f.b0 == 9 {
-        f
-    } else {
-        no_frame()
-    }
-}
-
-// The scalar in bytes 4 and 5.
-fn scalar_of(f: Frame) -> Scalar
-    ensures { λ r. ⌜ r ≡ scalarIn f ⌝ }
-{
-    let kind = ScalarKind::from_number(f.b4);
-    Scalar { kind, width: f.b5 }
-}
-
 // Whether the scalar in bytes 4 and 5 is this one.
 fn same_scalar(f: Frame, scalar: Scalar) -> bool
     ensures { λ r. ⌜ r ≡ sameScalar f scalar ⌝ }
 {
-    equal_scalars(scalar_of(f), scalar)
+    equal_scalars(f.scalar(), scalar)
 }
 
 // Whether a frame is that of a vector of this size and scalar.
@@ -146,13 +77,6 @@ fn column_shown(f: Frame, rows: VectorSize, scalar: Scalar) -> bool
 {
     let size = VectorSize::from_number(f.b2);
     (f.b1 == 2) & ((size.number() == rows.number()) & same_scalar(f, scalar))
-}
-
-// Whether a frame is of a scalar, a vector or a matrix.
-fn is_plain(f: Frame) -> bool
-    ensures { λ r. ⌜ r ≡ isPlain f ⌝ }
-{
-    (f.b1 == 1) | ((f.b1 == 2) | (f.b1 == 3))
 }
 
 // Whether two frames are of the same scalar, vector or matrix.
@@ -642,12 +566,12 @@ pub fn judge(
     let f = type_frame(frames, s, ty);
     if f.b1 == 2 {
         let size = VectorSize::from_number(f.b2);
-        let scalar = scalar_of(f);
+        let scalar = f.scalar();
         vector_parts(frames, s, answers, places, size, scalar, first, count)
     } else if f.b1 == 3 {
         let columns = VectorSize::from_number(f.b2);
         let rows = VectorSize::from_number(f.b3);
-        let scalar = scalar_of(f);
+        let scalar = f.scalar();
         counted_parts(
             frames,
             s,

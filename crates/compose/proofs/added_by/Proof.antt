@@ -3,9 +3,10 @@ use borrow.Author.Needs.{needs}
 use mathlib.Core.Path.{_≡_, sym, ap, _∙_}
 use Rattle.frames.specs.declared.Frame.{Frame}
 use Rattle.frames.specs.Bytes.{byte}
+use Rattle.operand_frames.specs.Shown.{pastFrame, formFrame}
+use Rattle.operand_frames.proofs.Looked.{past-frame}
 use Rattle.compose.specs.Judged.{addedBy}
-use Rattle.compose.specs.Shown.{pastFrame, formFrame}
-use Rattle.compose.proofs.Shown.{past-frame, scalar-added, vector-added}
+use Rattle.compose.proofs.Shown.{scalar-added, vector-added}
 use Rattle.compose.proofs.added_by.Statement.{statement}
 use Rattle.compose.proofs.added_by.Tie as tie
 

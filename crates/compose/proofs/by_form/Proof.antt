@@ -1,5 +1,5 @@
 -- `by_form`: each arm knows its case, and what its calls ensure. Assumes nothing.
-use mathlib.Core.Path.{_≡_, sym, _∙_}
+use mathlib.Core.Path.{_∙_}
 use borrow.Author.Needs.{needs}
 use Rattle.compose.specs.Judged.{judgedBy}
 use Rattle.compose.proofs.Runs.{struct-counted}

@@ -1,5 +1,5 @@
 -- `by_type`: the composed type's form, or newer. Assumes nothing.
-use mathlib.Core.Path.{_≡_, sym, _∙_}
+use mathlib.Core.Path.{sym, _∙_}
 use Rattle.compose.proofs.Runs.{composed-known, composed-unknown}
 use Rattle.compose.proofs.by_type.Statement.{statement}
 use Rattle.compose.proofs.by_type.Tie as tie

@@ -1,5 +1,4 @@
 -- `column_is`: each arm knows its case, and what its calls ensure. Assumes nothing.
-use borrow.Author.Needs.{needs}
 use Rattle.compose.proofs.column_is.Statement.{statement}
 use Rattle.compose.proofs.column_is.Tie as tie
 

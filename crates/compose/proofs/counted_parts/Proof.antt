@@ -1,6 +1,5 @@
 -- `counted_parts`: the list of components has the count. Assumes nothing.
-use mathlib.Core.Path.{_≡_, sym, _∙_}
-use borrow.Author.Needs.{needs}
+use mathlib.Core.Path.{sym, _∙_}
 use Rattle.compose.proofs.Runs.{counted-yes, counted-no}
 use Rattle.compose.proofs.counted_parts.Statement.{statement}
 use Rattle.compose.proofs.counted_parts.Tie as tie

@@ -1,5 +1,4 @@
 -- `equal_scalars`: each arm knows its case, and what its calls ensure. Assumes nothing.
-use borrow.Author.Needs.{needs}
 use Rattle.compose.proofs.equal_scalars.Statement.{statement}
 use Rattle.compose.proofs.equal_scalars.Tie as tie
 

@@ -1,5 +1,4 @@
 -- `form_added`: each arm knows its case, and what its calls ensure. Assumes nothing.
-use borrow.Author.Needs.{needs}
 use Rattle.compose.proofs.form_added.Statement.{statement}
 use Rattle.compose.proofs.form_added.Tie as tie
 

@@ -1,8 +1,9 @@
 -- `judge`: by the composed type's frame. Assumes nothing.
-use mathlib.Core.Path.{_≡_, sym, ap, _∙_}
+use mathlib.Core.Path.{sym, ap, _∙_}
 use borrow.Author.Needs.{needs}
 use Rattle.frames.specs.Forms.{typeOf}
-use Rattle.compose.proofs.Shown.{type-frame, vector-composed, matrix-composed, array-composed, struct-composed}
+use Rattle.operand_frames.proofs.Looked.{type-frame}
+use Rattle.compose.proofs.Shown.{vector-composed, matrix-composed, array-composed, struct-composed}
 use Rattle.compose.proofs.judge.Statement.{statement}
 use Rattle.compose.proofs.judge.Tie as tie
 
@@ -10,13 +11,13 @@ returns : tie.Need-returns
 returns c =
     let g = c .before .before .before .before .before .before .before .before .before .args in
     let e = type-frame (g .frames .now) (g .s) (g .ty) ∙ ap typeOf (sym (c .before .before .before .before .before .type-frame .ensures)) in
-    c .vector-parts .ensures ∙ vector-composed (g .frames .now) (g .s) (g .answers .now) (g .places .now) (g .ty) (g .first) (g .count) _ e _ _ (c .before .before .before .if1 .taken) (c .before .before .from-number .ensures) (c .before .scalar-of .ensures)
+    c .vector-parts .ensures ∙ vector-composed (g .frames .now) (g .s) (g .answers .now) (g .places .now) (g .ty) (g .first) (g .count) _ e _ _ (c .before .before .before .if1 .taken) (c .before .before .from-number .ensures) (c .before .scalar .ensures)
 
 returns-2 : tie.Need-returns-2
 returns-2 c =
     let g = c .before .before .before .before .before .before .before .before .before .before .before .before .before .args in
     let e = type-frame (g .frames .now) (g .s) (g .ty) ∙ ap typeOf (sym (c .before .before .before .before .before .before .before .before .before .type-frame .ensures)) in
-    c .counted-parts .ensures ∙ matrix-composed (g .frames .now) (g .s) (g .answers .now) (g .places .now) (g .ty) (g .first) (g .count) _ e _ _ _ _ (c .before .before .before .before .before .if2 .taken) (c .before .number .ensures) (c .before .before .before .before .from-number2 .ensures) (c .before .before .before .from-number3 .ensures) (c .before .before .scalar-of2 .ensures)
+    c .counted-parts .ensures ∙ matrix-composed (g .frames .now) (g .s) (g .answers .now) (g .places .now) (g .ty) (g .first) (g .count) _ e _ _ _ _ (c .before .before .before .before .before .if2 .taken) (c .before .number .ensures) (c .before .before .before .before .from-number2 .ensures) (c .before .before .before .from-number3 .ensures) (c .before .before .scalar2 .ensures)
 
 returns-3 : tie.Need-returns-3
 returns-3 c =

@@ -3,9 +3,11 @@ use mathlib.Core.Path.{_≡_, sym, ap, _∙_}
 use mathlib.Core.Bool.{true}
 use Rattle.answers.specs.declared.Answer.{Answer}
 use Rattle.rule.specs.Answers.{resolved}
+use Rattle.operand_frames.specs.Shown.{pastFrame}
+use Rattle.operand_frames.proofs.Looked.{past-frame}
 use Rattle.compose.specs.Judged.{partIs, partVerdict, answerVerdict, partJudged}
-use Rattle.compose.specs.Shown.{pastFrame, partShown}
-use Rattle.compose.proofs.Shown.{past-frame, part-shown}
+use Rattle.compose.specs.Shown.{partShown}
+use Rattle.compose.proofs.Shown.{part-shown}
 use Rattle.compose.proofs.judge_part.Statement.{statement}
 use Rattle.compose.proofs.judge_part.Tie as tie
 

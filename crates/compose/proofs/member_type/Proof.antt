@@ -1,5 +1,5 @@
 -- `member_type`: the member of the index, or none is left. Assumes nothing.
-use mathlib.Core.Path.{_≡_, sym, ap, _∙_}
+use mathlib.Core.Path.{sym, ap, _∙_}
 use Rattle.ir.specs.declared.StructMember.{StructMember}
 use Rattle.compose.proofs.Runs.{member-within, member-past}
 use Rattle.compose.proofs.member_type.Statement.{statement}

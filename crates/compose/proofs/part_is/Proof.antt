@@ -1,5 +1,4 @@
 -- `part_is`: each arm knows what is asked. Assumes nothing.
-use mathlib.Core.Path.{_≡_, sym, ap, _∙_}
 use Rattle.rule.specs.Answers.{number, resolved}
 use Rattle.type_methods.proofs.Handed.{optional-is}
 use Rattle.compose.proofs.part_is.Statement.{statement}
