@@ -4,13 +4,10 @@ use mathlib.Core.Path.{_≡_, refl, sym, ap, _∙_}
 use mathlib.Core.Bool.{Bool, true, false, cond, _&&_, _||_}
 use mathlib.Core.List.{List}
 use mathlib.Core.Option.{Option, none, some}
-use lib.Dec.{ltb, eqb}
-use lib.ListN.{length, getD}
+use lib.Dec.{eqb}
 use borrow.Author.Tests.{eqb-true}
 use Rattle.scan.proofs.Laws.{and-first, and-second}
 use Rattle.ir.specs.declared.TypeNumber.{TypeNumber}
-use Rattle.ir.specs.declared.RowNumber.{RowNumber}
-use Rattle.ir.specs.declared.MemberNumber.{MemberNumber}
 use Rattle.ir.specs.declared.ComponentNumber.{ComponentNumber}
 use Rattle.ir.specs.declared.ArraySize.{ArraySize}
 use Rattle.ir.specs.declared.ArraySize.the-variants as As
@@ -21,102 +18,35 @@ use Rattle.ir.specs.declared.TypeInner.{TypeInner}
 use Rattle.ir.specs.declared.TypeInner.the-variants as Ti
 use Rattle.ir.specs.declared.TypeForm.{TypeForm}
 use Rattle.ir.specs.declared.TypeForm.the-variants as Tf
-use Rattle.ir.specs.declared.TypeResolution.{TypeResolution}
-use Rattle.ir.specs.declared.TypeResolution.the-variants as Tr
-use Rattle.ir.specs.Numbers.{typeKindOf, spaceOf, scalarKindOf, scalarKindNumber, vectorSizeOf, vectorSizeNumber}
+use Rattle.ir.specs.Numbers.{spaceOf, scalarKindOf, scalarKindNumber, vectorSizeOf, vectorSizeNumber}
 use Rattle.ir.proofs.Numbered.{vectorSize-back, scalarKind-back}
-use Rattle.answers.specs.declared.Answer.{Answer}
-use Rattle.answers.specs.declared.Answer.the-variants as An
-use Rattle.answers.specs.declared.Refusal.the-variants.{MissingSpecialType}
 use Rattle.frames.specs.declared.Frame.{Frame}
-use Rattle.frames.specs.Bytes.{byte, half, word, zeroFrame, frameAt}
+use Rattle.frames.specs.Bytes.{byte, half, word}
 use Rattle.frames.specs.Fields.{arraySizeOf}
-use Rattle.frames.specs.Forms.{typeAs, typeOf}
+use Rattle.frames.specs.Forms.{typeOf}
 use Rattle.frames.specs.Out.{answerOf}
 use Rattle.archive.specs.declared.Starts.{Starts}
-use Rattle.archive.specs.Names.{isType}
 use Rattle.archive.specs.Access.{typeIn}
 use Rattle.rule.specs.declared.Fault.the-variants as Fa
 use Rattle.rule.specs.Answers.{TypeAnswer, number, value, resolved}
-use Rattle.rule.specs.Things.{inRange, valueFault, soundForm, formIn, isStructInner, isStruct}
-use Rattle.type_methods.specs.Canonical.{valuePointer, orOwn, formFound, throughBase, canonicalFormIn, orSelf, canonicalOf, equalTypes, identical}
+use Rattle.rule.specs.Things.{valueFault, formIn, isStructInner, isStruct}
+use Rattle.type_methods.specs.Canonical.{valuePointer, orOwn, formFound, throughBase, canonicalFormIn, orSelf, canonicalOf, identical}
 use Rattle.type_methods.specs.Comparison.{byAnswers, likeness}
 use Rattle.type_methods.proofs.Equality.{equal-types, identical-self}
 use Rattle.type_methods.proofs.Seen.{never}
 use Rattle.row_rules.specs.Operators.{equalScalars}
-use Rattle.operands.specs.Past.{answerIn}
+use Rattle.operand_frames.specs.Shown.{typeFrame, formFrame, scalarIn, isPlain}
+use Rattle.operand_frames.proofs.Looked.{type-frame, scalar-form, vector-form, matrix-form, pointer-form, array-form, struct-form, plain-form, answered, in-range}
 use Rattle.compose.specs.declared.Part.{Part}
 use Rattle.compose.specs.declared.Part.the-variants as Pa
 use Rattle.compose.specs.declared.OptionVerdict.the-variants as Ov
-use Rattle.compose.specs.Verdict.{eachPart, vectorParts, counted, arrayParts, verdict}
-use Rattle.compose.specs.Verdict.{adds}
+use Rattle.compose.specs.Verdict.{eachPart, vectorParts, counted, adds, verdict}
 use Rattle.compose.specs.Judged.{judgedBy, partsIn, askedOf, memberType, partIs, partVerdict, answerVerdict, answerAdded, countAdded, formAdded}
 use Rattle.compose.proofs.Runs.{composed-known, struct-counted}
-use Rattle.compose.specs.Shown.{pastFrame, typeFrame, formFrame, scalarIn, sameScalar, columnShown, isPlain, sameForm, samePointer, valueShown, typeShown, partShown}
-
--- a row's answer is that of its frame
-pub past-frame : (an pl : List ℕ) (n : RowNumber) → answerIn an pl n ≡ answerOf (pastFrame an pl n)
-unfolding answerIn answerOf
-past-frame an pl n = go (ltb (n .0) (length pl))
-  where
-    go : (b : Bool) → cond b (answerOf (frameAt an (getD pl (n .0) 0))) (An.Refused MissingSpecialType) ≡ answerOf (cond b (frameAt an (getD pl (n .0) 0)) zeroFrame)
-    go true = refl
-    go false = refl
-
--- a type is that of its frame
-pub type-frame : (fr : List ℕ) (s : Starts) (n : TypeNumber) → typeIn fr s n ≡ typeOf (typeFrame fr s n)
-unfolding typeIn typeOf
-type-frame fr s n = go (isType s n)
-  where
-    go : (b : Bool) → cond b (typeOf (frameAt fr (n .0))) Tf.Unknown ≡ typeOf (cond b (frameAt fr (n .0)) zeroFrame)
-    go true = refl
-    go false = refl
-
-no-form : {X : Type 0} (t : TypeInner) → typeOf zeroFrame ≡ Tf.Known t → X
-unfolding typeOf
-no-form t e = never (cc)
-
--- SCALARS, VECTORS AND MATRICES
+use Rattle.compose.specs.Shown.{sameScalar, columnShown, sameForm, samePointer, valueShown, typeShown, partShown}
 
 abbrev made : ScalarKind → ℕ → Scalar
 made k w = record { kind = k; width = w }
-
-scalar-form : (f : Frame) → byte f 1 ≡ 1 → typeOf f ≡ Tf.Known (Ti.Scalar (scalarIn f))
-unfolding typeOf
-scalar-form f e = ap (λ (k : ℕ). typeAs (typeKindOf k) f) e
-
-vector-form : (f : Frame) → byte f 1 ≡ 2 → typeOf f ≡ Tf.Known (Ti.Vector (vectorSizeOf (byte f 2)) (scalarIn f))
-unfolding typeOf
-vector-form f e = ap (λ (k : ℕ). typeAs (typeKindOf k) f) e
-
-matrix-form : (f : Frame) → byte f 1 ≡ 3 → typeOf f ≡ Tf.Known (Ti.Matrix (vectorSizeOf (byte f 2)) (vectorSizeOf (byte f 3)) (scalarIn f))
-unfolding typeOf
-matrix-form f e = ap (λ (k : ℕ). typeAs (typeKindOf k) f) e
-
-pointer-form : (f : Frame) → byte f 1 ≡ 6 → typeOf f ≡ Tf.Known (Ti.Pointer (record { 0 = half f 2 }) (spaceOf (byte f 6) (byte f 7)))
-unfolding typeOf
-pointer-form f e = ap (λ (k : ℕ). typeAs (typeKindOf k) f) e
-
-array-form : (f : Frame) → byte f 1 ≡ 8 → typeOf f ≡ Tf.Known (Ti.Array (record { 0 = half f 2 }) (arraySizeOf (byte f 4) (word f 8)) (word f 12))
-unfolding typeOf
-array-form f e = ap (λ (k : ℕ). typeAs (typeKindOf k) f) e
-
-struct-form : (f : Frame) → byte f 1 ≡ 9 → typeOf f ≡ Tf.Known (Ti.Struct (record { 0 = half f 2 }) (half f 4) (word f 12))
-unfolding typeOf
-struct-form f e = ap (λ (k : ℕ). typeAs (typeKindOf k) f) e
-
-record Formed (x : TypeForm) : Type 0 where
-  pub inner : TypeInner
-  pub is : x ≡ Tf.Known inner
-
-plain-form : (f : Frame) → isPlain f ≡ true → Formed (typeOf f)
-plain-form f h = go (eqb (byte f 1) 1) (eqb (byte f 1) 2) (eqb (byte f 1) 3) refl refl refl h
-  where
-    go : (x y z : Bool) → eqb (byte f 1) 1 ≡ x → eqb (byte f 1) 2 ≡ y → eqb (byte f 1) 3 ≡ z → (x || (y || z)) ≡ true → Formed (typeOf f)
-    go true y z p q r o = record { inner = _; is = scalar-form f (eqb-true _ _ p) }
-    go false true z p q r o = record { inner = _; is = vector-form f (eqb-true _ _ q) }
-    go false false true p q r o = record { inner = _; is = matrix-form f (eqb-true _ _ r) }
-    go false false false p q r o = never (cc)
 
 kind-same : (k j : ScalarKind) → scalarKindNumber k ≡ scalarKindNumber j → k ≡ j
 kind-same k j e = sym (scalarKind-back k) ∙ ap scalarKindOf e ∙ scalarKind-back j
@@ -131,28 +61,11 @@ scalar-same k j e =
     ap (λ (a : ScalarKind). made a (k .width)) x ∙ ap (λ (b : ℕ). made (j .kind) b) w
 
 module _ (fr : List ℕ) (s : Starts) where
-  -- AN ANSWER WHOSE FRAME SHOWS A SOUND FORM
-
-  record Answered (f : Frame) (t : TypeInner) : Type 0 where
-    pub given : TypeResolution
-    pub answer : answerOf f ≡ An.Resolved given
-    pub form : formIn fr s (resolved given) ≡ Tf.Known t
-
-  answered : (f : Frame) (t : TypeInner) → valueFault s t ≡ Fa.Sound → typeOf (formFrame fr s f) ≡ Tf.Known t → Answered f t
-  unfolding answerOf
-  answered f t sound e = go (eqb (byte f 0) 8) (eqb (byte f 0) 9) refl refl e
-    where
-      go : (a b : Bool) → eqb (byte f 0) 8 ≡ a → eqb (byte f 0) 9 ≡ b
-          → typeOf (cond a (typeFrame fr s (record { 0 = half f 2 })) (cond b f zeroFrame)) ≡ Tf.Known t → Answered f t
-      go true b p q h = record { given = Tr.Handle (record { 0 = half f 2 }); answer = rw p; form = type-frame fr s (record { 0 = half f 2 }) ∙ h }
-      go false true p q h = record { given = Tr.Value t; answer = rw (p, q, h); form = ap (soundForm t) sound }
-      go false false p q h = no-form t h
-
-  -- what it adds to a vector
+  -- WHAT A COMPONENT ADDS TO A VECTOR
 
   added-shown : (k : Scalar) (i : ℕ) (f : Frame) (t : TypeInner) → valueFault s t ≡ Fa.Sound → typeOf (formFrame fr s f) ≡ Tf.Known t
       → answerAdded i (λ r. formAdded i k (formIn fr s (resolved r))) (answerOf f) ≡ countAdded i (adds k t)
-  added-shown k i f t sound e = let w = answered f t sound e in rw (w .answer, w .form)
+  added-shown k i f t sound e = let w = answered fr s f t sound e in rw (w .answer, w .form)
 
   pub scalar-added : (k : Scalar) (i : ℕ) (f : Frame) → byte (formFrame fr s f) 1 ≡ 1
       → answerAdded i (λ r. formAdded i k (formIn fr s (resolved r))) (answerOf f) ≡ countAdded i (cond (sameScalar (formFrame fr s f) k) (some 1) none)
@@ -177,7 +90,7 @@ module _ (fr : List ℕ) (s : Starts) where
   column-shown : (rows : VectorSize) (k : Scalar) (i : ℕ) (f : Frame) → columnShown (formFrame fr s f) rows k ≡ true
       → answerVerdict i (λ t. partVerdict i (partIs fr s (Pa.Column rows k) i (resolved t))) (answerOf f) ≡ Ov.None
   column-shown rows k i f h =
-      let w = answered f (Ti.Vector rows k) refl (column-form (formFrame fr s f) rows k h) in
+      let w = answered fr s f (Ti.Vector rows k) refl (column-form (formFrame fr s f) rows k h) in
       rw (w .answer, w .form, equal-types (Ti.Vector rows k) (Ti.Vector rows k) .1 refl)
 
   -- THE SAME TYPE
@@ -258,15 +171,6 @@ module _ (fr : List ℕ) (s : Starts) where
           record { inner = t; form = matrix-form f k; alike = like-value n t t e refl refl refl }
       go false false false p q r o = never (cc)
 
-  -- a pointer's base that is a type is in range
-  in-range : (b : TypeNumber) (c : TypeInner) → typeIn fr s b ≡ Tf.Known c → inRange (isType s b) ≡ Fa.Sound
-  unfolding typeIn
-  in-range b c e = go (isType s b) e
-    where
-      go : (q : Bool) → cond q (typeOf (frameAt fr (b .0))) Tf.Unknown ≡ Tf.Known c → inRange q ≡ Fa.Sound
-      go true h = refl
-      go false h = never (cc)
-
   own-form : (t : TypeInner) (o : Option TypeInner) → orSelf t (formFound o) ≡ Tf.Known (orOwn t o)
   own-form t none = refl
   own-form t (some u) = refl
@@ -302,7 +206,7 @@ module _ (fr : List ℕ) (s : Starts) where
           record {
             inner = t;
             form = pointer-form f k;
-            alike = like-value n t (orOwn t (valuePointer p (w .inner))) e (in-range b (w .inner) base) refl own;
+            alike = like-value n t (orOwn t (valuePointer p (w .inner))) e (in-range fr s b (w .inner) base) refl own;
           }
       go false h1 plain = never (cc)
 

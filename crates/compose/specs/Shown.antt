@@ -1,38 +1,20 @@
 -- What the frame of a component's answer shows of its type, before any look: for the code, which goes by frames where they suffice.
 use Prim.Native.Nat.{ℕ}
-use mathlib.Core.Bool.{Bool, false, cond, _&&_, _||_}
+use mathlib.Core.Bool.{Bool, false, cond, _&&_}
 use mathlib.Core.List.{List}
-use lib.Dec.{ltb, eqb}
-use lib.ListN.{length, getD}
+use lib.Dec.{eqb}
 use Rattle.ir.specs.declared.TypeNumber.{TypeNumber}
-use Rattle.ir.specs.declared.RowNumber.{RowNumber}
 use Rattle.ir.specs.declared.VectorSize.{VectorSize}
 use Rattle.ir.specs.declared.Scalar.{Scalar}
-use Rattle.ir.specs.Numbers.{scalarKindOf, vectorSizeOf, vectorSizeNumber}
+use Rattle.ir.specs.Numbers.{vectorSizeOf, vectorSizeNumber}
 use Rattle.frames.specs.declared.Frame.{Frame}
-use Rattle.frames.specs.Bytes.{byte, half, zeroFrame, frameAt}
+use Rattle.frames.specs.Bytes.{byte, half}
 use Rattle.archive.specs.declared.Starts.{Starts}
-use Rattle.archive.specs.Names.{isType}
 use Rattle.row_rules.specs.Operators.{equalScalars}
+use Rattle.operand_frames.specs.Shown.{typeFrame, formFrame, scalarIn, isPlain}
 use Rattle.compose.specs.declared.Part.{Part}
 use Rattle.compose.specs.declared.Part.the-variants as Pa
 use Rattle.compose.specs.Judged.{memberType}
-
--- the frame of row n's answer; zeros, which read as the fixed refusal, of a row that is not typed yet
-abbrev pub pastFrame : List ℕ → List ℕ → RowNumber → Frame
-pastFrame answers places n = cond (ltb (n .0) (length places)) (frameAt answers (getD places (n .0) 0)) zeroFrame
-
--- the frame of type n; zeros, of unknown kind, where there is none
-abbrev pub typeFrame : List ℕ → Starts → TypeNumber → Frame
-typeFrame fr s n = cond (isType s n) (frameAt fr (n .0)) zeroFrame
-
--- the frame of the form of an answer's type: of a number that type's, of a value its own
-abbrev pub formFrame : List ℕ → Starts → Frame → Frame
-formFrame fr s f = cond (eqb (byte f 0) 8) (typeFrame fr s (record { 0 = half f 2 })) (cond (eqb (byte f 0) 9) f zeroFrame)
-
--- the scalar in bytes 4 and 5
-abbrev pub scalarIn : Frame → Scalar
-scalarIn f = record { kind = scalarKindOf (byte f 4); width = byte f 5 }
 
 -- the scalar in bytes 4 and 5 is this one
 abbrev pub sameScalar : Frame → Scalar → Bool
@@ -41,10 +23,6 @@ sameScalar f k = equalScalars (scalarIn f) k
 -- a frame is that of a vector of this size and scalar
 abbrev pub columnShown : Frame → VectorSize → Scalar → Bool
 columnShown f rows k = eqb (byte f 1) 2 && (eqb (vectorSizeNumber (vectorSizeOf (byte f 2))) (vectorSizeNumber rows) && sameScalar f k)
-
--- a frame is of a scalar, a vector or a matrix
-abbrev pub isPlain : Frame → Bool
-isPlain f = eqb (byte f 1) 1 || (eqb (byte f 1) 2 || eqb (byte f 1) 3)
 
 -- two frames are of the same scalar, vector or matrix: of the same kind, with the same bytes 2 to 5
 abbrev pub sameForm : Frame → Frame → Bool

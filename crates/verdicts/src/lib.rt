@@ -1,0 +1,213 @@
+// The verdict on a compose: the source's validate_compose (valid/compose.rs), by the rule that stands in crate compose.
+use answers::Verdict;
+use archive::Starts;
+use compose::Part;
+use counted_parts::counted_parts;
+use families::type_at;
+use ir::ArraySize;
+use ir::ComponentNumber;
+use ir::MemberNumber;
+use ir::TypeForm;
+use ir::TypeInner;
+use ir::TypeNumber;
+use ir::VectorSize;
+use operand_frames::type_frame;
+use vector_parts::vector_parts;
+ghost use mathlib.Core.Path.{_≡_};
+ghost use Rattle.rule.specs.Things.{memberTypes};
+ghost use Rattle.compose.specs.Verdict.{verdict, byForm, arrayParts};
+ghost use Rattle.compose.specs.Judged.{toJudged, judgedBy, partsIn};
+
+fn array_parts(
+    frames: &[u8],
+    s: Starts,
+    answers: &[u8],
+    places: &[u16],
+    base: TypeNumber,
+    size: ArraySize,
+    first: ComponentNumber,
+    count: u16,
+) -> Verdict
+    ensures { λ r. ⌜ toJudged r ≡ judgedBy (now (frames .entry)) s (now (answers .entry)) (now (places .entry)) (arrayParts base size (partsIn (now (frames .entry)) s first count)) ⌝ }
+{
+    match size {
+        ArraySize::Constant(n) => counted_parts(
+            frames,
+            s,
+            answers,
+            places,
+            n,
+            Part::Element(base),
+            first,
+            count,
+        ),
+        ArraySize::Pending(_) => Verdict::ComposedType,
+        ArraySize::Dynamic => Verdict::ComposedType,
+    }
+}
+
+// By the composed type's form.
+fn by_form(
+    frames: &[u8],
+    s: Starts,
+    answers: &[u8],
+    places: &[u16],
+    t: TypeInner,
+    first: ComponentNumber,
+    count: u16,
+) -> Verdict
+    ensures { λ r. ⌜ toJudged r ≡ judgedBy (now (frames .entry)) s (now (answers .entry)) (now (places .entry)) (byForm (partsIn (now (frames .entry)) s first count) (memberTypes (now (frames .entry)) s t) t) ⌝ }
+{
+    match t {
+        TypeInner::Scalar(_) => Verdict::ComposedType,
+        TypeInner::Vector { size, scalar } => vector_parts(
+            frames,
+            s,
+            answers,
+            places,
+            size,
+            scalar,
+            first,
+            count,
+        ),
+        TypeInner::Matrix {
+            columns,
+            rows,
+            scalar,
+        } => counted_parts(
+            frames,
+            s,
+            answers,
+            places,
+            columns.number() as u32,
+            Part::Column { rows, scalar },
+            first,
+            count,
+        ),
+        TypeInner::CooperativeMatrix {
+            columns: _,
+            rows: _,
+            scalar: _,
+            role: _,
+        } => Verdict::ComposedType,
+        TypeInner::Atomic(_) => Verdict::ComposedType,
+        TypeInner::Pointer { base: _, space: _ } => Verdict::ComposedType,
+        TypeInner::ValuePointer {
+            size: _,
+            scalar: _,
+            space: _,
+        } => Verdict::ComposedType,
+        TypeInner::Array {
+            base,
+            size,
+            stride: _,
+        } => array_parts(frames, s, answers, places, base, size, first, count),
+        TypeInner::Struct {
+            first: m,
+            count: n,
+            span: _,
+        } => counted_parts(
+            frames,
+            s,
+            answers,
+            places,
+            n as u32,
+            Part::Member { first: m, count: n },
+            first,
+            count,
+        ),
+        TypeInner::Image {
+            dim: _,
+            arrayed: _,
+            class: _,
+        } => Verdict::ComposedType,
+        TypeInner::Sampler { comparison: _ } => Verdict::ComposedType,
+        TypeInner::AccelerationStructure { vertex_return: _ } => Verdict::ComposedType,
+        TypeInner::RayQuery { vertex_return: _ } => Verdict::ComposedType,
+        TypeInner::BindingArray { base: _, size: _ } => Verdict::ComposedType,
+    }
+}
+
+// By the composed type's form, whatever its kind.
+fn by_type(
+    frames: &[u8],
+    s: Starts,
+    answers: &[u8],
+    places: &[u16],
+    ty: TypeNumber,
+    first: ComponentNumber,
+    count: u16,
+) -> Verdict
+    ensures { λ r. ⌜ toJudged r ≡ judgedBy (now (frames .entry)) s (now (answers .entry)) (now (places .entry)) (verdict ty (partsIn (now (frames .entry)) s first count)) ⌝ }
+{
+    match type_at(frames, s, ty) {
+        TypeForm::Known(t) => by_form(frames, s, answers, places, t, first, count),
+        TypeForm::Unknown => Verdict::NewerComposed,
+    }
+}
+
+// The verdict on a compose of type `ty` from the `count` components from `first` on. What is asked of the components of a vector, a matrix, an array of
+// constant size and a struct is read from the type's frame.
+pub fn judge(
+    frames: &[u8],
+    s: Starts,
+    answers: &[u8],
+    places: &[u16],
+    ty: TypeNumber,
+    first: ComponentNumber,
+    count: u16,
+) -> Verdict
+    ensures { λ r. ⌜ toJudged r ≡ judgedBy (now (frames .entry)) s (now (answers .entry)) (now (places .entry)) (verdict ty (partsIn (now (frames .entry)) s first count)) ⌝ }
+{
+    let f = type_frame(frames, s, ty);
+    if f.b1 == 2 {
+        let size = VectorSize::from_number(f.b2);
+        let scalar = f.scalar();
+        vector_parts(frames, s, answers, places, size, scalar, first, count)
+    } else if f.b1 == 3 {
+        let columns = VectorSize::from_number(f.b2);
+        let rows = VectorSize::from_number(f.b3);
+        let scalar = f.scalar();
+        counted_parts(
+            frames,
+            s,
+            answers,
+            places,
+            columns.number() as u32,
+            Part::Column { rows, scalar },
+            first,
+            count,
+        )
+    } else if (f.b1 == 8) & (f.b4 == 0) {
+        let base = f.named();
+        let n = f.third();
+        counted_parts(
+            frames,
+            s,
+            answers,
+            places,
+            n,
+            Part::Element(TypeNumber(base)),
+            first,
+            count,
+        )
+    } else if f.b1 == 9 {
+        let m = f.named();
+        let n = f.second();
+        counted_parts(
+            frames,
+            s,
+            answers,
+            places,
+            n as u32,
+            Part::Member {
+                first: MemberNumber(m),
+                count: n,
+            },
+            first,
+            count,
+        )
+    } else {
+        by_type(frames, s, answers, places, ty, first, count)
+    }
+}
