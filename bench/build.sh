@@ -14,8 +14,8 @@ mkdir -p crates/bench_rows/src
 cat >crates/bench_rows/src/lib.rt <<'END'
 // Typing and reading a file, for a program in Rust that takes their time.
 use answers::Outcome;
+use file_rows::type_rows;
 use reader::read_file;
-use reader::rows::type_rows;
 
 fn accepted(o: Outcome) -> usize {
     match o {
@@ -39,7 +39,7 @@ pub extern "C" fn bench_read_file(text: &[u8], frames: &mut [u8]) -> usize {
     accepted(read_file(text, frames))
 }
 END
-echo 'bench_rows: answers reader' >>crates.txt
+echo 'bench_rows: answers reader file_rows' >>crates.txt
 rt staticlib bench_rows
 rustc -O --edition 2024 --cfg 'feature="compare"' "$root/bench/compare.rs" -C link-arg=target/staticlib/libbench_rows.a -o "$out/compare"
 rustc -O --edition 2024 "$root/bench/plain.rs" -o "$out/plain"

@@ -1,4 +1,4 @@
-//! The job of `reader::rows::type_rows`, written plainly in safe Rust, twice: `by_enums` decodes frames to enums, as naga has
+//! The job of `file_rows::type_rows`, written plainly in safe Rust, twice: `by_enums` decodes frames to enums, as naga has
 //! them, and keeps its answers as enums; `on_bytes` reads and writes frames in place. What the speed of the reader is held against.
 //!
 //! `plain CASES STDOUT` holds both to the stored answers (crates/replay_answers).

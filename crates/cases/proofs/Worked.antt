@@ -34,7 +34,7 @@ use Rattle.cases.specs.Table.{Answered, printed, outcome, typesAre, rowI
 abbrev Output : Type 0
 Output = Answered × List ℕ
 
--- what is answered, by the definitions that the contracts of `reader`'s functions cite
+-- what is answered, by `reader`'s definitions, which the contracts of the public functions cite
 abbrev answered : Case → Asked → Answered
 answered c print = printed (typedText (c .text))
 answered c (types an) = typesAre (readFile (c .text) (length (c .lent)) (Lent (length an))) (answersAfter (c .text) (length (c .lent)) an)

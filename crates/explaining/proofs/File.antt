@@ -4,7 +4,7 @@ use mathlib.Core.Path.{_≡_, sym, ap, _∙_}
 use mathlib.Core.List.{List}
 use lib.ListN.{length, take}
 use Rattle.reader.specs.declared.OptionUsize.the-variants as Ou
-use Rattle.reader.specs.declared.rows.TypedFile.{TypedFile}
+use Rattle.reader.specs.declared.TypedFile.{TypedFile}
 use Rattle.reader.specs.File.{overFile, framesIn}
 use Rattle.reader.specs.Typing.{HandsBack}
 use Rattle.reader.proofs.Over.{refused-over}

@@ -1,12 +1,12 @@
 // A file explained to people: a line for each row and one more after a compose, in words; one line for a file that is not accepted (specs/Explained.antt).
 use answers::Outcome;
+use file_rows::type_file;
 use frames::Frame;
 use frames::frame_at;
 use frames::frame_count;
 use out::write::outcome_frame;
 use reader::OptionUsize;
 use reader::frames_in;
-use reader::rows::type_file;
 use spelling::answers::put_fault;
 use spelling::answers::put_line;
 use words::copy;

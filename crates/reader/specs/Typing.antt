@@ -26,7 +26,7 @@ use Rattle.row_rules.specs.Answered.{toResult}
 use Rattle.compose.specs.Rows.{verdictOf}
 use Rattle.compose.specs.Judged.{toJudged}
 use Rattle.answering.specs.Outputs.{rowAnswer, outputBytes}
-use Rattle.reader.specs.declared.rows.TypedFile.{TypedFile}
+use Rattle.reader.specs.declared.TypedFile.{TypedFile}
 use Rattle.reader.specs.File.{overFile, readFile, framesAfter}
 
 -- the frames of an accepted file, and an answer buffer of a bytes that has room for what is handed back

@@ -1,7 +1,4 @@
-// The public functions over a file. Each checks the file first (document 01, "Numbers handed back").
-pub mod lines;
-pub mod rows;
-
+// Reading a file, and comparing two of its types: the file is checked first (document 01, "Numbers handed back").
 use answers::Outcome;
 use answers::Sameness;
 use checks::check_frames;
@@ -21,6 +18,12 @@ pub enum OptionUsize {
     Some(usize),
 }
 
+// What typing a file gives: the outcome, and how many frames are handed back.
+pub struct TypedFile {
+    pub outcome: Outcome,
+    pub outputs: usize,
+}
+
 pub fn frames_in(o: Outcome) -> OptionUsize
     ensures { λ r. ⌜ r ≡ framesIn o ⌝ }
 {
@@ -37,7 +40,7 @@ pub fn frames_in(o: Outcome) -> OptionUsize
 
 // Checks 1 to 6, with the length of the answer buffer where one is lent. Numbers 1 to 3 change no buffer; otherwise the frames stand
 // at the front of the frame buffer, and its bytes past them stay.
-pub(crate) fn read_with(text: &[u8], frames: &mut [u8], room: AnswerRoom) -> Outcome
+pub fn read_with(text: &[u8], frames: &mut [u8], room: AnswerRoom) -> Outcome
     ensures { λ r. ⌜ (r ≡ readFile (now (text .entry)) (length (now (frames .entry))) room) × (now (frames .exit) ≡ framesAfter (now (text .entry)) (now (frames .entry)) room) ⌝ }
 {
     let read = read_text(text, frames, room);

@@ -7,9 +7,9 @@
 use answers::Outcome;
 use answers::Sameness;
 use decoding::read_text;
+use file_lines::type_text;
 use frames::frame_at;
 use libc::STDOUT_FILENO;
-use reader::lines::type_text;
 use reader::same_type;
 use text::AnswerRoom;
 ghost use Prim.Native.Nat.{_≤_};

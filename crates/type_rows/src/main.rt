@@ -1,8 +1,8 @@
 // The typing program: reads a file from standard input and prints what typing it hands back, a line for each row and one more after a compose; for a file that
 // is not accepted, one line with its number and place. Reads no more than 33,793 bytes, which is one over the longest file.
+use file_lines::type_text;
 use libc::STDIN_FILENO;
 use libc::STDOUT_FILENO;
-use reader::lines::type_text;
 
 fn main() {
     let mut text = [0u8; 33793];

@@ -1,0 +1,215 @@
+// Typing the rows of a file: an answer for each row, in order, and after a compose its verdict. An earlier answer is found in the answer buffer by a table of
+// places.
+use answers::ComposeVerdict;
+use answers::Outcome;
+use answers::RowType;
+use archive::Starts;
+use families::find_starts;
+use families::is_row;
+use frames::Frame;
+use frames::frame_at;
+use frames::put_frame;
+use ir::ComponentNumber;
+use ir::RowNumber;
+use ir::TypeNumber;
+use operands::past::past;
+use out::write::answer_frame;
+use out::write::verdict_frame;
+use reader::OptionUsize;
+use reader::TypedFile;
+use reader::frames_in;
+use reader::read_with;
+use text::AnswerRoom;
+use typifier::resolve::type_row;
+use verdicts::judge;
+ghost use mathlib.Core.Path.{_≡_};
+ghost use mathlib.Core.List.{_++_};
+ghost use mathlib.Core.Bool.{cond};
+ghost use Prim.Native.Nat.{_+_, _*_, _<_, _≤_};
+ghost use lib.ListN.{length, take, drop};
+ghost use Rattle.text.specs.declared.AnswerRoom.the-variants.{Lent};
+ghost use Rattle.archive.specs.Starts.{startsOf, rowCount};
+ghost use Rattle.archive.specs.Names.{isRow};
+ghost use Rattle.rule.specs.Things.{see};
+ghost use Rattle.answering.specs.Outputs.{outputs, framesBytes, outputBytes, placesOf};
+ghost use Rattle.reader.specs.File.{readFile, framesAfter};
+ghost use Rattle.reader.specs.Typing.{Ready, answersWritten, answersAfter, HandsBack, toGiven, rowGiven, rowType, answersAfterRow, toVerdict, verdictGiven, ifJudged, composeVerdict, answersAfterVerdict};
+
+// Writes a row's answer as frame `at`, and after it the verdict if the row is a compose; gives the frame after them.
+fn answer_row(
+    frames: &[u8],
+    s: Starts,
+    answers: &mut [u8],
+    places: &[u16],
+    row: RowNumber,
+    at: usize,
+) -> usize
+    requires { ⌜ Ready (now frames) (length (now answers)) × (s ≡ startsOf (now frames)) × (row .0 < rowCount s) × (at ≡ length (outputs (see (now frames)) (row .0))) × (take (16 * at) (now answers) ≡ framesBytes (outputs (see (now frames)) (row .0))) × (now places ≡ placesOf (now frames) (row .0)) ⌝ }
+    ensures { λ r. ⌜ (r ≡ length (outputs (see (now (frames .entry))) (row .0 + 1))) × (now (answers .exit) ≡ framesBytes (outputs (see (now (frames .entry))) (row .0 + 1)) ++ drop (16 * r) (now (answers .entry))) ⌝ }
+{
+    let e = 16 * at;
+    let a = type_row(frames, s, &answers[..e], places, row);
+    put_frame(answers, at, answer_frame(a));
+    let after = at + 1;
+    let f = frame_at(frames, s.rows + (row.0 as usize));
+    if f.b1 == 5 {
+        let v = judge(
+            frames,
+            s,
+            &answers[..e],
+            places,
+            TypeNumber(f.named()),
+            ComponentNumber(f.last()),
+            f.second(),
+        );
+        put_frame(answers, after, verdict_frame(row, v));
+        after + 1
+    } else {
+        after
+    }
+}
+
+fn row_count(s: Starts) -> usize
+    ensures { λ r. ⌜ r ≡ rowCount s ⌝ }
+{
+    if s.components < s.rows {
+        0
+    } else {
+        s.components - s.rows
+    }
+}
+
+// Every row in order; gives how many frames are written. `places` takes at which of them each row's answer stands.
+fn answer_rows(frames: &[u8], s: Starts, answers: &mut [u8], places: &mut [u16]) -> usize
+    requires { ⌜ Ready (now frames) (length (now answers)) × (s ≡ startsOf (now frames)) × (rowCount s ≤ length (now places)) ⌝ }
+    ensures { λ r. ⌜ (r ≡ length (outputs (see (now (frames .entry))) (rowCount s))) × (now (answers .exit) ≡ answersWritten (now (answers .entry)) (now (frames .entry))) × (now (places .exit) ≡ placesOf (now (frames .entry)) (rowCount s) ++ drop (rowCount s) (now (places .entry))) ⌝ }
+{
+    let n = row_count(s);
+    let mut m = 0;
+    let mut at = 0;
+    while m < n {
+        let next = answer_row(frames, s, answers, &places[..m], RowNumber(m as u16), at);
+        places[m] = at as u16;
+        at = next;
+        m += 1;
+    }
+    at
+}
+
+// Answers every row, and gives how many frames are written.
+fn answer_all(frames: &[u8], answers: &mut [u8]) -> usize
+    requires { ⌜ Ready (now frames) (length (now answers)) ⌝ }
+    ensures { λ r. ⌜ (16 * r ≡ length (outputBytes (now (frames .entry)))) × (now (answers .exit) ≡ answersWritten (now (answers .entry)) (now (frames .entry))) ⌝ }
+{
+    let mut places = [0u16; 1024];
+    let s = find_starts(frames);
+    answer_rows(frames, s, answers, &mut places)
+}
+
+// One row's answer, after all are written.
+fn answer_one(frames: &[u8], answers: &mut [u8], row: RowNumber) -> RowType
+    requires { ⌜ Ready (now frames) (length (now answers)) ⌝ }
+    ensures { λ r. ⌜ (toGiven r ≡ rowGiven row (now (frames .entry))) × (now (answers .exit) ≡ cond (isRow (startsOf (now (frames .entry))) row) (answersWritten (now (answers .entry)) (now (frames .entry))) (now (answers .entry))) ⌝ }
+{
+    let s = find_starts(frames);
+    if is_row(s, row) {
+        let mut places = [0u16; 1024];
+        answer_rows(frames, s, answers, &mut places);
+        let n = row_count(s);
+        RowType::Answered(past(answers, &places[..n], row))
+    } else {
+        RowType::Index
+    }
+}
+
+// One compose's verdict, after all answers and verdicts are written.
+fn judge_one(frames: &[u8], answers: &mut [u8], row: RowNumber) -> ComposeVerdict
+    requires { ⌜ Ready (now frames) (length (now answers)) ⌝ }
+    ensures { λ r. ⌜ (toVerdict r ≡ verdictGiven row (now (frames .entry))) × (now (answers .exit) ≡ ifJudged (answersWritten (now (answers .entry)) (now (frames .entry))) (now (answers .entry)) (verdictGiven row (now (frames .entry)))) ⌝ }
+{
+    let s = find_starts(frames);
+    if is_row(s, row) {
+        let m = row.0 as usize;
+        let f = frame_at(frames, s.rows + m);
+        if f.b1 == 5 {
+            let mut places = [0u16; 1024];
+            answer_rows(frames, s, answers, &mut places);
+            ComposeVerdict::Judged(judge(
+                frames,
+                s,
+                answers,
+                &places[..m],
+                TypeNumber(f.named()),
+                ComponentNumber(f.last()),
+                f.second(),
+            ))
+        } else {
+            ComposeVerdict::NotCompose
+        }
+    } else {
+        ComposeVerdict::Index
+    }
+}
+
+// Types every row of a file and judges every compose. The frame buffer is as `read_file` leaves it; of an accepted file the answers and verdicts, 16 bytes each, stand
+// at the front of the answer buffer, and its bytes past them stay. Of a file that is not accepted nothing is handed back.
+pub fn type_file(text: &[u8], frames: &mut [u8], answers: &mut [u8]) -> TypedFile
+    ensures { λ r. ⌜ HandsBack (now (text .entry)) (now (frames .entry)) (now (answers .entry)) r (now (frames .exit)) (now (answers .exit)) ⌝ }
+{
+    let read = read_with(text, frames, AnswerRoom::Lent(answers.len()));
+    match frames_in(read) {
+        OptionUsize::None => TypedFile {
+            outcome: read,
+            outputs: 0,
+        },
+        OptionUsize::Some(n) => {
+            let m = 16 * n;
+            let k = answer_all(&frames[..m], answers);
+            TypedFile {
+                outcome: read,
+                outputs: k,
+            }
+        }
+    }
+}
+
+// The same, where the outcome is enough: how many frames are handed back is known from the file.
+pub fn type_rows(text: &[u8], frames: &mut [u8], answers: &mut [u8]) -> Outcome
+    ensures { λ r. ⌜ (r ≡ readFile (now (text .entry)) (length (now (frames .entry))) (Lent (length (now (answers .entry))))) × (now (frames .exit) ≡ framesAfter (now (text .entry)) (now (frames .entry)) (Lent (length (now (answers .entry))))) × (now (answers .exit) ≡ answersAfter (now (text .entry)) (length (now (frames .entry))) (now (answers .entry))) ⌝ }
+{
+    let typed = type_file(text, frames, answers);
+    typed.outcome
+}
+
+// The answer of one row, with the buffers as `type_rows` leaves them. The answer buffer is unchanged where the file does not have the row.
+pub fn row_type(text: &[u8], frames: &mut [u8], answers: &mut [u8], row: RowNumber) -> RowType
+    ensures { λ r. ⌜ (toGiven r ≡ rowType (now (text .entry)) (length (now (frames .entry))) (length (now (answers .entry))) row) × (now (frames .exit) ≡ framesAfter (now (text .entry)) (now (frames .entry)) (Lent (length (now (answers .entry))))) × (now (answers .exit) ≡ answersAfterRow (now (text .entry)) (length (now (frames .entry))) (now (answers .entry)) row) ⌝ }
+{
+    let read = read_with(text, frames, AnswerRoom::Lent(answers.len()));
+    match frames_in(read) {
+        OptionUsize::None => RowType::NotAccepted(read),
+        OptionUsize::Some(n) => {
+            let m = 16 * n;
+            answer_one(&frames[..m], answers, row)
+        }
+    }
+}
+
+// The verdict on one compose, with the buffers as `type_rows` leaves them. The answer buffer is unchanged where the file has no such row, or the row is no compose.
+pub fn compose_verdict(
+    text: &[u8],
+    frames: &mut [u8],
+    answers: &mut [u8],
+    row: RowNumber,
+) -> ComposeVerdict
+    ensures { λ r. ⌜ (toVerdict r ≡ composeVerdict (now (text .entry)) (length (now (frames .entry))) (length (now (answers .entry))) row) × (now (frames .exit) ≡ framesAfter (now (text .entry)) (now (frames .entry)) (Lent (length (now (answers .entry))))) × (now (answers .exit) ≡ answersAfterVerdict (now (text .entry)) (length (now (frames .entry))) (now (answers .entry)) row) ⌝ }
+{
+    let read = read_with(text, frames, AnswerRoom::Lent(answers.len()));
+    match frames_in(read) {
+        OptionUsize::None => ComposeVerdict::NotAccepted(read),
+        OptionUsize::Some(n) => {
+            let m = 16 * n;
+            judge_one(&frames[..m], answers, row)
+        }
+    }
+}
