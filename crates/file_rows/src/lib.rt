@@ -13,14 +13,13 @@ use ir::ComponentNumber;
 use ir::RowNumber;
 use ir::TypeNumber;
 use operands::past::past;
-use out::write::answer_frame;
 use out::write::verdict_frame;
 use reader::OptionUsize;
 use reader::TypedFile;
 use reader::frames_in;
 use reader::read_with;
+use row_frames::row::put_row;
 use text::AnswerRoom;
-use typifier::resolve::type_row;
 use verdicts::judge;
 ghost use mathlib.Core.Path.{_≡_};
 ghost use mathlib.Core.List.{_++_};
@@ -47,12 +46,11 @@ fn answer_row(
     requires { ⌜ Ready (now frames) (length (now answers)) × (s ≡ startsOf (now frames)) × (row .0 < rowCount s) × (at ≡ length (outputs (see (now frames)) (row .0))) × (take (16 * at) (now answers) ≡ framesBytes (outputs (see (now frames)) (row .0))) × (now places ≡ placesOf (now frames) (row .0)) ⌝ }
     ensures { λ r. ⌜ (r ≡ length (outputs (see (now (frames .entry))) (row .0 + 1))) × (now (answers .exit) ≡ framesBytes (outputs (see (now (frames .entry))) (row .0 + 1)) ++ drop (16 * r) (now (answers .entry))) ⌝ }
 {
-    let e = 16 * at;
-    let a = type_row(frames, s, &answers[..e], places, row);
-    put_frame(answers, at, answer_frame(a));
+    put_row(frames, s, answers, places, row, at);
     let after = at + 1;
     let f = frame_at(frames, s.rows + (row.0 as usize));
     if f.b1 == 5 {
+        let e = 16 * at;
         let v = judge(
             frames,
             s,

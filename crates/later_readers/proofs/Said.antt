@@ -14,7 +14,8 @@ use Rattle.frames.specs.Bytes.{bytesOf}
 use Rattle.frames.specs.Out as Out
 use Rattle.frames.specs.Out.{answerFrame, refusedFrame}
 use Rattle.reader.specs.Typing.{toGiven, toVerdict}
-use Rattle.reader.proofs.Row.{answer-framed, verdict-framed}
+use Rattle.row_rules.proofs.Written.{answer-framed}
+use Rattle.reader.proofs.Row.{verdict-framed}
 use Rattle.later_readers.specs.Ours.{rowGivenBytes, verdictGivenBytes}
 
 -- the bytes of what was asked for, or of a number with its place

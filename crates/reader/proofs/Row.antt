@@ -34,7 +34,7 @@ use Rattle.archive.specs.Names.{isRow}
 use Rattle.archive.specs.Access.{rowIn}
 use Rattle.archive.proofs.Owners.{starts-small}
 use Rattle.archive.proofs.Ranks.{begins}
-use Rattle.rule.specs.Answers.{Judgement, Result, newer, rowFrame, verdictFrame}
+use Rattle.rule.specs.Answers.{Typed, Judgement, Result, newer, rowFrame, verdictFrame}
 use Rattle.rule.specs.Things.{Sight, seeRow, seeIn, see}
 use Rattle.rule.specs.Rule.{Rule, run}
 use Rattle.rule.specs.Claim.{ours}
@@ -52,13 +52,7 @@ use Rattle.answering.proofs.Buffer.{run-buffer}
 use Rattle.answering.proofs.Room.{row-compose, row-is}
 use Rattle.reader.specs.Typing.{Ready, answersWritten}
 
--- the code's answers and verdicts are written as the definitions have them
-pub answer-framed : (a : Answer) → answerFrame a ≡ rowFrame (toResult a)
-answer-framed (An.Resolved (Tr.Handle n)) = refl
-answer-framed (An.Resolved (Tr.Value t)) = refl
-answer-framed (An.Refused e) = refl
-answer-framed (An.Newer r) = refl
-
+-- the code's verdicts are written as the definitions have them
 pub verdict-framed : (r : RowNumber) (v : Verdict) → Out.verdictFrame r v ≡ verdictFrame r (toJudged v)
 verdict-framed r Vd.Passes = refl
 verdict-framed r Vd.ComposedType = refl
@@ -150,24 +144,21 @@ module _ (fr an : List ℕ) (m : ℕ) (ready : Ready fr (length an)) (here : m <
   whole : an ≡ framesBytes outs ++ drop (16 * at) an
   whole = sym (take-append-drop (16 * at) an) ∙ ap (λ (l : List ℕ). l ++ drop (16 * at) an) et
 
-  -- a rule that is run over those frames gives our outcome
-  pub ours-here : {A : Type 0} (s : Starts) (b places : List ℕ) (rule : Rule A) → s ≡ startsOf fr → b ≡ framesBytes outs → places ≡ placesOf fr m
+  -- a rule that is run over those frames, whatever stands after them, gives our outcome
+  pub ours-here : {A : Type 0} (s : Starts) (b rest places : List ℕ) (rule : Rule A) → s ≡ startsOf fr → b ≡ framesBytes outs ++ rest → places ≡ placesOf fr m
       → run (seeIn fr s) (pastIn b places) newer rule ≡ ours (see fr) typing m rule
-  ours-here s b places rule es eb ep =
-      rw (es, ep, eb ∙ sym (append-nil (framesBytes outs))) (run-buffer fr (good-of fr (length an) ready) m (omega arith) [] rule)
+  ours-here s b rest places rule es eb ep = rw (es, ep, eb) (run-buffer fr (good-of fr (length an) ready) m (omega arith) rest rule)
 
   pub more : at + 1 ≤ length (outputs (see fr) (suc m))
   unfolding outputs
   more = omega (arith, length-append outs (rowFrames (see fr) m))
 
-  module _ (a : Answer) (last : List ℕ) (ea : toResult a ≡ rowAnswer (see fr) m) (el : last ≡ putFrame an (length (outputs (see fr) m)) (answerFrame a)) where
+  module _ (last : List ℕ) (el : last ≡ putFrame an (length (outputs (see fr) m)) (rowFrame (rowAnswer (see fr) m))) where
     abbrev f : Frame
     f = rowFrame (rowAnswer (see fr) m)
 
     pub row-put : last ≡ framesBytes (outs ++ (f ∷ [])) ++ drop (16 * length (outs ++ (f ∷ []))) an
-    row-put =
-        el ∙ ap (putFrame an at) (answer-framed a ∙ ap rowFrame ea)
-        ∙ put-next outs f an an whole (omega (arith, room-for fr (length an) ready (suc m) (omega arith), more))
+    row-put = el ∙ put-next outs f an an whole (omega (arith, room-for fr (length an) ready (suc m) (omega arith), more))
 
     -- no compose: the row's answer is all
     pub row-done : verdictRule (see fr) m ≡ none → (at + 1 ≡ length (outputs (see fr) (m + 1))) × (last ≡ framesBytes (outputs (see fr) (m + 1)) ++ drop (16 * (at + 1)) an)
@@ -210,14 +201,15 @@ module _ (fr an places : List ℕ) (s : Starts) (row : RowNumber) (at : ℕ) (re
   pub room-here : 16 * at + 16 ≤ length an
   room-here = omega (arith, ea, room-for fr (length an) ready (suc (row .0)) (omega (arith, here)), more fr an (row .0) ready here outs-there)
 
-  module _ (a : Answer) (last : List ℕ) (frame : Frame) (ra : toResult a ≡ ruled fr s (take (16 * at) an) places (typed row)) (el : last ≡ putFrame an at (answerFrame a))
-      (ef : frame ≡ frameAt fr (s .rows + row .0)) where
-    answer-is : toResult a ≡ rowAnswer (see fr) (row .0)
+  module _ (last : List ℕ) (frame : Frame) (el : last ≡ putFrame an at (rowFrame (ruled fr s an places (typed row)))) (ef : frame ≡ frameAt fr (s .rows + row .0)) where
+    answer-is : ruled fr s an places (typed row) ≡ rowAnswer (see fr) (row .0)
     unfolding ruled
-    answer-is = ra ∙ ours-here fr an (row .0) ready here outs-there s (take (16 * at) an) places (typed row) es et ep
+    answer-is =
+        ours-here fr an (row .0) ready here outs-there s an (drop (16 * length (outputs (see fr) (row .0))) an) places (typed row) es
+        (whole fr an (row .0) ready here outs-there) ep
 
-    last-is : last ≡ putFrame an (length (outputs (see fr) (row .0))) (answerFrame a)
-    last-is = rw ea at el
+    last-is : last ≡ putFrame an (length (outputs (see fr) (row .0))) (rowFrame (rowAnswer (see fr) (row .0)))
+    last-is = el ∙ ap (λ (k : ℕ). putFrame an k (rowFrame (ruled fr s an places (typed row)))) ea ∙ ap (λ (r : Result Typed). putFrame an (length (outputs (see fr) (row .0))) (rowFrame r)) answer-is
 
     frame-is : frame ≡ frameAt fr (startsOf fr .rows + row .0)
     frame-is = rw es at ef
@@ -226,7 +218,7 @@ module _ (fr an places : List ℕ) (s : Starts) (row : RowNumber) (at : ℕ) (re
     kept : take (16 * at) last ≡ framesBytes (outputs (see fr) (row .0))
     kept =
         ap (λ (k : ℕ). take (16 * k) last) ea
-        ∙ ap (take (16 * length (outputs (see fr) (row .0)))) (row-put fr an (row .0) ready here outs-there a last answer-is last-is)
+        ∙ ap (take (16 * length (outputs (see fr) (row .0)))) (row-put fr an (row .0) ready here outs-there last last-is)
         ∙ before (outputs (see fr) (row .0)) (rowFrame (rowAnswer (see fr) (row .0))) _
 
     pub still : 16 * at ≤ length last
@@ -235,7 +227,7 @@ module _ (fr an places : List ℕ) (s : Starts) (row : RowNumber) (at : ℕ) (re
     pub step-row : (frame .b1 ≡ 5 → ⊥) → (at + 1 ≡ length (outputs (see fr) (row .0 + 1))) × (last ≡ framesBytes (outputs (see fr) (row .0 + 1)) ++ drop (16 * (at + 1)) an)
     step-row h =
         rw ea
-        (row-done fr an (row .0) ready here outs-there a last answer-is last-is (no-rule fr (row .0) here (λ e. h (ap (λ (x : Frame). x .b1) frame-is ∙ e))))
+        (row-done fr an (row .0) ready here outs-there last last-is (no-rule fr (row .0) here (λ e. h (ap (λ (x : Frame). x .b1) frame-is ∙ e))))
 
     pub step-compose : frame .b1 ≡ 5 → (v : Verdict) (end : List ℕ)
         → toJudged v ≡ judgedBy fr s (take (16 * at) last) places (verdict (record { 0 = half frame 2 }) (partsIn fr s (record { 0 = word frame 12 }) (half frame 4)))
@@ -246,9 +238,9 @@ module _ (fr an places : List ℕ) (s : Starts) (row : RowNumber) (at : ℕ) (re
         let rule : Frame → Starts → Rule Judgement = λ f z. verdict (record { 0 = half f 2 }) (partsIn fr z (record { 0 = word f 12 }) (half f 4)) in
         let g : Frame = frameAt fr (startsOf fr .rows + row .0) in
         let j : toJudged v ≡ ours (see fr) typing (row .0) (rule g (startsOf fr)) =
-        rv ∙ ours-here fr an (row .0) ready here outs-there s (take (16 * at) last) places (rule frame s) es kept ep ∙ rw (es, frame-is) in
+        rv ∙ ours-here fr an (row .0) ready here outs-there s (take (16 * at) last) [] places (rule frame s) es (kept ∙ sym (append-nil (framesBytes (outputs (see fr) (row .0))))) ep ∙ rw (es, frame-is) in
         rw ea
-        (compose-done fr an (row .0) ready here outs-there a last answer-is last-is (rule g (startsOf fr)) v end (compose-rule fr (row .0) here (ap (λ (x : Frame). x .b1) (sym frame-is) ∙ h)) j (rw ea at ee))
+        (compose-done fr an (row .0) ready here outs-there last last-is (rule g (startsOf fr)) v end (compose-rule fr (row .0) here (ap (λ (x : Frame). x .b1) (sym frame-is) ∙ h)) j (rw ea at ee))
 
 -- a buffer whose front is made anew is past it as it was
 pub rest-stays : (l an b : List ℕ) (i j : ℕ) → an ≡ l ++ drop i b → length l ≡ i → i ≤ j → drop j an ≡ drop j b

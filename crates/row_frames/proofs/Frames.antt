@@ -38,7 +38,6 @@ use Rattle.row_rules.specs.Access.{bounded}
 use Rattle.row_rules.specs.Operators.{product, multiply}
 use Rattle.row_rules.specs.Variables.{variable}
 use Rattle.row_rules.specs.Typed.{typed}
-use Rattle.row_rules.specs.Answered.{toResult}
 use Rattle.operands.specs.declared.Based.the-variants as Ba
 use Rattle.operands.specs.Past.{answerIn, ruled, ruledShown, basedAt}
 use Rattle.operands.proofs.Steps.{multiply-run, row-run}
@@ -95,12 +94,6 @@ into-own fr s here (Ti.RayQuery x0) e = refl
 into-own fr s here (Ti.BindingArray x0 x1) e = refl
 
 -- AN ANSWER AS IT IS WRITTEN
-
-pub answer-framed : (a : Answer) → answerFrame a ≡ rowFrame (toResult a)
-answer-framed (An.Resolved (Tr.Handle n)) = refl
-answer-framed (An.Resolved (Tr.Value t)) = refl
-answer-framed (An.Refused e) = refl
-answer-framed (An.Newer r) = refl
 
 pub passed-number : (f : Frame) → byte f 0 ≡ 8 → numberFrame (record { 0 = half f 2 }) ≡ answerFrame (answerOf f)
 unfolding answerOf

@@ -1,7 +1,7 @@
 -- `put_row`: each arm knows its case, and what its call ensures. Assumes nothing.
 use mathlib.Core.Path.{refl, ap, _∙_}
 use Rattle.frames.specs.Bytes.{putFrame}
-use Rattle.reader.proofs.Row.{answer-framed}
+use Rattle.row_rules.proofs.Written.{answer-framed}
 use borrow.Author.Needs.{needs}
 use Rattle.exported.proofs.put_row.Statement.{statement}
 use Rattle.exported.proofs.put_row.Tie as tie

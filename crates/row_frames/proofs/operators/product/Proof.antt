@@ -6,7 +6,8 @@ use Rattle.ir.specs.declared.VectorSize.{VectorSize}
 use Rattle.frames.specs.Out.{answerFrame}
 use Rattle.answers.specs.declared.Answer.the-variants as An
 use Rattle.row_frames.specs.Quick.{vectorValue}
-use Rattle.row_frames.proofs.Frames.{form-at, answer-framed}
+use Rattle.row_frames.proofs.Frames.{form-at}
+use Rattle.row_rules.proofs.Written.{answer-framed}
 use Rattle.row_frames.proofs.operators.product.Statement.{statement}
 use Rattle.row_frames.proofs.operators.product.Tie as tie
 

@@ -4,7 +4,7 @@ use Rattle.frames.specs.declared.Frame.{Frame}
 use Rattle.frames.specs.Out.{answerFrame, answerOf}
 use Rattle.operand_frames.proofs.Looked.{past-frame}
 use Rattle.operands.specs.Past.{answerIn}
-use Rattle.row_frames.proofs.Frames.{answer-framed}
+use Rattle.row_rules.proofs.Written.{answer-framed}
 use Rattle.row_frames.proofs.operators.same_as.Statement.{statement}
 use Rattle.row_frames.proofs.operators.same_as.Tie as tie
 

@@ -3,7 +3,7 @@ use mathlib.Core.Path.{refl, sym, ap, _∙_}
 use borrow.Author.Needs.{needs}
 use Rattle.frames.specs.Bytes.{putFrame}
 use Rattle.rule.specs.Answers.{rowFrame}
-use Rattle.row_frames.proofs.Frames.{answer-framed}
+use Rattle.row_rules.proofs.Written.{answer-framed}
 use Rattle.row_frames.proofs.row.put_row.Statement.{statement}
 use Rattle.row_frames.proofs.row.put_row.Tie as tie
 
