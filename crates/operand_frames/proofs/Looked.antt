@@ -1,7 +1,7 @@
 -- What the frame of a row's answer shows of its type is what a look into the answer sees. By the cases of the answer's family and of a type's kind. Assumes
 -- nothing.
 use Prim.Native.Nat.{ℕ}
-use mathlib.Core.Path.{_≡_, refl, sym, ap, _∙_}
+use mathlib.Core.Path.{_≡_, refl, ap, _∙_}
 use mathlib.Core.Bool.{Bool, true, false, cond, _||_}
 use mathlib.Core.List.{List}
 use lib.Dec.{ltb, eqb}
@@ -17,7 +17,6 @@ use Rattle.ir.specs.declared.TypeForm.the-variants as Tf
 use Rattle.ir.specs.declared.TypeResolution.{TypeResolution}
 use Rattle.ir.specs.declared.TypeResolution.the-variants as Tr
 use Rattle.ir.specs.Numbers.{typeKindOf, spaceOf, vectorSizeOf}
-use Rattle.answers.specs.declared.Answer.{Answer}
 use Rattle.answers.specs.declared.Answer.the-variants as An
 use Rattle.answers.specs.declared.Refusal.the-variants.{MissingSpecialType}
 use Rattle.frames.specs.declared.Frame.{Frame}
@@ -29,15 +28,13 @@ use Rattle.archive.specs.declared.Starts.{Starts}
 use Rattle.archive.specs.Names.{isType}
 use Rattle.archive.specs.Access.{typeIn}
 use Rattle.rule.specs.declared.Fault.the-variants as Fa
-use Rattle.rule.specs.Answers.{TypeAnswer, number, value, resolved, Typed, Result, told}
+use Rattle.rule.specs.Answers.{number, value, resolved, Typed, told}
 use Rattle.rule.specs.Things.{Form, inRange, valueFault, soundForm, formIn}
 use Rattle.type_methods.proofs.Seen.{never}
 use Rattle.row_rules.specs.Steps.{byType, byBase}
-use Rattle.operands.specs.declared.Looked.{Looked}
 use Rattle.operands.specs.declared.Looked.the-variants as Lo
-use Rattle.operands.specs.declared.Based.{Based}
 use Rattle.operands.specs.declared.Based.the-variants as Ba
-use Rattle.operands.specs.Past.{answerIn, ruled, formed, lookedBy, lookedIn, basedOn, basedAt, basedBy, basedIn}
+use Rattle.operands.specs.Past.{answerIn, ruled, formed, lookedIn, basedOn, basedAt, basedBy, basedIn}
 use Rattle.operands.proofs.Steps.{type-seen, base-into, base-through}
 use Rattle.operand_frames.specs.Shown.{pastFrame, typeFrame, formFrame, shownFrame, scalarIn, isPlain}
 

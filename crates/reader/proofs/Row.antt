@@ -4,33 +4,24 @@ use Prim.Native.Nat.{ℕ, zero, suc, _+_, _*_, _-_, _≤_, _<_}
 use native.Mathlib.Decide.{decLe}
 use native.Mathlib.Omega.{arith}
 use mathlib.Core.Path.{_≡_, refl, sym, ap, _∙_}
-use mathlib.Core.Bool.{true}
 use mathlib.Core.List.{List, [], _∷_, _++_, append-assoc, append-nil}
 use mathlib.Core.Option.{Option, none, some}
 use native.Mathlib.Numerals.{add-one}
 use lib.ListN.{length, take, drop, length-append, length-take, length-drop, take-append-drop}
 use lib.Seq.{drop-drop, take-at, drop-at}
-use Rattle.ir.specs.declared.TypeNumber.{TypeNumber}
 use Rattle.ir.specs.declared.RowNumber.{RowNumber}
-use Rattle.ir.specs.declared.ComponentNumber.{ComponentNumber}
 use Rattle.ir.specs.declared.Expression.the-variants as Ex
 use Rattle.ir.specs.declared.RowForm.{RowForm}
 use Rattle.ir.specs.declared.RowForm.the-variants as Ro
-use Rattle.ir.specs.declared.TypeResolution.the-variants as Tr
 use Rattle.ir.specs.Numbers.{rowKindOf}
-use Rattle.answers.specs.declared.Answer.{Answer}
-use Rattle.answers.specs.declared.Answer.the-variants as An
-use Rattle.answers.specs.declared.Outcome.the-variants.{Accepted}
 use Rattle.answers.specs.declared.Verdict.{Verdict}
 use Rattle.answers.specs.declared.Verdict.the-variants as Vd
 use Rattle.frames.specs.declared.Frame.{Frame}
-use Rattle.frames.specs.Bytes.{byte, half, word, frameAt, frameCount, putFrame}
+use Rattle.frames.specs.Bytes.{byte, half, word, frameAt, putFrame}
 use Rattle.frames.specs.Forms.{rowAs, rowOf}
 use Rattle.frames.specs.Out as Out
-use Rattle.frames.specs.Out.{answerFrame}
 use Rattle.archive.specs.declared.Starts.{Starts}
 use Rattle.archive.specs.Starts.{startsOf, rowCount}
-use Rattle.archive.specs.Names.{isRow}
 use Rattle.archive.specs.Access.{rowIn}
 use Rattle.archive.proofs.Owners.{starts-small}
 use Rattle.archive.proofs.Ranks.{begins}
@@ -39,18 +30,17 @@ use Rattle.rule.specs.Things.{Sight, seeRow, seeIn, see}
 use Rattle.rule.specs.Rule.{Rule, run}
 use Rattle.rule.specs.Claim.{ours}
 use Rattle.row_rules.specs.Typed.{typed, typing}
-use Rattle.row_rules.specs.Answered.{toResult}
 use Rattle.operands.specs.Past.{pastIn, ruled}
 use Rattle.compose.specs.Verdict.{verdict}
 use Rattle.compose.specs.Rows.{ofShown, verdictRule, judged, verdictOf}
 use Rattle.compose.specs.Judged.{toJudged, judgedBy, partsIn}
 use Rattle.typifier_laws.proofs.Good.{Good, good-when}
 use Rattle.typifier_laws.proofs.Range.{row-there}
-use Rattle.answering.specs.Outputs.{rowAnswer, verdictFrames, rowFrames, outputs, framesBytes, outputBytes, placesOf}
+use Rattle.answering.specs.Outputs.{rowAnswer, verdictFrames, rowFrames, outputs, framesBytes, placesOf}
 use Rattle.answering.proofs.Bytes.{bytes-length, bytes-append, put-after}
 use Rattle.answering.proofs.Buffer.{run-buffer}
 use Rattle.answering.proofs.Room.{row-compose, row-is}
-use Rattle.reader.specs.Typing.{Ready, answersWritten}
+use Rattle.reader.specs.Typing.{Ready}
 
 -- the code's verdicts are written as the definitions have them
 pub verdict-framed : (r : RowNumber) (v : Verdict) → Out.verdictFrame r v ≡ verdictFrame r (toJudged v)

@@ -4,20 +4,17 @@ use Prim.Native.Nat.{ℕ, _+_, _<_, _≤_}
 use mathlib.Core.Path.{_≡_, refl, sym, ap, _∙_}
 use mathlib.Core.Bool.{Bool, true, false, cond}
 use mathlib.Core.List.{List}
-use lib.Dec.{ltb, eqb}
+use lib.Dec.{eqb}
 use borrow.Author.Tests.{lt-ltb, le-ltb, eq-eqb, ne-eqb, eqb-true}
 use Rattle.ir.specs.declared.TypeNumber.{TypeNumber}
 use Rattle.ir.specs.declared.RowNumber.{RowNumber}
 use Rattle.ir.specs.declared.TypeInner.{TypeInner}
 use Rattle.ir.specs.declared.TypeInner.the-variants as Ti
-use Rattle.ir.specs.declared.TypeForm.{TypeForm}
 use Rattle.ir.specs.declared.TypeForm.the-variants as Tf
 use Rattle.ir.specs.declared.OptionVectorSize.the-variants as Ov
 use Rattle.ir.specs.declared.TypeResolution.{TypeResolution}
-use Rattle.ir.specs.declared.TypeResolution.the-variants as Tr
 use Rattle.ir.specs.Numbers.{typeKindOf, itemKindOf, rowKindOf, scalarKindOf, imageDimensionOf, flagOf, spaceOf, vectorSizeOf}
 use Rattle.ir.specs.Scalars.{BOOL}
-use Rattle.answers.specs.declared.Answer.{Answer}
 use Rattle.answers.specs.declared.Answer.the-variants as An
 use Rattle.answers.specs.declared.Refusal.the-variants.{OutOfBoundsIndex}
 use Rattle.frames.specs.declared.Frame.{Frame}
@@ -28,7 +25,6 @@ use Rattle.frames.specs.Out.{numberFrame, typeFrame, answerFrame, answerOf}
 use Rattle.archive.specs.declared.Starts.{Starts}
 use Rattle.archive.specs.Names.{isRow}
 use Rattle.archive.specs.Access.{rowIn}
-use Rattle.rule.specs.declared.Fault.{Fault}
 use Rattle.rule.specs.declared.Fault.the-variants as Fa
 use Rattle.rule.specs.Answers.{TypeAnswer, resolved, given, refused, told, rowFrame}
 use Rattle.rule.specs.Things.{valueFault, formIn, seeRow}

@@ -1,8 +1,7 @@
 -- `answer_row`: the answer joins the frames of the rows before it, and so does a compose's verdict. Assumes nothing.
-use mathlib.Core.Path.{_≡_, sym, ap, _∙_}
+use mathlib.Core.Path.{sym, ap, _∙_}
 use Prim.Native.Nat.{_+_}
 use native.Mathlib.Omega.{arith}
-use lib.ListN.{length}
 use lib.Seq.{length-take-le}
 use borrow.Author.Needs.{needs}
 use Rattle.frames.specs.Bytes.{putFrame}

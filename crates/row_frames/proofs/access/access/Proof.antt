@@ -1,11 +1,10 @@
 -- `access`: by the kind of the operand. Assumes nothing.
 use mathlib.Core.Path.{refl, sym, ap, _∙_}
-use borrow.Author.Tests.{ne-eqb}
 use Rattle.frames.specs.declared.Frame.{Frame}
-use Rattle.frames.specs.Bytes.{byte, half, word}
+use Rattle.frames.specs.Bytes.{byte}
 use Prim.Native.Nat.{ℕ}
 use Rattle.frames.specs.Forms.{typeOf}
-use Rattle.rule.specs.Answers.{told, rowFrame}
+use Rattle.rule.specs.Answers.{rowFrame}
 use Rattle.operand_frames.specs.Shown.{typeFrame}
 use Rattle.ir.specs.declared.VectorSize.{VectorSize}
 use Rattle.operand_frames.proofs.Looked.{seen-sound, seen-number, by-into, by-through}

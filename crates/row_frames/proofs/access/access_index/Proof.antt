@@ -1,8 +1,8 @@
 -- `access_index`: a pointer is seen through, or the value is. Assumes nothing.
-use mathlib.Core.Path.{refl, sym, ap, _∙_}
+use mathlib.Core.Path.{sym, ap, _∙_}
 use Prim.Native.Nat.{ℕ}
 use Rattle.frames.specs.Forms.{typeOf}
-use Rattle.rule.specs.Answers.{told, rowFrame}
+use Rattle.rule.specs.Answers.{rowFrame}
 use Rattle.operand_frames.specs.Shown.{typeFrame}
 use Rattle.operand_frames.proofs.Looked.{by-into, by-through}
 use Rattle.row_rules.specs.Access.{indexThrough, indexInto}

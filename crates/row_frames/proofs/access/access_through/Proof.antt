@@ -1,9 +1,9 @@
 -- `access_through`: by the kind of the base. Assumes nothing.
-use mathlib.Core.Path.{refl, sym, ap, _∙_}
+use mathlib.Core.Path.{ap, _∙_}
 use Rattle.frames.specs.declared.Frame.{Frame}
-use Rattle.frames.specs.Bytes.{byte, half, word}
+use Rattle.frames.specs.Bytes.{byte}
 use Rattle.ir.specs.declared.VectorSize.{VectorSize}
-use Rattle.row_frames.specs.Quick.{pointerTo, columnPointer}
+use Rattle.row_frames.specs.Quick.{columnPointer}
 use Rattle.row_frames.proofs.Frames.{form-at}
 use Rattle.row_frames.proofs.access.access_through.Statement.{statement}
 use Rattle.row_frames.proofs.access.access_through.Tie as tie

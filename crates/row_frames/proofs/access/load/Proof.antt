@@ -1,20 +1,12 @@
 -- `load`: by the kind of the operand. Assumes nothing.
 use mathlib.Core.Path.{refl, sym, ap, _∙_}
-use borrow.Author.Tests.{ne-eqb}
 use Rattle.frames.specs.declared.Frame.{Frame}
-use Rattle.frames.specs.Bytes.{byte, half, word}
+use Rattle.frames.specs.Bytes.{byte}
 use Prim.Native.Nat.{ℕ}
 use Rattle.frames.specs.Forms.{typeOf}
 use Rattle.rule.specs.Answers.{told, rowFrame}
 use Rattle.operand_frames.specs.Shown.{typeFrame}
 use Rattle.ir.specs.declared.VectorSize.{VectorSize}
-use Rattle.frames.specs.Fields.{optionSizeOf}
-use Rattle.ir.specs.Numbers.{spaceOf}
-use Rattle.ir.specs.declared.TypeInner.the-variants as Ti
-use Rattle.ir.specs.declared.TypeForm.the-variants as Tf
-use Rattle.ir.specs.declared.OptionVectorSize.{OptionVectorSize}
-use Rattle.ir.specs.declared.OptionVectorSize.the-variants as Ov
-use Rattle.operand_frames.specs.Shown.{scalarIn}
 use Rattle.operand_frames.proofs.Looked.{seen-sound, by-into, by-through}
 use Rattle.row_rules.specs.Variables.{loadThrough, loadInto}
 use Rattle.row_frames.specs.Quick.{vectorValue}

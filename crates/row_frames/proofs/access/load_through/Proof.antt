@@ -1,7 +1,7 @@
 -- `load_through`: by the kind of the base. Assumes nothing.
-use mathlib.Core.Path.{refl, sym, ap, _∙_}
+use mathlib.Core.Path.{ap}
 use Rattle.frames.specs.declared.Frame.{Frame}
-use Rattle.frames.specs.Bytes.{byte, half, word}
+use Rattle.frames.specs.Bytes.{byte}
 use Rattle.row_frames.proofs.Frames.{form-at}
 use Rattle.row_frames.proofs.access.load_through.Statement.{statement}
 use Rattle.row_frames.proofs.access.load_through.Tie as tie

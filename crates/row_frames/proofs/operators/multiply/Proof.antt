@@ -1,5 +1,5 @@
 -- `multiply`: both forms are seen, and the product follows. Assumes nothing.
-use mathlib.Core.Path.{refl, sym, ap, _∙_}
+use mathlib.Core.Path.{sym, ap, _∙_}
 use Rattle.frames.specs.Forms.{typeOf}
 use Rattle.frames.specs.Out.{answerOf}
 use Rattle.rule.specs.Answers.{rowFrame}

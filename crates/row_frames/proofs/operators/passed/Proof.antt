@@ -1,5 +1,5 @@
 -- `passed`: a number, a scalar, a vector or a matrix is written anew from its bytes; every other answer is read and written. Assumes nothing.
-use mathlib.Core.Path.{refl, sym, ap, _∙_}
+use mathlib.Core.Path.{ap, _∙_}
 use Rattle.ir.specs.declared.VectorSize.{VectorSize}
 use Rattle.row_frames.specs.Quick.{vectorValue}
 use Rattle.row_frames.proofs.Frames.{form-at, passed-number, passed-value}

@@ -1,7 +1,7 @@
 -- `product`: by the kinds of both. Assumes nothing.
-use mathlib.Core.Path.{refl, sym, ap, _∙_}
+use mathlib.Core.Path.{refl, ap, _∙_}
 use Rattle.frames.specs.declared.Frame.{Frame}
-use Rattle.frames.specs.Bytes.{byte, half, word}
+use Rattle.frames.specs.Bytes.{byte}
 use Rattle.ir.specs.declared.VectorSize.{VectorSize}
 use Rattle.frames.specs.Out.{answerFrame}
 use Rattle.answers.specs.declared.Answer.the-variants as An

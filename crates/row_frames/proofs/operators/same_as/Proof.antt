@@ -1,5 +1,5 @@
 -- `same_as`: the frame is that of the answer that it stands for. Assumes nothing.
-use mathlib.Core.Path.{refl, sym, ap, _∙_}
+use mathlib.Core.Path.{sym, ap, _∙_}
 use Rattle.frames.specs.declared.Frame.{Frame}
 use Rattle.frames.specs.Out.{answerFrame, answerOf}
 use Rattle.operand_frames.proofs.Looked.{past-frame}

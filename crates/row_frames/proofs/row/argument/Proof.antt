@@ -1,13 +1,13 @@
 -- `argument`: there is such an item, and its frame shows its type. Assumes nothing.
-use mathlib.Core.Path.{refl, sym, ap, _∙_}
+use mathlib.Core.Path.{sym, ap, _∙_}
 use mathlib.Core.Bool.{Bool, cond}
 use mathlib.Core.Option.{none, some}
 use Prim.Native.Nat.{_+_}
 use Rattle.frames.specs.declared.Frame.{Frame}
-use Rattle.frames.specs.Bytes.{byte, half, word}
+use Rattle.frames.specs.Bytes.{byte}
 use Rattle.ir.specs.declared.Item.{Item}
 use Rattle.frames.specs.Forms.{itemOf}
-use Rattle.rule.specs.Things.{itemType, itemSpace, itemResult}
+use Rattle.rule.specs.Things.{itemType}
 use Rattle.frames.specs.Bytes.{frameAt}
 use Rattle.rule.specs.Answers.{number, given, told, rowFrame}
 use Rattle.row_rules.specs.Variables.{argument}

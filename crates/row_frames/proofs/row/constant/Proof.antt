@@ -1,10 +1,10 @@
 -- `constant`: the frame of the item shows its type. Assumes nothing.
-use mathlib.Core.Path.{refl, sym, ap, _∙_}
+use mathlib.Core.Path.{sym, ap, _∙_}
 use Rattle.frames.specs.declared.Frame.{Frame}
-use Rattle.frames.specs.Bytes.{byte, half, word}
+use Rattle.frames.specs.Bytes.{byte}
 use Rattle.ir.specs.declared.Item.{Item}
 use Rattle.frames.specs.Forms.{itemOf}
-use Rattle.rule.specs.Things.{itemType, itemSpace, itemResult}
+use Rattle.rule.specs.Things.{itemType}
 use Rattle.rule.specs.Answers.{number, given, told, rowFrame}
 use Rattle.row_frames.proofs.Frames.{item-at}
 use Rattle.row_frames.proofs.row.constant.Statement.{statement}

@@ -2,10 +2,10 @@
 use mathlib.Core.Path.{refl, sym, ap, _∙_}
 use Prim.Native.Nat.{ℕ}
 use Rattle.frames.specs.declared.Frame.{Frame}
-use Rattle.frames.specs.Bytes.{byte, half, word}
+use Rattle.frames.specs.Bytes.{byte, half}
 use Rattle.ir.specs.declared.Item.{Item}
 use Rattle.frames.specs.Forms.{itemOf}
-use Rattle.rule.specs.Things.{itemType, itemSpace, itemResult}
+use Rattle.rule.specs.Things.{itemType, itemSpace}
 use Rattle.ir.specs.Numbers.{spaceOf}
 use Rattle.rule.specs.Answers.{told, rowFrame}
 use Rattle.row_rules.specs.Variables.{variable}

@@ -1,5 +1,5 @@
 -- `put_row`: frames sufficed, or the row is typed and its answer written. Assumes nothing.
-use mathlib.Core.Path.{refl, sym, ap, _∙_}
+use mathlib.Core.Path.{ap, _∙_}
 use borrow.Author.Needs.{needs}
 use Rattle.frames.specs.Bytes.{putFrame}
 use Rattle.rule.specs.Answers.{rowFrame}

@@ -1,8 +1,8 @@
 -- `quick`: the row has a frame, whose kind shows its rule. Assumes nothing.
-use mathlib.Core.Path.{refl, sym, ap, _∙_}
+use mathlib.Core.Path.{sym, ap, _∙_}
 use borrow.Author.Needs.{needs}
 use Rattle.frames.specs.declared.Frame.{Frame}
-use Rattle.frames.specs.Bytes.{byte, half, word}
+use Rattle.frames.specs.Bytes.{byte}
 use Rattle.rule.specs.Answers.{rowFrame}
 use Rattle.row_frames.proofs.Frames.{row-here}
 use Rattle.row_frames.proofs.row.quick.Statement.{statement}

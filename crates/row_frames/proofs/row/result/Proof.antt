@@ -1,12 +1,12 @@
 -- `result`: the frame of the item shows its result. Assumes nothing.
-use mathlib.Core.Path.{refl, sym, ap, _∙_}
+use mathlib.Core.Path.{sym, ap, _∙_}
 use mathlib.Core.Bool.{Bool, cond}
 use borrow.Author.Tests.{eq-eqb, ne-eqb}
 use Rattle.frames.specs.declared.Frame.{Frame}
-use Rattle.frames.specs.Bytes.{byte, half, word}
+use Rattle.frames.specs.Bytes.{byte, half}
 use Rattle.ir.specs.declared.Item.{Item}
 use Rattle.frames.specs.Forms.{itemOf}
-use Rattle.rule.specs.Things.{itemType, itemSpace, itemResult}
+use Rattle.rule.specs.Things.{itemResult}
 use Rattle.ir.specs.declared.FunctionResult.the-variants as Fr
 use Rattle.rule.specs.Answers.{told, rowFrame}
 use Rattle.row_rules.specs.Results.{resultOf}
