@@ -9,6 +9,8 @@ use archive::Starts;
 use families::member_at;
 use frames::Frame;
 use frames::no_frame;
+use ir::CooperativeRole;
+use ir::CooperativeSize;
 use ir::MemberNumber;
 use ir::RowNumber;
 use ir::TypeNumber;
@@ -17,6 +19,7 @@ use operand_frames::shown_frame;
 use operand_frames::type_frame;
 use out::write::refusal_frame;
 use type_frames::number_frame;
+use type_frames::scalar_frame;
 ghost use mathlib.Core.Path.{_≡_};
 ghost use Rattle.answers.specs.declared.Refusal.the-variants.{OutOfBoundsIndex};
 ghost use Rattle.frames.specs.Bytes.{half};
@@ -26,7 +29,9 @@ ghost use Rattle.archive.specs.Access.{memberIn};
 ghost use Rattle.rule.specs.Answers.{refused, told, rowFrame};
 ghost use Rattle.rule.specs.Things.{memberTypes};
 ghost use Rattle.row_rules.specs.Access.{access, accessThrough, accessIndex, indexThrough, indexInto, splat, swizzle};
+ghost use Rattle.ir.specs.TypeMethods.{scalarIn};
 ghost use Rattle.row_rules.specs.Variables.{load, loadThrough};
+ghost use Rattle.row_rules.specs.Results.{cooperativeOf, cooperativeLoad};
 ghost use Rattle.operands.specs.Past.{ruled};
 ghost use Rattle.row_frames.specs.Quick.{Quick, Through, Into, spaceIn};
 
@@ -285,5 +290,50 @@ pub(crate) fn load(
             vector_value(VectorSize::from_number(f.b2), f)
         },
         _ => no_frame(),
+    }
+}
+
+// Through a pointer to what g shows: a scalar, a vector, a matrix or a cooperative matrix.
+fn cooperative_through(
+    columns: CooperativeSize,
+    rows: CooperativeSize,
+    role: CooperativeRole,
+    n: RowNumber,
+    g: Frame,
+) -> Frame
+    ensures { λ r. ⌜ Through r (typeOf g) (λ u. cooperativeOf columns rows role n (scalarIn u)) ⌝ }
+{
+    let scalar = g.scalar();
+    let f = scalar_frame(4, columns.number(), rows.number(), scalar, role.number(), 0);
+    let kind = g.b1;
+    match kind {
+        1 => f,
+        2 => f,
+        3 => f,
+        4 => f,
+        _ => no_frame(),
+    }
+}
+
+pub(crate) fn cooperative_load(
+    frames: &[u8],
+    s: Starts,
+    answers: &[u8],
+    places: &[u16],
+    here: RowNumber,
+    columns: CooperativeSize,
+    rows: CooperativeSize,
+    role: CooperativeRole,
+    n: RowNumber,
+) -> Frame
+    ensures { λ r. ⌜ Quick r (ruled (now (frames .entry)) s (now (answers .entry)) (now (places .entry)) (cooperativeLoad here columns rows role n)) ⌝ }
+{
+    let f = shown_frame(frames, s, answers, places, n);
+    if f.b1 == 6 {
+        let b = f.named();
+        let g = type_frame(frames, s, TypeNumber(b));
+        cooperative_through(columns, rows, role, n, g)
+    } else {
+        no_frame()
     }
 }

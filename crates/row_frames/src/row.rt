@@ -1,6 +1,7 @@
 // The answer of a row: by its frame where it is of a frequent kind, otherwise by the source's resolve.
 use super::access::access;
 use super::access::access_index;
+use super::access::cooperative_load;
 use super::access::load;
 use super::access::number_of;
 use super::access::splat;
@@ -23,6 +24,8 @@ use frames::Frame;
 use frames::no_frame;
 use frames::put_frame;
 use ir::AddressSpace;
+use ir::CooperativeRole;
+use ir::CooperativeSize;
 use ir::ItemNumber;
 use ir::Literal;
 use ir::RowNumber;
@@ -264,6 +267,22 @@ fn by_kind(
         24 => result(frames, s, n),
         25 => number_of(row),
         26 => number_of(row),
+        33 => {
+            let columns = CooperativeSize::from_number(row.b6);
+            let rows = CooperativeSize::from_number(row.b7);
+            let role = CooperativeRole::from_number(row.b8);
+            cooperative_load(
+                frames,
+                s,
+                answers,
+                places,
+                here,
+                columns,
+                rows,
+                role,
+                RowNumber(n),
+            )
+        }
         _ => no_frame(),
     }
 }

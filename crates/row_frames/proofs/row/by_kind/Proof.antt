@@ -6,8 +6,10 @@ use borrow.Author.Tests.{eq-eqb, ne-eqb}
 use Rattle.frames.specs.declared.Frame.{Frame}
 use Rattle.frames.specs.Bytes.{byte, half}
 use Rattle.ir.specs.declared.VectorSize.{VectorSize}
+use Rattle.ir.specs.declared.CooperativeSize.{CooperativeSize}
+use Rattle.ir.specs.declared.CooperativeRole.{CooperativeRole}
 use Rattle.ir.specs.declared.ScalarKind.{ScalarKind}
-use Rattle.ir.specs.Numbers.{binaryOperatorOf, imageQueryOf, relationalFunctionOf}
+use Rattle.ir.specs.Numbers.{binaryOperatorOf, imageQueryOf, relationalFunctionOf, cooperativeSizeOf}
 use Rattle.frames.specs.Fields.{convertOf}
 use Rattle.archive.specs.Access.{itemIn}
 use Rattle.rule.specs.Answers.{number, given, told, rowFrame}
@@ -16,7 +18,7 @@ use Rattle.row_rules.specs.Access.{access, accessIndex, splat, swizzle}
 use Rattle.row_rules.specs.Variables.{argument, variable, load}
 use Rattle.row_rules.specs.Images.{gathered, sampled, imageSample, imageQuery}
 use Rattle.row_rules.specs.Operators.{binary, relational, cast}
-use Rattle.row_rules.specs.Results.{resultOf}
+use Rattle.row_rules.specs.Results.{resultOf, cooperativeLoad}
 use Rattle.row_rules.specs.Answered.{toResult}
 use Rattle.operands.specs.Past.{answerIn, ruled}
 use Rattle.operands.proofs.Steps.{done-run, same-run}
@@ -29,6 +31,10 @@ pub by-kind-spec : {M : Type 1} → statement M
 by-kind-spec =
     tie.close
     (tie.spec
+    (λ c κs. tt)
+    (λ c κs. tt)
+    (λ c κs. tt)
+    (λ c κs. tt)
     (λ c κs. tt)
     (λ c κs. tt)
     (λ c κs. tt)
@@ -89,4 +95,5 @@ by-kind-spec =
     (λ c h. let a = c .before .before .before .before .before .before .args in c .result .ensures h ∙ ap (λ (x : ℕ). rowFrame (told (resultOf (itemResult (itemIn (a .frames .now) (a .s .functions) (record { 0 = x })))))) (c .before .before .named .ensures) ∙ ap rowFrame (sym (done-run (a .frames .now) (a .s) (a .answers .now) (a .places .now) _)) ∙ ap rowFrame (row-at (a .frames .now) (a .s) (a .answers .now) (a .places .now) (a .here) (a .row) 24 (c .before .match .keys22)))
     (λ c h. let a = c .before .before .before .before .before .before .args in c .number-of3 .ensures ∙ ap rowFrame (sym (done-run (a .frames .now) (a .s) (a .answers .now) (a .places .now) _)) ∙ ap rowFrame (row-at (a .frames .now) (a .s) (a .answers .now) (a .places .now) (a .here) (a .row) 25 (c .before .match .keys23)))
     (λ c h. let a = c .before .before .before .before .before .before .args in c .number-of4 .ensures ∙ ap rowFrame (sym (done-run (a .frames .now) (a .s) (a .answers .now) (a .places .now) _)) ∙ ap rowFrame (row-at (a .frames .now) (a .s) (a .answers .now) (a .places .now) (a .here) (a .row) 26 (c .before .match .keys24)))
+    (λ c h. let a = c .before .before .before .before .before .before .before .before .before .args in c .cooperative-load .ensures h ∙ ap (λ (x : ℕ). rowFrame (ruled (a .frames .now) (a .s) (a .answers .now) (a .places .now) (cooperativeLoad (a .here) (c .before .before .before .from-number5 .result) (c .before .before .from-number6 .result) (c .before .from-number7 .result) (record { 0 = x })))) (c .before .before .before .before .before .named .ensures) ∙ ap (λ (z : CooperativeSize). rowFrame (ruled (a .frames .now) (a .s) (a .answers .now) (a .places .now) (cooperativeLoad (a .here) z (c .before .before .from-number6 .result) (c .before .from-number7 .result) (record { 0 = half (a .row) 2 })))) (c .before .before .before .from-number5 .ensures) ∙ ap (λ (z : CooperativeSize). rowFrame (ruled (a .frames .now) (a .s) (a .answers .now) (a .places .now) (cooperativeLoad (a .here) (cooperativeSizeOf (byte (a .row) 6)) z (c .before .from-number7 .result) (record { 0 = half (a .row) 2 })))) (c .before .before .from-number6 .ensures) ∙ ap (λ (z : CooperativeRole). rowFrame (ruled (a .frames .now) (a .s) (a .answers .now) (a .places .now) (cooperativeLoad (a .here) (cooperativeSizeOf (byte (a .row) 6)) (cooperativeSizeOf (byte (a .row) 7)) z (record { 0 = half (a .row) 2 })))) (c .before .from-number7 .ensures) ∙ ap rowFrame (row-at (a .frames .now) (a .s) (a .answers .now) (a .places .now) (a .here) (a .row) 33 (c .before .before .before .before .match .keys25)))
     (λ c h. absurd (h (ap (λ (x : Frame). byte x 0) (c .no-frame .ensures)))))
