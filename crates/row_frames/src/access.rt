@@ -141,6 +141,7 @@ pub(crate) fn access(
             access_through(type_frame(frames, s, TypeNumber(b)), f)
         }
         8 => if f.b0 == 9 { no_frame() } else { number_of(f) },
+        14 => if f.b0 == 9 { no_frame() } else { number_of(f) },
         _ => no_frame(),
     }
 }
@@ -178,6 +179,10 @@ fn index_through(frames: &[u8], s: Starts, base: RowNumber, index: u32, g: Frame
             } else {
                 out_of_bounds(base, index)
             }
+        }
+        14 => {
+            let b = g.named();
+            pointer_to(b, f)
         }
         _ => no_frame(),
     }
@@ -221,6 +226,7 @@ fn index_into(frames: &[u8], s: Starts, base: RowNumber, index: u32, f: Frame) -
                 out_of_bounds(base, index)
             }
         },
+        14 => if f.b0 == 9 { no_frame() } else { number_of(f) },
         _ => no_frame(),
     }
 }

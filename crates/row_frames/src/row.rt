@@ -267,6 +267,10 @@ fn by_kind(
         24 => result(frames, s, n),
         25 => number_of(row),
         26 => number_of(row),
+        27 => scalar_frame(1, 0, 0, Scalar::U32, 0, 0),
+        29 => scalar_frame(1, 0, 0, Scalar::BOOL, 0, 0),
+        31 => scalar_frame(2, 4, 0, Scalar::U32, 0, 0),
+        32 => number_of(row),
         33 => {
             let columns = CooperativeSize::from_number(row.b6);
             let rows = CooperativeSize::from_number(row.b7);
@@ -283,6 +287,7 @@ fn by_kind(
                 RowNumber(n),
             )
         }
+        34 => same_as(answers, places, RowNumber(n)),
         _ => no_frame(),
     }
 }
