@@ -39,15 +39,18 @@ fn is_nameless(f: Frame) -> bool
     (f.b1 == 1) | ((f.b1 == 2) | ((f.b1 == 3) | ((f.b1 == 5) | ((f.b1 == 7) | (f.b1 == 10)))))
 }
 
-// What a type names; most kinds name nothing, which the kind's number shows.
+// What a type names. Most kinds name nothing, and a pointer its base, which the frame shows; the others are read first.
 fn type_frame_names(s: Starts, n: TypeNumber, f: Frame) -> bool
     ensures { λ r. ⌜ r ≡ typeFormNames s n (typeOf f) ⌝ }
 {
     if is_nameless(f) {
-        true
-    } else {
-        type_form_names(s, n, f.type_form())
+        return true;
     }
+    if f.b1 == 6 {
+        let base = f.named();
+        return base < n.0;
+    }
+    type_form_names(s, n, f.type_form())
 }
 
 // Bytes 2 and 3 name an earlier row.
