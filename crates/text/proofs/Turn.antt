@@ -49,7 +49,7 @@ module _ (fr : List ℕ) (k : ℕ) where
 -- d is the buffer with its first i bytes made, and d₀ the buffer before
 module _ (f : ℕ → ℕ) (d d₀ : List ℕ) (i : ℕ) (e : d ≡ build f i ++ drop i d₀) where
   -- past those it is as it was
-  past : (m : ℕ) → drop (i + m) d ≡ drop (i + m) d₀
+  pub past : (m : ℕ) → drop (i + m) d ≡ drop (i + m) d₀
   past m =
       rw e (ap (λ j. drop (j + m) (build f i ++ drop i d₀)) (sym (length-build f i)) ∙ drop-append-add (build f i) (drop i d₀) m ∙ drop-drop m i d₀)
 
