@@ -4,11 +4,11 @@ use native.Mathlib.Omega.{arith}
 use mathlib.Core.Path.{_≡_, refl, sym, ap, _∙_}
 use mathlib.Core.List.{List, [], _∷_, _++_, append-assoc, append-nil}
 use lib.ListN.{length, take, drop, length-append, length-drop}
-use lib.Seq.{take-at}
+use lib.Seq.{take-at, drop-length}
 use borrow.Author.Tests.{lt-ltb}
 use Rattle.scan.specs.Lists.{build}
 use Rattle.scan.proofs.Fill.{length-build, build-same}
-use Rattle.frames.specs.Bytes.{bytesOf, framed, frameCount, putFrame}
+use Rattle.frames.specs.Bytes.{bytesOf, framed, frameCount, frameAt, putFrame}
 use Rattle.text.specs.Lines.{frameByte, byteOf}
 use Rattle.text.proofs.Turn.{byte-of-line, past}
 
@@ -20,9 +20,20 @@ build-on f i (suc n) =
     let z : i + suc n ≡ suc (i + n) = omega arith in
     rw (z, build-on f i n) (append-assoc (build f i) (build (λ (j : ℕ). f (i + j)) n) (f (i + n) ∷ []))
 
+-- a buffer of sixteen bytes that is full
+pub line-full : (g : ℕ → ℕ) (l d : List ℕ) (j : ℕ) → j ≡ 16 → length l ≡ 16 → d ≡ build g j ++ drop j l → d ≡ build g 16
+line-full g l d j z n e =
+    let f : drop 16 l ≡ [] = ap (λ (i : ℕ). drop i l) (sym n) ∙ drop-length l in
+    (rw z at e) ∙ ap (λ (r : List ℕ). build g 16 ++ r) f ∙ append-nil (build g 16)
+
 sixteen : (g : ℕ → ℕ) → build g 16 ≡ bytesOf (framed g)
 unfolding build
 sixteen g = refl
+
+-- and its one frame
+pub line-frame : (g : ℕ → ℕ) (l : List ℕ) → l ≡ build g 16 → frameAt l 0 ≡ framed g
+unfolding frameAt build
+line-frame g l e = rw e
 
 -- the sixteen bytes of line k follow those of the lines before it
 line-more : (t : List ℕ) (k : ℕ) → build (byteOf t) (16 * k + 16) ≡ build (byteOf t) (16 * k) ++ bytesOf (framed (frameByte t k))

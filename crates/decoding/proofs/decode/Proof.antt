@@ -8,34 +8,40 @@ use borrow.Author.Needs.{needs}
 use lib.ListN.{length, drop}
 use Rattle.scan.specs.Lists.{build}
 use Rattle.scan.proofs.Laws.{none-all}
-use Rattle.scan.proofs.Fill.{build-zero}
+use Rattle.scan.proofs.Fill.{build-zero, length-build}
 use Rattle.frames.specs.Bytes.{putFrame}
 use Rattle.frames.proofs.Put.{put-length}
-use Rattle.text.specs.Lines.{lineOk, byteOf}
+use Rattle.text.specs.Lines.{lineOk, frameByte, byteOf}
 use Rattle.text.proofs.Line.{line-in}
-use Rattle.decoding.proofs.Put.{line-put}
+use Rattle.decoding.proofs.Put.{line-frame, line-put}
 use Rattle.decoding.proofs.decode.Statement.{statement}
 use Rattle.decoding.proofs.decode.Tie as tie
 
-abbrev Inv : tie.InvT-loop
-Inv text frames₀ n k₀ frames k = (k ≤ n) × (frames ≡ build (byteOf text) (16 * k) ++ drop (16 * k) frames₀) × (length frames ≡ length frames₀)
+abbrev Inv-loop : tie.InvT-loop
+Inv-loop text frames₀ n line₀ k₀ frames line k =
+    (k ≤ n) × (frames ≡ build (byteOf text) (16 * k) ++ drop (16 * k) frames₀) × (length frames ≡ length frames₀) × (length line ≡ 16)
 
-abbrev μ : tie.MeasureT-loop
-μ text frames₀ n k₀ frames k = n - k
+abbrev μ-loop : tie.MeasureT-loop
+μ-loop text frames₀ n line₀ k₀ frames line k = n - k
 
 pub decode-spec : {M : Type 1} → statement M
 decode-spec =
     tie.close
-    (tie.spec Inv μ (λ c. (omega arith, build-zero _ _, refl))
+    (tie.spec Inv-loop μ-loop (λ c. (omega arith, build-zero _ _, refl, refl))
+    (λ c. search needs)
     (λ c κs. let s = c .before .before .before .before .before in
     let whole = none-all (lineOk (s .args .text .now)) _ _ (s .pre .0) (c .before .loop-test .taken) in
-    (whole, line-in _ _ whole))
+    (whole, line-in _ _ whole, search needs))
+    (λ c. search needs)
+    (λ c κs. search needs)
     (λ c κs. search needs)
     (λ c. omega arith)
     (λ c. omega arith)
-    (λ c. let i = c .before .before .before .before .before .before .loop in
-    let s = c .before .before .before .before .before .before .before .before .before in
+    (λ c. let i = c .before .before .before .before .before .before .before .before .before .before .loop in
+    let s = c .before .before .before .before .before .before .before .before .before .before .before .before .before in
+    let t = s .args .text .now in
     let a : 16 * (i .k + 1) ≡ 16 * i .k + 16 = omega arith in
-    (omega arith, rw a (c .before .before .put-frame .ensures ∙ ap (putFrame (i .frames) (i .k)) (c .before .before .before .line-frame .ensures) ∙ line-put (s .args .text .now) (s .args .frames .now) (i .frames) (i .k) (i .inv .1) (omega arith)), ap length (c .before .before .put-frame .ensures) ∙ put-length _ _ _ ∙ i .inv .2))
+    let f = c .before .before .before .frame-at .ensures ∙ line-frame (frameByte t (i .k)) _ (c .before .before .before .before .before .before .before .decode-line .ensures) in
+    (omega arith, rw a (c .before .before .put-frame .ensures ∙ ap (putFrame (i .frames) (i .k)) f ∙ line-put t (s .args .frames .now) (i .frames) (i .k) (i .inv .1) (omega arith)), ap length (c .before .before .put-frame .ensures) ∙ put-length _ _ _ ∙ i .inv .2, ap length (c .before .before .before .before .before .before .before .decode-line .ensures) ∙ length-build _ 16))
     (λ c. search needs)
     (λ c. rw (← le-antisymm (c .before .loop .inv .0) (c .loop-test .left)) (c .before .loop .inv .1)))
