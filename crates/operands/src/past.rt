@@ -70,45 +70,8 @@ fn into_base(frames: &[u8], s: Starts, here: RowNumber, t: TypeInner) -> Based
     ensures { λ r. ⌜ r ≡ basedAt (now (frames .entry)) s here t ⌝ }
 {
     match t {
-        TypeInner::Scalar(_) => Based::Into(t),
-        TypeInner::Vector { size: _, scalar: _ } => Based::Into(t),
-        TypeInner::Matrix {
-            columns: _,
-            rows: _,
-            scalar: _,
-        } => Based::Into(t),
-        TypeInner::CooperativeMatrix {
-            columns: _,
-            rows: _,
-            scalar: _,
-            role: _,
-        } => Based::Into(t),
-        TypeInner::Atomic(_) => Based::Into(t),
         TypeInner::Pointer { base, space } => base_at(here, base, space, type_at(frames, s, base)),
-        TypeInner::ValuePointer {
-            size: _,
-            scalar: _,
-            space: _,
-        } => Based::Into(t),
-        TypeInner::Array {
-            base: _,
-            size: _,
-            stride: _,
-        } => Based::Into(t),
-        TypeInner::Struct {
-            first: _,
-            count: _,
-            span: _,
-        } => Based::Into(t),
-        TypeInner::Image {
-            dim: _,
-            arrayed: _,
-            class: _,
-        } => Based::Into(t),
-        TypeInner::Sampler { comparison: _ } => Based::Into(t),
-        TypeInner::AccelerationStructure { vertex_return: _ } => Based::Into(t),
-        TypeInner::RayQuery { vertex_return: _ } => Based::Into(t),
-        TypeInner::BindingArray { base: _, size: _ } => Based::Into(t),
+        _ => Based::Into(t),
     }
 }
 
