@@ -16,45 +16,8 @@ fn is_atomic(t: TypeInner) -> bool
     ensures { λ r. ⌜ r ≡ isAtomic t ⌝ }
 {
     match t {
-        TypeInner::Scalar(_) => false,
-        TypeInner::Vector { size: _, scalar: _ } => false,
-        TypeInner::Matrix {
-            columns: _,
-            rows: _,
-            scalar: _,
-        } => false,
-        TypeInner::CooperativeMatrix {
-            columns: _,
-            rows: _,
-            scalar: _,
-            role: _,
-        } => false,
         TypeInner::Atomic(_) => true,
-        TypeInner::Pointer { base: _, space: _ } => false,
-        TypeInner::ValuePointer {
-            size: _,
-            scalar: _,
-            space: _,
-        } => false,
-        TypeInner::Array {
-            base: _,
-            size: _,
-            stride: _,
-        } => false,
-        TypeInner::Struct {
-            first: _,
-            count: _,
-            span: _,
-        } => false,
-        TypeInner::Image {
-            dim: _,
-            arrayed: _,
-            class: _,
-        } => false,
-        TypeInner::Sampler { comparison: _ } => false,
-        TypeInner::AccelerationStructure { vertex_return: _ } => false,
-        TypeInner::RayQuery { vertex_return: _ } => false,
-        TypeInner::BindingArray { base: _, size: _ } => false,
+        _ => false,
     }
 }
 
@@ -72,45 +35,8 @@ pub fn is_atomic_pointer(t: TypeInner, frames: &[u8], s: Starts) -> bool
     ensures { λ r. ⌜ r ≡ isAtomicPointer (now (frames .entry)) s t ⌝ }
 {
     match t {
-        TypeInner::Scalar(_) => false,
-        TypeInner::Vector { size: _, scalar: _ } => false,
-        TypeInner::Matrix {
-            columns: _,
-            rows: _,
-            scalar: _,
-        } => false,
-        TypeInner::CooperativeMatrix {
-            columns: _,
-            rows: _,
-            scalar: _,
-            role: _,
-        } => false,
-        TypeInner::Atomic(_) => false,
         TypeInner::Pointer { base, space: _ } => is_atomic_form(type_at(frames, s, base)),
-        TypeInner::ValuePointer {
-            size: _,
-            scalar: _,
-            space: _,
-        } => false,
-        TypeInner::Array {
-            base: _,
-            size: _,
-            stride: _,
-        } => false,
-        TypeInner::Struct {
-            first: _,
-            count: _,
-            span: _,
-        } => false,
-        TypeInner::Image {
-            dim: _,
-            arrayed: _,
-            class: _,
-        } => false,
-        TypeInner::Sampler { comparison: _ } => false,
-        TypeInner::AccelerationStructure { vertex_return: _ } => false,
-        TypeInner::RayQuery { vertex_return: _ } => false,
-        TypeInner::BindingArray { base: _, size: _ } => false,
+        _ => false,
     }
 }
 
@@ -129,43 +55,7 @@ fn value_pointer(space: AddressSpace, base: TypeInner) -> CanonicalForm
             scalar,
             space,
         }),
-        TypeInner::Matrix {
-            columns: _,
-            rows: _,
-            scalar: _,
-        } => CanonicalForm::None,
-        TypeInner::CooperativeMatrix {
-            columns: _,
-            rows: _,
-            scalar: _,
-            role: _,
-        } => CanonicalForm::None,
-        TypeInner::Atomic(_) => CanonicalForm::None,
-        TypeInner::Pointer { base: _, space: _ } => CanonicalForm::None,
-        TypeInner::ValuePointer {
-            size: _,
-            scalar: _,
-            space: _,
-        } => CanonicalForm::None,
-        TypeInner::Array {
-            base: _,
-            size: _,
-            stride: _,
-        } => CanonicalForm::None,
-        TypeInner::Struct {
-            first: _,
-            count: _,
-            span: _,
-        } => CanonicalForm::None,
-        TypeInner::Image {
-            dim: _,
-            arrayed: _,
-            class: _,
-        } => CanonicalForm::None,
-        TypeInner::Sampler { comparison: _ } => CanonicalForm::None,
-        TypeInner::AccelerationStructure { vertex_return: _ } => CanonicalForm::None,
-        TypeInner::RayQuery { vertex_return: _ } => CanonicalForm::None,
-        TypeInner::BindingArray { base: _, size: _ } => CanonicalForm::None,
+        _ => CanonicalForm::None,
     }
 }
 
@@ -183,45 +73,8 @@ pub fn canonical_form(t: TypeInner, frames: &[u8], s: Starts) -> CanonicalForm
     ensures { λ r. ⌜ r ≡ canonicalFormIn (now (frames .entry)) s t ⌝ }
 {
     match t {
-        TypeInner::Scalar(_) => CanonicalForm::None,
-        TypeInner::Vector { size: _, scalar: _ } => CanonicalForm::None,
-        TypeInner::Matrix {
-            columns: _,
-            rows: _,
-            scalar: _,
-        } => CanonicalForm::None,
-        TypeInner::CooperativeMatrix {
-            columns: _,
-            rows: _,
-            scalar: _,
-            role: _,
-        } => CanonicalForm::None,
-        TypeInner::Atomic(_) => CanonicalForm::None,
         TypeInner::Pointer { base, space } => through_base(space, type_at(frames, s, base)),
-        TypeInner::ValuePointer {
-            size: _,
-            scalar: _,
-            space: _,
-        } => CanonicalForm::None,
-        TypeInner::Array {
-            base: _,
-            size: _,
-            stride: _,
-        } => CanonicalForm::None,
-        TypeInner::Struct {
-            first: _,
-            count: _,
-            span: _,
-        } => CanonicalForm::None,
-        TypeInner::Image {
-            dim: _,
-            arrayed: _,
-            class: _,
-        } => CanonicalForm::None,
-        TypeInner::Sampler { comparison: _ } => CanonicalForm::None,
-        TypeInner::AccelerationStructure { vertex_return: _ } => CanonicalForm::None,
-        TypeInner::RayQuery { vertex_return: _ } => CanonicalForm::None,
-        TypeInner::BindingArray { base: _, size: _ } => CanonicalForm::None,
+        _ => CanonicalForm::None,
     }
 }
 

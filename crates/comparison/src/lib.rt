@@ -18,45 +18,12 @@ fn is_struct_inner(t: TypeInner) -> bool
     ensures { λ r. ⌜ r ≡ isStructInner t ⌝ }
 {
     match t {
-        TypeInner::Scalar(_) => false,
-        TypeInner::Vector { size: _, scalar: _ } => false,
-        TypeInner::Matrix {
-            columns: _,
-            rows: _,
-            scalar: _,
-        } => false,
-        TypeInner::CooperativeMatrix {
-            columns: _,
-            rows: _,
-            scalar: _,
-            role: _,
-        } => false,
-        TypeInner::Atomic(_) => false,
-        TypeInner::Pointer { base: _, space: _ } => false,
-        TypeInner::ValuePointer {
-            size: _,
-            scalar: _,
-            space: _,
-        } => false,
-        TypeInner::Array {
-            base: _,
-            size: _,
-            stride: _,
-        } => false,
         TypeInner::Struct {
             first: _,
             count: _,
             span: _,
         } => true,
-        TypeInner::Image {
-            dim: _,
-            arrayed: _,
-            class: _,
-        } => false,
-        TypeInner::Sampler { comparison: _ } => false,
-        TypeInner::AccelerationStructure { vertex_return: _ } => false,
-        TypeInner::RayQuery { vertex_return: _ } => false,
-        TypeInner::BindingArray { base: _, size: _ } => false,
+        _ => false,
     }
 }
 

@@ -55,26 +55,7 @@ fn value_fault(s: Starts, t: TypeInner) -> Fault
     ensures { λ r. ⌜ r ≡ valueFault s t ⌝ }
 {
     match t {
-        TypeInner::Scalar(_) => Fault::Sound,
-        TypeInner::Vector { size: _, scalar: _ } => Fault::Sound,
-        TypeInner::Matrix {
-            columns: _,
-            rows: _,
-            scalar: _,
-        } => Fault::Sound,
-        TypeInner::CooperativeMatrix {
-            columns: _,
-            rows: _,
-            scalar: _,
-            role: _,
-        } => Fault::Sound,
-        TypeInner::Atomic(_) => Fault::Sound,
         TypeInner::Pointer { base, space: _ } => in_range(is_type(s, base)),
-        TypeInner::ValuePointer {
-            size: _,
-            scalar: _,
-            space: _,
-        } => Fault::Sound,
         TypeInner::Array {
             base,
             size,
@@ -85,15 +66,8 @@ fn value_fault(s: Starts, t: TypeInner) -> Fault
             count: _,
             span: _,
         } => Fault::Field,
-        TypeInner::Image {
-            dim: _,
-            arrayed: _,
-            class: _,
-        } => Fault::Sound,
-        TypeInner::Sampler { comparison: _ } => Fault::Sound,
-        TypeInner::AccelerationStructure { vertex_return: _ } => Fault::Sound,
-        TypeInner::RayQuery { vertex_return: _ } => Fault::Sound,
         TypeInner::BindingArray { base, size } => array_fault(s, base, size),
+        _ => Fault::Sound,
     }
 }
 

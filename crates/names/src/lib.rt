@@ -45,26 +45,7 @@ fn type_names(s: Starts, n: TypeNumber, t: TypeInner) -> bool
     ensures { λ r. ⌜ r ≡ typeNames s n t ⌝ }
 {
     match t {
-        TypeInner::Scalar(_) => true,
-        TypeInner::Vector { size: _, scalar: _ } => true,
-        TypeInner::Matrix {
-            columns: _,
-            rows: _,
-            scalar: _,
-        } => true,
-        TypeInner::CooperativeMatrix {
-            columns: _,
-            rows: _,
-            scalar: _,
-            role: _,
-        } => true,
-        TypeInner::Atomic(_) => true,
         TypeInner::Pointer { base, space: _ } => base.0 < n.0,
-        TypeInner::ValuePointer {
-            size: _,
-            scalar: _,
-            space: _,
-        } => true,
         TypeInner::Array {
             base,
             size,
@@ -75,15 +56,8 @@ fn type_names(s: Starts, n: TypeNumber, t: TypeInner) -> bool
             count,
             span: _,
         } => is_range(s.members, s.constants, first.0 as u32, count),
-        TypeInner::Image {
-            dim: _,
-            arrayed: _,
-            class: _,
-        } => true,
-        TypeInner::Sampler { comparison: _ } => true,
-        TypeInner::AccelerationStructure { vertex_return: _ } => true,
-        TypeInner::RayQuery { vertex_return: _ } => true,
         TypeInner::BindingArray { base, size } => base_names(s, n, base, size),
+        _ => true,
     }
 }
 

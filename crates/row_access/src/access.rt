@@ -41,21 +41,12 @@ pub fn access_into(base: RowNumber, t: TypeInner) -> Answer
     ensures { λ r. ⌜ toResult r ≡ told (accessInto base t) ⌝ }
 {
     match t {
-        TypeInner::Scalar(_) => invalid_access(base, false),
         TypeInner::Vector { size: _, scalar } => scalar_type(scalar),
         TypeInner::Matrix {
             columns: _,
             rows,
             scalar,
         } => vector_type(rows, scalar),
-        TypeInner::CooperativeMatrix {
-            columns: _,
-            rows: _,
-            scalar: _,
-            role: _,
-        } => invalid_access(base, false),
-        TypeInner::Atomic(_) => invalid_access(base, false),
-        TypeInner::Pointer { base: _, space: _ } => invalid_access(base, false),
         TypeInner::ValuePointer {
             size,
             scalar,
@@ -66,20 +57,8 @@ pub fn access_into(base: RowNumber, t: TypeInner) -> Answer
             size: _,
             stride: _,
         } => numbered(ty),
-        TypeInner::Struct {
-            first: _,
-            count: _,
-            span: _,
-        } => invalid_access(base, false),
-        TypeInner::Image {
-            dim: _,
-            arrayed: _,
-            class: _,
-        } => invalid_access(base, false),
-        TypeInner::Sampler { comparison: _ } => invalid_access(base, false),
-        TypeInner::AccelerationStructure { vertex_return: _ } => invalid_access(base, false),
-        TypeInner::RayQuery { vertex_return: _ } => invalid_access(base, false),
         TypeInner::BindingArray { base: ty, size: _ } => numbered(ty),
+        _ => invalid_access(base, false),
     }
 }
 
@@ -88,7 +67,6 @@ pub fn access_through(ty: TypeNumber, space: AddressSpace, t: TypeInner) -> Answ
     ensures { λ r. ⌜ toResult r ≡ told (accessThrough ty space t) ⌝ }
 {
     match t {
-        TypeInner::Scalar(_) => invalid_sub_access(ty, false),
         TypeInner::Vector { size: _, scalar } => value_pointer_type(
             OptionVectorSize::None,
             scalar,
@@ -99,38 +77,13 @@ pub fn access_through(ty: TypeNumber, space: AddressSpace, t: TypeInner) -> Answ
             rows,
             scalar,
         } => value_pointer_type(OptionVectorSize::Some(rows), scalar, space),
-        TypeInner::CooperativeMatrix {
-            columns: _,
-            rows: _,
-            scalar: _,
-            role: _,
-        } => invalid_sub_access(ty, false),
-        TypeInner::Atomic(_) => invalid_sub_access(ty, false),
-        TypeInner::Pointer { base: _, space: _ } => invalid_sub_access(ty, false),
-        TypeInner::ValuePointer {
-            size: _,
-            scalar: _,
-            space: _,
-        } => invalid_sub_access(ty, false),
         TypeInner::Array {
             base,
             size: _,
             stride: _,
         } => pointer_type(base, space),
-        TypeInner::Struct {
-            first: _,
-            count: _,
-            span: _,
-        } => invalid_sub_access(ty, false),
-        TypeInner::Image {
-            dim: _,
-            arrayed: _,
-            class: _,
-        } => invalid_sub_access(ty, false),
-        TypeInner::Sampler { comparison: _ } => invalid_sub_access(ty, false),
-        TypeInner::AccelerationStructure { vertex_return: _ } => invalid_sub_access(ty, false),
-        TypeInner::RayQuery { vertex_return: _ } => invalid_sub_access(ty, false),
         TypeInner::BindingArray { base, size: _ } => pointer_type(base, space),
+        _ => invalid_sub_access(ty, false),
     }
 }
 
@@ -139,44 +92,7 @@ pub fn splat_of(size: VectorSize, value: RowNumber, t: TypeInner) -> Answer
 {
     match t {
         TypeInner::Scalar(scalar) => vector_type(size, scalar),
-        TypeInner::Vector { size: _, scalar: _ } => invalid_scalar(value),
-        TypeInner::Matrix {
-            columns: _,
-            rows: _,
-            scalar: _,
-        } => invalid_scalar(value),
-        TypeInner::CooperativeMatrix {
-            columns: _,
-            rows: _,
-            scalar: _,
-            role: _,
-        } => invalid_scalar(value),
-        TypeInner::Atomic(_) => invalid_scalar(value),
-        TypeInner::Pointer { base: _, space: _ } => invalid_scalar(value),
-        TypeInner::ValuePointer {
-            size: _,
-            scalar: _,
-            space: _,
-        } => invalid_scalar(value),
-        TypeInner::Array {
-            base: _,
-            size: _,
-            stride: _,
-        } => invalid_scalar(value),
-        TypeInner::Struct {
-            first: _,
-            count: _,
-            span: _,
-        } => invalid_scalar(value),
-        TypeInner::Image {
-            dim: _,
-            arrayed: _,
-            class: _,
-        } => invalid_scalar(value),
-        TypeInner::Sampler { comparison: _ } => invalid_scalar(value),
-        TypeInner::AccelerationStructure { vertex_return: _ } => invalid_scalar(value),
-        TypeInner::RayQuery { vertex_return: _ } => invalid_scalar(value),
-        TypeInner::BindingArray { base: _, size: _ } => invalid_scalar(value),
+        _ => invalid_scalar(value),
     }
 }
 
@@ -184,44 +100,7 @@ pub fn swizzle_of(size: VectorSize, vector: RowNumber, t: TypeInner) -> Answer
     ensures { λ r. ⌜ toResult r ≡ told (swizzleOf size vector t) ⌝ }
 {
     match t {
-        TypeInner::Scalar(_) => invalid_vector(vector),
         TypeInner::Vector { size: _, scalar } => vector_type(size, scalar),
-        TypeInner::Matrix {
-            columns: _,
-            rows: _,
-            scalar: _,
-        } => invalid_vector(vector),
-        TypeInner::CooperativeMatrix {
-            columns: _,
-            rows: _,
-            scalar: _,
-            role: _,
-        } => invalid_vector(vector),
-        TypeInner::Atomic(_) => invalid_vector(vector),
-        TypeInner::Pointer { base: _, space: _ } => invalid_vector(vector),
-        TypeInner::ValuePointer {
-            size: _,
-            scalar: _,
-            space: _,
-        } => invalid_vector(vector),
-        TypeInner::Array {
-            base: _,
-            size: _,
-            stride: _,
-        } => invalid_vector(vector),
-        TypeInner::Struct {
-            first: _,
-            count: _,
-            span: _,
-        } => invalid_vector(vector),
-        TypeInner::Image {
-            dim: _,
-            arrayed: _,
-            class: _,
-        } => invalid_vector(vector),
-        TypeInner::Sampler { comparison: _ } => invalid_vector(vector),
-        TypeInner::AccelerationStructure { vertex_return: _ } => invalid_vector(vector),
-        TypeInner::RayQuery { vertex_return: _ } => invalid_vector(vector),
-        TypeInner::BindingArray { base: _, size: _ } => invalid_vector(vector),
+        _ => invalid_vector(vector),
     }
 }

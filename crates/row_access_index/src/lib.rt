@@ -141,21 +141,12 @@ pub fn index_into(frames: &[u8], s: Starts, base: RowNumber, index: u32, t: Type
     ensures { λ r. ⌜ toResult r ≡ told (indexInto base index (memberTypes (now (frames .entry)) s t) t) ⌝ }
 {
     match t {
-        TypeInner::Scalar(_) => invalid_access(base, true),
         TypeInner::Vector { size, scalar } => component(base, index, size, scalar),
         TypeInner::Matrix {
             columns,
             rows,
             scalar,
         } => column(base, index, columns, rows, scalar),
-        TypeInner::CooperativeMatrix {
-            columns: _,
-            rows: _,
-            scalar: _,
-            role: _,
-        } => invalid_access(base, true),
-        TypeInner::Atomic(_) => invalid_access(base, true),
-        TypeInner::Pointer { base: _, space: _ } => invalid_access(base, true),
         TypeInner::ValuePointer {
             size,
             scalar,
@@ -171,15 +162,8 @@ pub fn index_into(frames: &[u8], s: Starts, base: RowNumber, index: u32, t: Type
             count,
             span: _,
         } => member(frames, s, base, index, first, count),
-        TypeInner::Image {
-            dim: _,
-            arrayed: _,
-            class: _,
-        } => invalid_access(base, true),
-        TypeInner::Sampler { comparison: _ } => invalid_access(base, true),
-        TypeInner::AccelerationStructure { vertex_return: _ } => invalid_access(base, true),
-        TypeInner::RayQuery { vertex_return: _ } => invalid_access(base, true),
         TypeInner::BindingArray { base: ty, size: _ } => numbered(ty),
+        _ => invalid_access(base, true),
     }
 }
 
@@ -196,7 +180,6 @@ pub fn index_through(
     ensures { λ r. ⌜ toResult r ≡ told (indexThrough base index ty space (memberTypes (now (frames .entry)) s t) t) ⌝ }
 {
     match t {
-        TypeInner::Scalar(_) => invalid_sub_access(ty, true),
         TypeInner::Vector { size, scalar } => part_pointer(
             base,
             index,
@@ -217,19 +200,6 @@ pub fn index_through(
             scalar,
             space,
         ),
-        TypeInner::CooperativeMatrix {
-            columns: _,
-            rows: _,
-            scalar: _,
-            role: _,
-        } => invalid_sub_access(ty, true),
-        TypeInner::Atomic(_) => invalid_sub_access(ty, true),
-        TypeInner::Pointer { base: _, space: _ } => invalid_sub_access(ty, true),
-        TypeInner::ValuePointer {
-            size: _,
-            scalar: _,
-            space: _,
-        } => invalid_sub_access(ty, true),
         TypeInner::Array {
             base: to,
             size: _,
@@ -240,14 +210,7 @@ pub fn index_through(
             count,
             span: _,
         } => member_pointer(frames, s, base, index, space, first, count),
-        TypeInner::Image {
-            dim: _,
-            arrayed: _,
-            class: _,
-        } => invalid_sub_access(ty, true),
-        TypeInner::Sampler { comparison: _ } => invalid_sub_access(ty, true),
-        TypeInner::AccelerationStructure { vertex_return: _ } => invalid_sub_access(ty, true),
-        TypeInner::RayQuery { vertex_return: _ } => invalid_sub_access(ty, true),
         TypeInner::BindingArray { base: to, size: _ } => pointer_type(to, space),
+        _ => invalid_sub_access(ty, true),
     }
 }

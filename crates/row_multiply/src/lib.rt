@@ -21,44 +21,7 @@ fn times_scalar(a: TypeResolution, right: TypeInner) -> Answer
 {
     match right {
         TypeInner::Scalar(_) => Answer::Resolved(a),
-        TypeInner::Vector { size: _, scalar: _ } => incompatible_operands(),
-        TypeInner::Matrix {
-            columns: _,
-            rows: _,
-            scalar: _,
-        } => incompatible_operands(),
-        TypeInner::CooperativeMatrix {
-            columns: _,
-            rows: _,
-            scalar: _,
-            role: _,
-        } => incompatible_operands(),
-        TypeInner::Atomic(_) => incompatible_operands(),
-        TypeInner::Pointer { base: _, space: _ } => incompatible_operands(),
-        TypeInner::ValuePointer {
-            size: _,
-            scalar: _,
-            space: _,
-        } => incompatible_operands(),
-        TypeInner::Array {
-            base: _,
-            size: _,
-            stride: _,
-        } => incompatible_operands(),
-        TypeInner::Struct {
-            first: _,
-            count: _,
-            span: _,
-        } => incompatible_operands(),
-        TypeInner::Image {
-            dim: _,
-            arrayed: _,
-            class: _,
-        } => incompatible_operands(),
-        TypeInner::Sampler { comparison: _ } => incompatible_operands(),
-        TypeInner::AccelerationStructure { vertex_return: _ } => incompatible_operands(),
-        TypeInner::RayQuery { vertex_return: _ } => incompatible_operands(),
-        TypeInner::BindingArray { base: _, size: _ } => incompatible_operands(),
+        _ => incompatible_operands(),
     }
 }
 
@@ -66,45 +29,13 @@ fn matrix_times(a: TypeResolution, rows: VectorSize, scalar: Scalar, right: Type
     ensures { λ r. ⌜ toResult r ≡ told (matrixTimes (resolved a) rows scalar right) ⌝ }
 {
     match right {
-        TypeInner::Scalar(_) => times_scalar(a, right),
         TypeInner::Vector { size: _, scalar: _ } => vector_type(rows, scalar),
         TypeInner::Matrix {
             columns,
             rows: _,
             scalar: _,
         } => matrix_type(columns, rows, scalar),
-        TypeInner::CooperativeMatrix {
-            columns: _,
-            rows: _,
-            scalar: _,
-            role: _,
-        } => times_scalar(a, right),
-        TypeInner::Atomic(_) => times_scalar(a, right),
-        TypeInner::Pointer { base: _, space: _ } => times_scalar(a, right),
-        TypeInner::ValuePointer {
-            size: _,
-            scalar: _,
-            space: _,
-        } => times_scalar(a, right),
-        TypeInner::Array {
-            base: _,
-            size: _,
-            stride: _,
-        } => times_scalar(a, right),
-        TypeInner::Struct {
-            first: _,
-            count: _,
-            span: _,
-        } => times_scalar(a, right),
-        TypeInner::Image {
-            dim: _,
-            arrayed: _,
-            class: _,
-        } => times_scalar(a, right),
-        TypeInner::Sampler { comparison: _ } => times_scalar(a, right),
-        TypeInner::AccelerationStructure { vertex_return: _ } => times_scalar(a, right),
-        TypeInner::RayQuery { vertex_return: _ } => times_scalar(a, right),
-        TypeInner::BindingArray { base: _, size: _ } => times_scalar(a, right),
+        _ => times_scalar(a, right),
     }
 }
 
@@ -112,45 +43,13 @@ fn vector_times(a: TypeResolution, right: TypeInner) -> Answer
     ensures { λ r. ⌜ toResult r ≡ told (vectorTimes (resolved a) right) ⌝ }
 {
     match right {
-        TypeInner::Scalar(_) => times_scalar(a, right),
         TypeInner::Vector { size: _, scalar: _ } => Answer::Resolved(a),
         TypeInner::Matrix {
             columns,
             rows: _,
             scalar,
         } => vector_type(columns, scalar),
-        TypeInner::CooperativeMatrix {
-            columns: _,
-            rows: _,
-            scalar: _,
-            role: _,
-        } => times_scalar(a, right),
-        TypeInner::Atomic(_) => times_scalar(a, right),
-        TypeInner::Pointer { base: _, space: _ } => times_scalar(a, right),
-        TypeInner::ValuePointer {
-            size: _,
-            scalar: _,
-            space: _,
-        } => times_scalar(a, right),
-        TypeInner::Array {
-            base: _,
-            size: _,
-            stride: _,
-        } => times_scalar(a, right),
-        TypeInner::Struct {
-            first: _,
-            count: _,
-            span: _,
-        } => times_scalar(a, right),
-        TypeInner::Image {
-            dim: _,
-            arrayed: _,
-            class: _,
-        } => times_scalar(a, right),
-        TypeInner::Sampler { comparison: _ } => times_scalar(a, right),
-        TypeInner::AccelerationStructure { vertex_return: _ } => times_scalar(a, right),
-        TypeInner::RayQuery { vertex_return: _ } => times_scalar(a, right),
-        TypeInner::BindingArray { base: _, size: _ } => times_scalar(a, right),
+        _ => times_scalar(a, right),
     }
 }
 
@@ -164,45 +63,13 @@ fn cooperative_times(
     ensures { λ r. ⌜ toResult r ≡ told (cooperativeTimes (resolved a) rows scalar role right) ⌝ }
 {
     match right {
-        TypeInner::Scalar(_) => times_scalar(a, right),
-        TypeInner::Vector { size: _, scalar: _ } => times_scalar(a, right),
-        TypeInner::Matrix {
-            columns: _,
-            rows: _,
-            scalar: _,
-        } => times_scalar(a, right),
         TypeInner::CooperativeMatrix {
             columns,
             rows: _,
             scalar: _,
             role: _,
         } => cooperative_type(columns, rows, scalar, role),
-        TypeInner::Atomic(_) => times_scalar(a, right),
-        TypeInner::Pointer { base: _, space: _ } => times_scalar(a, right),
-        TypeInner::ValuePointer {
-            size: _,
-            scalar: _,
-            space: _,
-        } => times_scalar(a, right),
-        TypeInner::Array {
-            base: _,
-            size: _,
-            stride: _,
-        } => times_scalar(a, right),
-        TypeInner::Struct {
-            first: _,
-            count: _,
-            span: _,
-        } => times_scalar(a, right),
-        TypeInner::Image {
-            dim: _,
-            arrayed: _,
-            class: _,
-        } => times_scalar(a, right),
-        TypeInner::Sampler { comparison: _ } => times_scalar(a, right),
-        TypeInner::AccelerationStructure { vertex_return: _ } => times_scalar(a, right),
-        TypeInner::RayQuery { vertex_return: _ } => times_scalar(a, right),
-        TypeInner::BindingArray { base: _, size: _ } => times_scalar(a, right),
+        _ => times_scalar(a, right),
     }
 }
 
@@ -224,31 +91,6 @@ pub fn product(a: TypeResolution, b: TypeResolution, left: TypeInner, right: Typ
             scalar,
             role,
         } => cooperative_times(a, rows, scalar, role, right),
-        TypeInner::Atomic(_) => times_scalar(a, right),
-        TypeInner::Pointer { base: _, space: _ } => times_scalar(a, right),
-        TypeInner::ValuePointer {
-            size: _,
-            scalar: _,
-            space: _,
-        } => times_scalar(a, right),
-        TypeInner::Array {
-            base: _,
-            size: _,
-            stride: _,
-        } => times_scalar(a, right),
-        TypeInner::Struct {
-            first: _,
-            count: _,
-            span: _,
-        } => times_scalar(a, right),
-        TypeInner::Image {
-            dim: _,
-            arrayed: _,
-            class: _,
-        } => times_scalar(a, right),
-        TypeInner::Sampler { comparison: _ } => times_scalar(a, right),
-        TypeInner::AccelerationStructure { vertex_return: _ } => times_scalar(a, right),
-        TypeInner::RayQuery { vertex_return: _ } => times_scalar(a, right),
-        TypeInner::BindingArray { base: _, size: _ } => times_scalar(a, right),
+        _ => times_scalar(a, right),
     }
 }

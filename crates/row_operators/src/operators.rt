@@ -20,43 +20,7 @@ pub fn bools_of(t: TypeInner) -> Answer
     match t {
         TypeInner::Scalar(_) => scalar_type(Scalar::BOOL),
         TypeInner::Vector { size, scalar: _ } => vector_type(size, Scalar::BOOL),
-        TypeInner::Matrix {
-            columns: _,
-            rows: _,
-            scalar: _,
-        } => incompatible_operands(),
-        TypeInner::CooperativeMatrix {
-            columns: _,
-            rows: _,
-            scalar: _,
-            role: _,
-        } => incompatible_operands(),
-        TypeInner::Atomic(_) => incompatible_operands(),
-        TypeInner::Pointer { base: _, space: _ } => incompatible_operands(),
-        TypeInner::ValuePointer {
-            size: _,
-            scalar: _,
-            space: _,
-        } => incompatible_operands(),
-        TypeInner::Array {
-            base: _,
-            size: _,
-            stride: _,
-        } => incompatible_operands(),
-        TypeInner::Struct {
-            first: _,
-            count: _,
-            span: _,
-        } => incompatible_operands(),
-        TypeInner::Image {
-            dim: _,
-            arrayed: _,
-            class: _,
-        } => incompatible_operands(),
-        TypeInner::Sampler { comparison: _ } => incompatible_operands(),
-        TypeInner::AccelerationStructure { vertex_return: _ } => incompatible_operands(),
-        TypeInner::RayQuery { vertex_return: _ } => incompatible_operands(),
-        TypeInner::BindingArray { base: _, size: _ } => incompatible_operands(),
+        _ => incompatible_operands(),
     }
 }
 
@@ -153,37 +117,6 @@ pub fn cast_of(kind: ScalarKind, convert: OptionBytes, t: TypeInner) -> Answer
             let width = width_or(convert, scalar.width);
             matrix_type(columns, rows, Scalar { kind: own, width })
         },
-        TypeInner::CooperativeMatrix {
-            columns: _,
-            rows: _,
-            scalar: _,
-            role: _,
-        } => incompatible_operands(),
-        TypeInner::Atomic(_) => incompatible_operands(),
-        TypeInner::Pointer { base: _, space: _ } => incompatible_operands(),
-        TypeInner::ValuePointer {
-            size: _,
-            scalar: _,
-            space: _,
-        } => incompatible_operands(),
-        TypeInner::Array {
-            base: _,
-            size: _,
-            stride: _,
-        } => incompatible_operands(),
-        TypeInner::Struct {
-            first: _,
-            count: _,
-            span: _,
-        } => incompatible_operands(),
-        TypeInner::Image {
-            dim: _,
-            arrayed: _,
-            class: _,
-        } => incompatible_operands(),
-        TypeInner::Sampler { comparison: _ } => incompatible_operands(),
-        TypeInner::AccelerationStructure { vertex_return: _ } => incompatible_operands(),
-        TypeInner::RayQuery { vertex_return: _ } => incompatible_operands(),
-        TypeInner::BindingArray { base: _, size: _ } => incompatible_operands(),
+        _ => incompatible_operands(),
     }
 }

@@ -138,45 +138,8 @@ pub fn load_through(base: TypeNumber, t: TypeInner) -> Answer
     ensures { λ r. ⌜ toResult r ≡ told (loadThrough base t) ⌝ }
 {
     match t {
-        TypeInner::Scalar(_) => numbered(base),
-        TypeInner::Vector { size: _, scalar: _ } => numbered(base),
-        TypeInner::Matrix {
-            columns: _,
-            rows: _,
-            scalar: _,
-        } => numbered(base),
-        TypeInner::CooperativeMatrix {
-            columns: _,
-            rows: _,
-            scalar: _,
-            role: _,
-        } => numbered(base),
         TypeInner::Atomic(scalar) => scalar_type(scalar),
-        TypeInner::Pointer { base: _, space: _ } => numbered(base),
-        TypeInner::ValuePointer {
-            size: _,
-            scalar: _,
-            space: _,
-        } => numbered(base),
-        TypeInner::Array {
-            base: _,
-            size: _,
-            stride: _,
-        } => numbered(base),
-        TypeInner::Struct {
-            first: _,
-            count: _,
-            span: _,
-        } => numbered(base),
-        TypeInner::Image {
-            dim: _,
-            arrayed: _,
-            class: _,
-        } => numbered(base),
-        TypeInner::Sampler { comparison: _ } => numbered(base),
-        TypeInner::AccelerationStructure { vertex_return: _ } => numbered(base),
-        TypeInner::RayQuery { vertex_return: _ } => numbered(base),
-        TypeInner::BindingArray { base: _, size: _ } => numbered(base),
+        _ => numbered(base),
     }
 }
 
