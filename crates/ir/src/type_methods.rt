@@ -38,32 +38,7 @@ impl TypeInner {
                 scalar,
                 role: _,
             } => OptionScalar::Some(scalar),
-            TypeInner::Atomic(_) => OptionScalar::None,
-            TypeInner::Pointer { base: _, space: _ } => OptionScalar::None,
-            TypeInner::ValuePointer {
-                size: _,
-                scalar: _,
-                space: _,
-            } => OptionScalar::None,
-            TypeInner::Array {
-                base: _,
-                size: _,
-                stride: _,
-            } => OptionScalar::None,
-            TypeInner::Struct {
-                first: _,
-                count: _,
-                span: _,
-            } => OptionScalar::None,
-            TypeInner::Image {
-                dim: _,
-                arrayed: _,
-                class: _,
-            } => OptionScalar::None,
-            TypeInner::Sampler { comparison: _ } => OptionScalar::None,
-            TypeInner::AccelerationStructure { vertex_return: _ } => OptionScalar::None,
-            TypeInner::RayQuery { vertex_return: _ } => OptionScalar::None,
-            TypeInner::BindingArray { base: _, size: _ } => OptionScalar::None,
+            _ => OptionScalar::None,
         }
     }
 
@@ -72,45 +47,13 @@ impl TypeInner {
         ensures { λ r. ⌜ r ≡ pointerSpace self ⌝ }
     {
         match self {
-            TypeInner::Scalar(_) => OptionAddressSpace::None,
-            TypeInner::Vector { size: _, scalar: _ } => OptionAddressSpace::None,
-            TypeInner::Matrix {
-                columns: _,
-                rows: _,
-                scalar: _,
-            } => OptionAddressSpace::None,
-            TypeInner::CooperativeMatrix {
-                columns: _,
-                rows: _,
-                scalar: _,
-                role: _,
-            } => OptionAddressSpace::None,
-            TypeInner::Atomic(_) => OptionAddressSpace::None,
             TypeInner::Pointer { base: _, space } => OptionAddressSpace::Some(space),
             TypeInner::ValuePointer {
                 size: _,
                 scalar: _,
                 space,
             } => OptionAddressSpace::Some(space),
-            TypeInner::Array {
-                base: _,
-                size: _,
-                stride: _,
-            } => OptionAddressSpace::None,
-            TypeInner::Struct {
-                first: _,
-                count: _,
-                span: _,
-            } => OptionAddressSpace::None,
-            TypeInner::Image {
-                dim: _,
-                arrayed: _,
-                class: _,
-            } => OptionAddressSpace::None,
-            TypeInner::Sampler { comparison: _ } => OptionAddressSpace::None,
-            TypeInner::AccelerationStructure { vertex_return: _ } => OptionAddressSpace::None,
-            TypeInner::RayQuery { vertex_return: _ } => OptionAddressSpace::None,
-            TypeInner::BindingArray { base: _, size: _ } => OptionAddressSpace::None,
+            _ => OptionAddressSpace::None,
         }
     }
 
@@ -119,20 +62,6 @@ impl TypeInner {
         ensures { λ r. ⌜ r ≡ pointerBase self ⌝ }
     {
         match self {
-            TypeInner::Scalar(_) => OptionTypeResolution::None,
-            TypeInner::Vector { size: _, scalar: _ } => OptionTypeResolution::None,
-            TypeInner::Matrix {
-                columns: _,
-                rows: _,
-                scalar: _,
-            } => OptionTypeResolution::None,
-            TypeInner::CooperativeMatrix {
-                columns: _,
-                rows: _,
-                scalar: _,
-                role: _,
-            } => OptionTypeResolution::None,
-            TypeInner::Atomic(_) => OptionTypeResolution::None,
             TypeInner::Pointer { base, space: _ } =>
                 OptionTypeResolution::Some(TypeResolution::Handle(base)),
             TypeInner::ValuePointer {
@@ -140,25 +69,7 @@ impl TypeInner {
                 scalar,
                 space: _,
             } => OptionTypeResolution::Some(TypeResolution::Value(value_base(size, scalar))),
-            TypeInner::Array {
-                base: _,
-                size: _,
-                stride: _,
-            } => OptionTypeResolution::None,
-            TypeInner::Struct {
-                first: _,
-                count: _,
-                span: _,
-            } => OptionTypeResolution::None,
-            TypeInner::Image {
-                dim: _,
-                arrayed: _,
-                class: _,
-            } => OptionTypeResolution::None,
-            TypeInner::Sampler { comparison: _ } => OptionTypeResolution::None,
-            TypeInner::AccelerationStructure { vertex_return: _ } => OptionTypeResolution::None,
-            TypeInner::RayQuery { vertex_return: _ } => OptionTypeResolution::None,
-            TypeInner::BindingArray { base: _, size: _ } => OptionTypeResolution::None,
+            _ => OptionTypeResolution::None,
         }
     }
 }

@@ -33,45 +33,12 @@ pub fn gathered_of(image: RowNumber, t: TypeInner) -> Answer
     ensures { λ r. ⌜ toResult r ≡ told (gatheredOf image t) ⌝ }
 {
     match t {
-        TypeInner::Scalar(_) => invalid_image(image),
-        TypeInner::Vector { size: _, scalar: _ } => invalid_image(image),
-        TypeInner::Matrix {
-            columns: _,
-            rows: _,
-            scalar: _,
-        } => invalid_image(image),
-        TypeInner::CooperativeMatrix {
-            columns: _,
-            rows: _,
-            scalar: _,
-            role: _,
-        } => invalid_image(image),
-        TypeInner::Atomic(_) => invalid_image(image),
-        TypeInner::Pointer { base: _, space: _ } => invalid_image(image),
-        TypeInner::ValuePointer {
-            size: _,
-            scalar: _,
-            space: _,
-        } => invalid_image(image),
-        TypeInner::Array {
-            base: _,
-            size: _,
-            stride: _,
-        } => invalid_image(image),
-        TypeInner::Struct {
-            first: _,
-            count: _,
-            span: _,
-        } => invalid_image(image),
         TypeInner::Image {
             dim: _,
             arrayed: _,
             class,
         } => vector_type(VectorSize::Quad, gathered_scalar(class)),
-        TypeInner::Sampler { comparison: _ } => invalid_image(image),
-        TypeInner::AccelerationStructure { vertex_return: _ } => invalid_image(image),
-        TypeInner::RayQuery { vertex_return: _ } => invalid_image(image),
-        TypeInner::BindingArray { base: _, size: _ } => invalid_image(image),
+        _ => invalid_image(image),
     }
 }
 
@@ -80,36 +47,6 @@ pub fn sampled_from(here: RowNumber, image: RowNumber, t: TypeInner) -> Answer
     ensures { λ r. ⌜ toResult r ≡ sampledIn here image t ⌝ }
 {
     match t {
-        TypeInner::Scalar(_) => invalid_image(image),
-        TypeInner::Vector { size: _, scalar: _ } => invalid_image(image),
-        TypeInner::Matrix {
-            columns: _,
-            rows: _,
-            scalar: _,
-        } => invalid_image(image),
-        TypeInner::CooperativeMatrix {
-            columns: _,
-            rows: _,
-            scalar: _,
-            role: _,
-        } => invalid_image(image),
-        TypeInner::Atomic(_) => invalid_image(image),
-        TypeInner::Pointer { base: _, space: _ } => invalid_image(image),
-        TypeInner::ValuePointer {
-            size: _,
-            scalar: _,
-            space: _,
-        } => invalid_image(image),
-        TypeInner::Array {
-            base: _,
-            size: _,
-            stride: _,
-        } => invalid_image(image),
-        TypeInner::Struct {
-            first: _,
-            count: _,
-            span: _,
-        } => invalid_image(image),
         TypeInner::Image {
             dim: _,
             arrayed: _,
@@ -126,10 +63,7 @@ pub fn sampled_from(here: RowNumber, image: RowNumber, t: TypeInner) -> Answer
                 access: _,
             } => Answer::Newer { row: here },
         },
-        TypeInner::Sampler { comparison: _ } => invalid_image(image),
-        TypeInner::AccelerationStructure { vertex_return: _ } => invalid_image(image),
-        TypeInner::RayQuery { vertex_return: _ } => invalid_image(image),
-        TypeInner::BindingArray { base: _, size: _ } => invalid_image(image),
+        _ => invalid_image(image),
     }
 }
 
@@ -149,44 +83,11 @@ pub fn image_size_of(image: RowNumber, t: TypeInner) -> Answer
     ensures { λ r. ⌜ toResult r ≡ told (imageSizeOf image t) ⌝ }
 {
     match t {
-        TypeInner::Scalar(_) => invalid_image(image),
-        TypeInner::Vector { size: _, scalar: _ } => invalid_image(image),
-        TypeInner::Matrix {
-            columns: _,
-            rows: _,
-            scalar: _,
-        } => invalid_image(image),
-        TypeInner::CooperativeMatrix {
-            columns: _,
-            rows: _,
-            scalar: _,
-            role: _,
-        } => invalid_image(image),
-        TypeInner::Atomic(_) => invalid_image(image),
-        TypeInner::Pointer { base: _, space: _ } => invalid_image(image),
-        TypeInner::ValuePointer {
-            size: _,
-            scalar: _,
-            space: _,
-        } => invalid_image(image),
-        TypeInner::Array {
-            base: _,
-            size: _,
-            stride: _,
-        } => invalid_image(image),
-        TypeInner::Struct {
-            first: _,
-            count: _,
-            span: _,
-        } => invalid_image(image),
         TypeInner::Image {
             dim,
             arrayed: _,
             class: _,
         } => size_of(dim),
-        TypeInner::Sampler { comparison: _ } => invalid_image(image),
-        TypeInner::AccelerationStructure { vertex_return: _ } => invalid_image(image),
-        TypeInner::RayQuery { vertex_return: _ } => invalid_image(image),
-        TypeInner::BindingArray { base: _, size: _ } => invalid_image(image),
+        _ => invalid_image(image),
     }
 }

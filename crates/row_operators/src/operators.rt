@@ -44,44 +44,7 @@ pub fn logical_of(t: TypeInner) -> Answer
                 incompatible_operands()
             }
         },
-        TypeInner::Vector { size: _, scalar: _ } => incompatible_operands(),
-        TypeInner::Matrix {
-            columns: _,
-            rows: _,
-            scalar: _,
-        } => incompatible_operands(),
-        TypeInner::CooperativeMatrix {
-            columns: _,
-            rows: _,
-            scalar: _,
-            role: _,
-        } => incompatible_operands(),
-        TypeInner::Atomic(_) => incompatible_operands(),
-        TypeInner::Pointer { base: _, space: _ } => incompatible_operands(),
-        TypeInner::ValuePointer {
-            size: _,
-            scalar: _,
-            space: _,
-        } => incompatible_operands(),
-        TypeInner::Array {
-            base: _,
-            size: _,
-            stride: _,
-        } => incompatible_operands(),
-        TypeInner::Struct {
-            first: _,
-            count: _,
-            span: _,
-        } => incompatible_operands(),
-        TypeInner::Image {
-            dim: _,
-            arrayed: _,
-            class: _,
-        } => incompatible_operands(),
-        TypeInner::Sampler { comparison: _ } => incompatible_operands(),
-        TypeInner::AccelerationStructure { vertex_return: _ } => incompatible_operands(),
-        TypeInner::RayQuery { vertex_return: _ } => incompatible_operands(),
-        TypeInner::BindingArray { base: _, size: _ } => incompatible_operands(),
+        _ => incompatible_operands(),
     }
 }
 

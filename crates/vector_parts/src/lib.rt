@@ -45,50 +45,7 @@ fn count_added(i: u32, scalar: Scalar, t: TypeInner) -> Added
             equal_scalars(k, scalar),
             size.number() as u32,
         ),
-        TypeInner::Matrix {
-            columns: _,
-            rows: _,
-            scalar: _,
-        } => Added::Decided(Verdict::ComponentType { index: i }),
-        TypeInner::CooperativeMatrix {
-            columns: _,
-            rows: _,
-            scalar: _,
-            role: _,
-        } => Added::Decided(Verdict::ComponentType { index: i }),
-        TypeInner::Atomic(_) => Added::Decided(Verdict::ComponentType { index: i }),
-        TypeInner::Pointer { base: _, space: _ } => Added::Decided(Verdict::ComponentType {
-            index: i,
-        }),
-        TypeInner::ValuePointer {
-            size: _,
-            scalar: _,
-            space: _,
-        } => Added::Decided(Verdict::ComponentType { index: i }),
-        TypeInner::Array {
-            base: _,
-            size: _,
-            stride: _,
-        } => Added::Decided(Verdict::ComponentType { index: i }),
-        TypeInner::Struct {
-            first: _,
-            count: _,
-            span: _,
-        } => Added::Decided(Verdict::ComponentType { index: i }),
-        TypeInner::Image {
-            dim: _,
-            arrayed: _,
-            class: _,
-        } => Added::Decided(Verdict::ComponentType { index: i }),
-        TypeInner::Sampler { comparison: _ } => Added::Decided(Verdict::ComponentType { index: i }),
-        TypeInner::AccelerationStructure { vertex_return: _ } =>
-            Added::Decided(Verdict::ComponentType { index: i }),
-        TypeInner::RayQuery { vertex_return: _ } => Added::Decided(Verdict::ComponentType {
-            index: i,
-        }),
-        TypeInner::BindingArray { base: _, size: _ } => Added::Decided(Verdict::ComponentType {
-            index: i,
-        }),
+        _ => Added::Decided(Verdict::ComponentType { index: i }),
     }
 }
 

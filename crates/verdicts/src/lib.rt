@@ -59,7 +59,6 @@ fn by_form(
     ensures { λ r. ⌜ toJudged r ≡ judgedBy (now (frames .entry)) s (now (answers .entry)) (now (places .entry)) (byForm (partsIn (now (frames .entry)) s first count) (memberTypes (now (frames .entry)) s t) t) ⌝ }
 {
     match t {
-        TypeInner::Scalar(_) => Verdict::ComposedType,
         TypeInner::Vector { size, scalar } => vector_parts(
             frames,
             s,
@@ -84,19 +83,6 @@ fn by_form(
             first,
             count,
         ),
-        TypeInner::CooperativeMatrix {
-            columns: _,
-            rows: _,
-            scalar: _,
-            role: _,
-        } => Verdict::ComposedType,
-        TypeInner::Atomic(_) => Verdict::ComposedType,
-        TypeInner::Pointer { base: _, space: _ } => Verdict::ComposedType,
-        TypeInner::ValuePointer {
-            size: _,
-            scalar: _,
-            space: _,
-        } => Verdict::ComposedType,
         TypeInner::Array {
             base,
             size,
@@ -116,15 +102,7 @@ fn by_form(
             first,
             count,
         ),
-        TypeInner::Image {
-            dim: _,
-            arrayed: _,
-            class: _,
-        } => Verdict::ComposedType,
-        TypeInner::Sampler { comparison: _ } => Verdict::ComposedType,
-        TypeInner::AccelerationStructure { vertex_return: _ } => Verdict::ComposedType,
-        TypeInner::RayQuery { vertex_return: _ } => Verdict::ComposedType,
-        TypeInner::BindingArray { base: _, size: _ } => Verdict::ComposedType,
+        _ => Verdict::ComposedType,
     }
 }
 

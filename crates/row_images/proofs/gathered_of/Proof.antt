@@ -1,8 +1,40 @@
 -- `gathered_of`: each arm knows its case, and what its calls ensure. Assumes nothing.
+use Prim.Native.Nat.{ℕ}
+use mathlib.Core.Path.{_≡_, refl, _∙_}
+use mathlib.Core.Bool.{false}
+use mathlib.Core.List.{List, [], _∷_}
+use types.Run.{OneOf, miss}
+use denote.Enum.Declared.{tagOf}
+use Rattle.ir.specs.declared.TypeInner.{TypeInner}
+use Rattle.ir.specs.declared.TypeInner.the-variants as Ti
+use Rattle.ir.proofs.TypeInner.{the-type}
+use Rattle.rule.specs.Answers.{told}
+use Rattle.row_rules.specs.Images.{gatheredOf}
+use Rattle.ir.specs.declared.RowNumber.{RowNumber}
 use Rattle.row_images.proofs.gathered_of.Statement.{statement}
 use Rattle.row_images.proofs.gathered_of.Tie as tie
+
+-- the other kinds
+abbrev others : List ℕ
+others = 0 ∷ 1 ∷ 2 ∷ 3 ∷ 4 ∷ 5 ∷ 6 ∷ 7 ∷ 8 ∷ 10 ∷ 11 ∷ 12 ∷ 13 ∷ []
+
+rest : (a : RowNumber) (t : TypeInner) → OneOf others (tagOf the-type t) → told (gatheredOf a (Ti.RayQuery false)) ≡ told (gatheredOf a t)
+rest a (Ti.Scalar u) h = refl
+rest a (Ti.Vector u v) h = refl
+rest a (Ti.Matrix u v w) h = refl
+rest a (Ti.CooperativeMatrix u v w y) h = refl
+rest a (Ti.Atomic u) h = refl
+rest a (Ti.Pointer u v) h = refl
+rest a (Ti.ValuePointer u v w) h = refl
+rest a (Ti.Array u v w) h = refl
+rest a (Ti.Struct u v w) h = refl
+rest a (Ti.Image u v w) h = absurd (miss others 9 tt h)
+rest a (Ti.Sampler u) h = refl
+rest a (Ti.AccelerationStructure u) h = refl
+rest a (Ti.RayQuery u) h = refl
+rest a (Ti.BindingArray u v) h = refl
 
 pub gathered-of-spec : {M : Type 1} → statement M
 gathered-of-spec =
     tie.close
-    (tie.spec (λ c. c .match .keys1) (λ c κs. tt) (λ c. c .match .keys2) (λ c κs. tt) (λ c. c .match .keys3) (λ c κs. tt) (λ c. c .match .keys4) (λ c κs. tt) (λ c. c .match .keys5) (λ c κs. tt) (λ c. c .match .keys6) (λ c κs. tt) (λ c. c .match .keys7) (λ c κs. tt) (λ c. c .match .keys8) (λ c κs. tt) (λ c. c .match .keys9) (λ c κs. tt) (λ c. c .match .keys10) (λ c κs. tt) (λ c κs. tt) (λ c. c .match .keys11) (λ c κs. tt) (λ c. c .match .keys12) (λ c κs. tt) (λ c. c .match .keys13) (λ c κs. tt) (λ c. c .match .keys14) (λ c κs. tt) (λ c. rw (c .before .enum-told .given .1, c .invalid-image .ensures)) (λ c. rw (c .before .enum-told2 .given .1, c .invalid-image2 .ensures)) (λ c. rw (c .before .enum-told3 .given .1, c .invalid-image3 .ensures)) (λ c. rw (c .before .enum-told4 .given .1, c .invalid-image4 .ensures)) (λ c. rw (c .before .enum-told5 .given .1, c .invalid-image5 .ensures)) (λ c. rw (c .before .enum-told6 .given .1, c .invalid-image6 .ensures)) (λ c. rw (c .before .enum-told7 .given .1, c .invalid-image7 .ensures)) (λ c. rw (c .before .enum-told8 .given .1, c .invalid-image8 .ensures)) (λ c. rw (c .before .enum-told9 .given .1, c .invalid-image9 .ensures)) (λ c. rw (c .before .before .before .t .given .1, c .vector-type .ensures, c .before .gathered-scalar .ensures)) (λ c. rw (c .before .enum-told10 .given .1, c .invalid-image10 .ensures)) (λ c. rw (c .before .enum-told11 .given .1, c .invalid-image11 .ensures)) (λ c. rw (c .before .enum-told12 .given .1, c .invalid-image12 .ensures)) (λ c. rw (c .before .enum-told13 .given .1, c .invalid-image13 .ensures)))
+    (tie.spec (λ c. c .match .keys1) (λ c κs. tt) (λ c κs. tt) (λ c κs. tt) (λ c. rw (c .before .before .before .t .given .1, c .vector-type .ensures, c .before .gathered-scalar .ensures)) (λ c. c .invalid-image .ensures ∙ rest (c .before .before .args .image) (c .before .before .args .t) (c .before .match .keys2)))

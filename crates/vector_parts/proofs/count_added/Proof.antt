@@ -1,9 +1,41 @@
 -- `count_added`: each arm knows its case, and what its calls ensure. Assumes nothing.
+use Prim.Native.Nat.{ℕ}
+use mathlib.Core.Path.{_≡_, refl, _∙_}
+use mathlib.Core.Bool.{false}
+use mathlib.Core.List.{List, [], _∷_}
+use types.Run.{OneOf, miss}
+use denote.Enum.Declared.{tagOf}
+use Rattle.ir.specs.declared.TypeInner.{TypeInner}
+use Rattle.ir.specs.declared.TypeInner.the-variants as Ti
+use Rattle.ir.proofs.TypeInner.{the-type}
+use Rattle.compose.specs.Verdict.{adds}
+use Rattle.compose.specs.Judged.{countAdded}
+use Rattle.ir.specs.declared.Scalar.{Scalar}
 use borrow.Author.Needs.{needs}
 use Rattle.vector_parts.proofs.count_added.Statement.{statement}
 use Rattle.vector_parts.proofs.count_added.Tie as tie
 
+-- the other kinds
+abbrev others : List ℕ
+others = 2 ∷ 3 ∷ 4 ∷ 5 ∷ 6 ∷ 7 ∷ 8 ∷ 9 ∷ 10 ∷ 11 ∷ 12 ∷ 13 ∷ []
+
+rest : (a : ℕ) (b : Scalar) (t : TypeInner) → OneOf others (tagOf the-type t) → countAdded a (adds b (Ti.RayQuery false)) ≡ countAdded a (adds b t)
+rest a b (Ti.Scalar u) h = absurd (miss others 0 tt h)
+rest a b (Ti.Vector u v) h = absurd (miss others 1 tt h)
+rest a b (Ti.Matrix u v w) h = refl
+rest a b (Ti.CooperativeMatrix u v w y) h = refl
+rest a b (Ti.Atomic u) h = refl
+rest a b (Ti.Pointer u v) h = refl
+rest a b (Ti.ValuePointer u v w) h = refl
+rest a b (Ti.Array u v w) h = refl
+rest a b (Ti.Struct u v w) h = refl
+rest a b (Ti.Image u v w) h = refl
+rest a b (Ti.Sampler u) h = refl
+rest a b (Ti.AccelerationStructure u) h = refl
+rest a b (Ti.RayQuery u) h = refl
+rest a b (Ti.BindingArray u v) h = refl
+
 pub count-added-spec : {M : Type 1} → statement M
 count-added-spec =
     tie.close
-    (tie.spec (λ c. c .match .keys1) (λ c κs. tt) (λ c κs. tt) (λ c. c .match .keys2) (λ c κs. tt) (λ c κs. tt) (λ c. search needs) (λ c κs. tt) (λ c. c .match .keys3) (λ c. c .match .keys4) (λ c. c .match .keys5) (λ c. c .match .keys6) (λ c. c .match .keys7) (λ c. c .match .keys8) (λ c. c .match .keys9) (λ c. c .match .keys10) (λ c. c .match .keys11) (λ c. c .match .keys12) (λ c. c .match .keys13) (λ c. c .match .keys14) (λ c. rw (c .before .before .before .t .given .1, c .adds-scalar .ensures, c .before .equal-scalars .ensures)) (λ c. rw (c .before .before .before .before .t2 .given .1, c .adds-scalar2 .ensures, c .before .number .ensures, c .before .before .equal-scalars2 .ensures)) (λ c. rw (c .enum-told .given .1)) (λ c. rw (c .enum-told2 .given .1)) (λ c. rw (c .enum-told3 .given .1)) (λ c. rw (c .enum-told4 .given .1)) (λ c. rw (c .enum-told5 .given .1)) (λ c. rw (c .enum-told6 .given .1)) (λ c. rw (c .enum-told7 .given .1)) (λ c. rw (c .enum-told8 .given .1)) (λ c. rw (c .enum-told9 .given .1)) (λ c. rw (c .enum-told10 .given .1)) (λ c. rw (c .enum-told11 .given .1)) (λ c. rw (c .enum-told12 .given .1)))
+    (tie.spec (λ c. c .match .keys1) (λ c κs. tt) (λ c κs. tt) (λ c. c .match .keys2) (λ c κs. tt) (λ c κs. tt) (λ c. search needs) (λ c κs. tt) (λ c. rw (c .before .before .before .t .given .1, c .adds-scalar .ensures, c .before .equal-scalars .ensures)) (λ c. rw (c .before .before .before .before .t2 .given .1, c .adds-scalar2 .ensures, c .before .number .ensures, c .before .before .equal-scalars2 .ensures)) (λ c. rest (c .before .args .i) (c .before .args .scalar) (c .before .args .t) (c .match .keys3)))

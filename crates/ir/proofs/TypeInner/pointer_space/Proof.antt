@@ -1,8 +1,38 @@
 -- `pointer_space`: each arm knows its case, and what its calls ensure. Assumes nothing.
+use Prim.Native.Nat.{ℕ}
+use mathlib.Core.Path.{_≡_, refl, _∙_}
+use mathlib.Core.Bool.{false}
+use mathlib.Core.List.{List, [], _∷_}
+use types.Run.{OneOf, miss}
+use denote.Enum.Declared.{tagOf}
+use Rattle.ir.specs.declared.TypeInner.{TypeInner}
+use Rattle.ir.specs.declared.TypeInner.the-variants as Ti
+use Rattle.ir.proofs.TypeInner.{the-type}
+use Rattle.ir.specs.TypeMethods.{pointerSpace}
 use Rattle.ir.proofs.TypeInner.pointer_space.Statement.{statement}
 use Rattle.ir.proofs.TypeInner.pointer_space.Tie as tie
+
+-- the other kinds
+abbrev others : List ℕ
+others = 0 ∷ 1 ∷ 2 ∷ 3 ∷ 4 ∷ 7 ∷ 8 ∷ 9 ∷ 10 ∷ 11 ∷ 12 ∷ 13 ∷ []
+
+rest : (t : TypeInner) → OneOf others (tagOf the-type t) → pointerSpace (Ti.RayQuery false) ≡ pointerSpace t
+rest (Ti.Scalar u) h = refl
+rest (Ti.Vector u v) h = refl
+rest (Ti.Matrix u v w) h = refl
+rest (Ti.CooperativeMatrix u v w y) h = refl
+rest (Ti.Atomic u) h = refl
+rest (Ti.Pointer u v) h = absurd (miss others 5 tt h)
+rest (Ti.ValuePointer u v w) h = absurd (miss others 6 tt h)
+rest (Ti.Array u v w) h = refl
+rest (Ti.Struct u v w) h = refl
+rest (Ti.Image u v w) h = refl
+rest (Ti.Sampler u) h = refl
+rest (Ti.AccelerationStructure u) h = refl
+rest (Ti.RayQuery u) h = refl
+rest (Ti.BindingArray u v) h = refl
 
 pub pointer-space-spec : {M : Type 1} → statement M
 pointer-space-spec =
     tie.close
-    (tie.spec (λ c. c .match .keys1) (λ c. c .match .keys2) (λ c. c .match .keys3) (λ c. c .match .keys4) (λ c. c .match .keys5) (λ c. c .match .keys6) (λ c. c .match .keys7) (λ c. c .match .keys8) (λ c. c .match .keys9) (λ c. c .match .keys10) (λ c. c .match .keys11) (λ c. c .match .keys12) (λ c. c .match .keys13) (λ c. c .match .keys14) (λ c. rw (c .enum-told .given .1)) (λ c. rw (c .enum-told2 .given .1)) (λ c. rw (c .enum-told3 .given .1)) (λ c. rw (c .enum-told4 .given .1)) (λ c. rw (c .enum-told5 .given .1)) (λ c. rw (c .before .self .given .1)) (λ c. rw (c .before .self2 .given .1)) (λ c. rw (c .enum-told6 .given .1)) (λ c. rw (c .enum-told7 .given .1)) (λ c. rw (c .enum-told8 .given .1)) (λ c. rw (c .enum-told9 .given .1)) (λ c. rw (c .enum-told10 .given .1)) (λ c. rw (c .enum-told11 .given .1)) (λ c. rw (c .enum-told12 .given .1)))
+    (tie.spec (λ c. c .match .keys1) (λ c. c .match .keys2) (λ c. rw (c .before .self .given .1)) (λ c. rw (c .before .self2 .given .1)) (λ c. rest (c .before .args .self) (c .match .keys3)))
