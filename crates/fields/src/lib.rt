@@ -86,11 +86,7 @@ fn row_fits(kind: RowKind, f: Frame) -> bool
         RowKind::Literal => (f.b6 < 12)
             & ((f.b2 == 0)
                 & ((f.b3 == 0) & ((f.b4 == 0) & ((f.b5 == 0) & ((f.b7 == 0) & (zero_from_8(f))))))),
-        RowKind::Constant => zero_from_4(f),
-        RowKind::Override => zero_from_4(f),
-        RowKind::ZeroValue => zero_from_4(f),
         RowKind::Compose => (f.b6 == 0) & ((f.b7 == 0) & (zero_8_11(f))),
-        RowKind::Access => zero_from_4(f),
         RowKind::AccessIndex => (f.b4 == 0)
             & ((f.b5 == 0) & ((f.b6 == 0) & ((f.b7 == 0) & (zero_8_11(f))))),
         RowKind::Splat => size_fits(f.b6)
@@ -100,18 +96,11 @@ fn row_fits(kind: RowKind, f: Frame) -> bool
         RowKind::FunctionArgument => (f.b2 == 0)
             & ((f.b3 == 0)
                 & ((f.b4 == 0) & ((f.b5 == 0) & ((f.b6 == 0) & ((f.b7 == 0) & (zero_8_11(f))))))),
-        RowKind::GlobalVariable => zero_from_4(f),
-        RowKind::LocalVariable => zero_from_4(f),
-        RowKind::Load => zero_from_4(f),
         RowKind::ImageSample => (f.b6 < 2)
             & ((f.b4 == 0) & ((f.b5 == 0) & ((f.b7 == 0) & (zero_from_8(f))))),
-        RowKind::ImageLoad => zero_from_4(f),
         RowKind::ImageQuery => query_fits(f)
             & ((f.b4 == 0) & ((f.b5 == 0) & ((f.b7 == 0) & (zero_from_8(f))))),
-        RowKind::Unary => zero_from_4(f),
         RowKind::Binary => (f.b6 < 18) & ((f.b7 == 0) & (zero_from_8(f))),
-        RowKind::Select => zero_from_4(f),
-        RowKind::Derivative => zero_from_4(f),
         RowKind::Relational => relational_fits(f)
             & ((f.b4 == 0) & ((f.b5 == 0) & ((f.b7 == 0) & (zero_from_8(f))))),
         RowKind::Math => true,
@@ -120,15 +109,11 @@ fn row_fits(kind: RowKind, f: Frame) -> bool
                 & ((f.b4 == 0)
                     & ((f.b5 == 0)
                         & ((f.b9 == 0) & ((f.b10 == 0) & ((f.b11 == 0) & (zero_from_12(f)))))))),
-        RowKind::CallResult => zero_from_4(f),
-        RowKind::AtomicResult => zero_from_4(f),
-        RowKind::WorkGroupUniformLoadResult => zero_from_4(f),
         RowKind::ArrayLength => no_field(f),
         RowKind::RayQueryVertexPositions => no_field(f),
         RowKind::RayQueryProceedResult => no_field(f),
         RowKind::RayQueryGetIntersection => no_field(f),
         RowKind::SubgroupBallotResult => no_field(f),
-        RowKind::SubgroupOperationResult => zero_from_4(f),
         RowKind::CooperativeLoad => cooperative_fits(f.b6)
             & (cooperative_fits(f.b7)
                 & ((f.b8 < 3)
@@ -136,6 +121,6 @@ fn row_fits(kind: RowKind, f: Frame) -> bool
                         & ((f.b5 == 0)
                             & ((f.b9 == 0)
                                 & ((f.b10 == 0) & ((f.b11 == 0) & (zero_from_12(f))))))))),
-        RowKind::CooperativeMultiplyAdd => zero_from_4(f),
+        _ => zero_from_4(f),
     }
 }
