@@ -21,6 +21,8 @@ use ir::ScalarKind;
 use ir::TypeNumber;
 use ir::VectorSize;
 ghost use mathlib.Core.Path.{_≡_};
+ghost use Rattle.ir.specs.declared.RowKind.the-variants.{Unknown};
+ghost use Rattle.ir.specs.declared.RowForm.the-variants.{Known};
 ghost use Rattle.frames.specs.Fields.{resultOf, convertOf};
 ghost use Rattle.frames.specs.Forms.{itemAs, rowAs, itemOf, rowOf};
 
@@ -55,7 +57,11 @@ pub fn item_of(f: Frame) -> Item
 pub fn row_form(f: Frame) -> RowForm
     ensures { λ r. ⌜ r ≡ rowOf f ⌝ }
 {
-    row_as(RowKind::from_number(f.b1), f)
+    let kind = RowKind::from_number(f.b1);
+    match kind {
+        RowKind::Unknown => RowForm::Unknown,
+        _ => RowForm::Known(expression(kind, f)),
+    }
 }
 
 fn item_as(kind: ItemKind, f: Frame) -> Item
@@ -84,129 +90,130 @@ fn item_as(kind: ItemKind, f: Frame) -> Item
     }
 }
 
-fn row_as(kind: RowKind, f: Frame) -> RowForm
-    ensures { λ r. ⌜ r ≡ rowAs kind f ⌝ }
+// A row of a known kind.
+fn expression(kind: RowKind, f: Frame) -> Expression
+    requires { ⌜ (kind ≡ Unknown → ⊥) ⌝ }
+    ensures { λ r. ⌜ Known r ≡ rowAs kind f ⌝ }
 {
     let n = f.named();
     match kind {
-        RowKind::Unknown => RowForm::Unknown,
+        RowKind::Unknown => Expression::Math,
         RowKind::Literal => {
             let literal = Literal::from_number(f.b6);
-            RowForm::Known(Expression::Literal(literal))
+            Expression::Literal(literal)
         }
-        RowKind::Constant => RowForm::Known(Expression::Constant(ItemNumber(n as u32))),
-        RowKind::Override => RowForm::Known(Expression::Override(ItemNumber(n as u32))),
-        RowKind::ZeroValue => RowForm::Known(Expression::ZeroValue(TypeNumber(n))),
+        RowKind::Constant => Expression::Constant(ItemNumber(n as u32)),
+        RowKind::Override => Expression::Override(ItemNumber(n as u32)),
+        RowKind::ZeroValue => Expression::ZeroValue(TypeNumber(n)),
         RowKind::Compose => {
             let count = f.second();
             let first = f.last();
-            RowForm::Known(Expression::Compose {
+            Expression::Compose {
                 ty: TypeNumber(n),
                 count,
                 first: ComponentNumber(first),
-            })
+            }
         }
-        RowKind::Access => RowForm::Known(Expression::Access { base: RowNumber(n) }),
+        RowKind::Access => Expression::Access { base: RowNumber(n) },
         RowKind::AccessIndex => {
             let index = f.last();
-            RowForm::Known(Expression::AccessIndex {
+            Expression::AccessIndex {
                 base: RowNumber(n),
                 index,
-            })
+            }
         }
         RowKind::Splat => {
             let size = VectorSize::from_number(f.b6);
-            RowForm::Known(Expression::Splat {
+            Expression::Splat {
                 size,
                 value: RowNumber(n),
-            })
+            }
         }
         RowKind::Swizzle => {
             let size = VectorSize::from_number(f.b6);
-            RowForm::Known(Expression::Swizzle {
+            Expression::Swizzle {
                 size,
                 vector: RowNumber(n),
-            })
+            }
         }
         RowKind::FunctionArgument => {
             let index = f.last();
-            RowForm::Known(Expression::FunctionArgument(index))
+            Expression::FunctionArgument(index)
         }
-        RowKind::GlobalVariable => RowForm::Known(Expression::GlobalVariable(ItemNumber(n as u32))),
-        RowKind::LocalVariable => RowForm::Known(Expression::LocalVariable(ItemNumber(n as u32))),
-        RowKind::Load => RowForm::Known(Expression::Load {
+        RowKind::GlobalVariable => Expression::GlobalVariable(ItemNumber(n as u32)),
+        RowKind::LocalVariable => Expression::LocalVariable(ItemNumber(n as u32)),
+        RowKind::Load => Expression::Load {
             pointer: RowNumber(n),
-        }),
-        RowKind::ImageSample => RowForm::Known(Expression::ImageSample {
+        },
+        RowKind::ImageSample => Expression::ImageSample {
             image: RowNumber(n),
             gather: f.b6 == 1,
-        }),
-        RowKind::ImageLoad => RowForm::Known(Expression::ImageLoad {
+        },
+        RowKind::ImageLoad => Expression::ImageLoad {
             image: RowNumber(n),
-        }),
+        },
         RowKind::ImageQuery => {
             let query = ImageQuery::from_number(f.b6);
-            RowForm::Known(Expression::ImageQuery {
+            Expression::ImageQuery {
                 image: RowNumber(n),
                 query,
-            })
+            }
         }
-        RowKind::Unary => RowForm::Known(Expression::Unary { expr: RowNumber(n) }),
+        RowKind::Unary => Expression::Unary { expr: RowNumber(n) },
         RowKind::Binary => {
             let op = BinaryOperator::from_number(f.b6);
             let right = f.second();
-            RowForm::Known(Expression::Binary {
+            Expression::Binary {
                 op,
                 left: RowNumber(n),
                 right: RowNumber(right),
-            })
+            }
         }
-        RowKind::Select => RowForm::Known(Expression::Select {
+        RowKind::Select => Expression::Select {
             accept: RowNumber(n),
-        }),
-        RowKind::Derivative => RowForm::Known(Expression::Derivative { expr: RowNumber(n) }),
+        },
+        RowKind::Derivative => Expression::Derivative { expr: RowNumber(n) },
         RowKind::Relational => {
             let fun = RelationalFunction::from_number(f.b6);
-            RowForm::Known(Expression::Relational {
+            Expression::Relational {
                 fun,
                 argument: RowNumber(n),
-            })
+            }
         }
-        RowKind::Math => RowForm::Known(Expression::Math),
+        RowKind::Math => Expression::Math,
         RowKind::As => {
             let kind = ScalarKind::from_number(f.b6);
             let convert = converted(f.b7, f.b8);
-            RowForm::Known(Expression::As {
+            Expression::As {
                 expr: RowNumber(n),
                 kind,
                 convert,
-            })
+            }
         }
-        RowKind::CallResult => RowForm::Known(Expression::CallResult(ItemNumber(n as u32))),
-        RowKind::AtomicResult => RowForm::Known(Expression::AtomicResult { ty: TypeNumber(n) }),
-        RowKind::WorkGroupUniformLoadResult =>
-            RowForm::Known(Expression::WorkGroupUniformLoadResult { ty: TypeNumber(n) }),
-        RowKind::ArrayLength => RowForm::Known(Expression::ArrayLength),
-        RowKind::RayQueryVertexPositions => RowForm::Known(Expression::RayQueryVertexPositions),
-        RowKind::RayQueryProceedResult => RowForm::Known(Expression::RayQueryProceedResult),
-        RowKind::RayQueryGetIntersection => RowForm::Known(Expression::RayQueryGetIntersection),
-        RowKind::SubgroupBallotResult => RowForm::Known(Expression::SubgroupBallotResult),
-        RowKind::SubgroupOperationResult => RowForm::Known(Expression::SubgroupOperationResult {
+        RowKind::CallResult => Expression::CallResult(ItemNumber(n as u32)),
+        RowKind::AtomicResult => Expression::AtomicResult { ty: TypeNumber(n) },
+        RowKind::WorkGroupUniformLoadResult => Expression::WorkGroupUniformLoadResult {
             ty: TypeNumber(n),
-        }),
+        },
+        RowKind::ArrayLength => Expression::ArrayLength,
+        RowKind::RayQueryVertexPositions => Expression::RayQueryVertexPositions,
+        RowKind::RayQueryProceedResult => Expression::RayQueryProceedResult,
+        RowKind::RayQueryGetIntersection => Expression::RayQueryGetIntersection,
+        RowKind::SubgroupBallotResult => Expression::SubgroupBallotResult,
+        RowKind::SubgroupOperationResult => Expression::SubgroupOperationResult {
+            ty: TypeNumber(n),
+        },
         RowKind::CooperativeLoad => {
             let columns = CooperativeSize::from_number(f.b6);
             let rows = CooperativeSize::from_number(f.b7);
             let role = CooperativeRole::from_number(f.b8);
-            RowForm::Known(Expression::CooperativeLoad {
+            Expression::CooperativeLoad {
                 columns,
                 rows,
                 role,
                 pointer: RowNumber(n),
-            })
+            }
         }
-        RowKind::CooperativeMultiplyAdd => RowForm::Known(Expression::CooperativeMultiplyAdd {
-            c: RowNumber(n),
-        }),
+        RowKind::CooperativeMultiplyAdd => Expression::CooperativeMultiplyAdd { c: RowNumber(n) },
     }
 }
