@@ -22,6 +22,8 @@ use ir::TypeNumber;
 use ir::VectorSize;
 ghost use mathlib.Core.Path.{_≡_};
 ghost use Prim.Native.Nat.{_+_, _*_};
+ghost use Rattle.ir.specs.declared.TypeKind.the-variants.{Unknown};
+ghost use Rattle.ir.specs.declared.TypeForm.the-variants.{Known};
 ghost use Rattle.frames.specs.Bytes.{half, word};
 ghost use Rattle.frames.specs.Fields.{read, scalar, class, optionSizeOf, arraySizeOf};
 ghost use Rattle.frames.specs.Forms.{typeAs, typeOf, memberOf, componentOf};
@@ -130,7 +132,11 @@ impl Frame {
     pub fn type_form(self) -> TypeForm
         ensures { λ r. ⌜ r ≡ typeOf self ⌝ }
     {
-        type_as(TypeKind::from_number(self.b1), self)
+        let kind = TypeKind::from_number(self.b1);
+        match kind {
+            TypeKind::Unknown => TypeForm::Unknown,
+            _ => TypeForm::Known(inner(kind, self)),
+        }
     }
 
     // A member, family 2.
@@ -154,109 +160,111 @@ impl Frame {
     }
 }
 
-fn type_as(kind: TypeKind, f: Frame) -> TypeForm
-    ensures { λ r. ⌜ r ≡ typeAs kind f ⌝ }
+// A type of a known kind.
+fn inner(kind: TypeKind, f: Frame) -> TypeInner
+    requires { ⌜ (kind ≡ Unknown → ⊥) ⌝ }
+    ensures { λ r. ⌜ Known r ≡ typeAs kind f ⌝ }
 {
     match kind {
-        TypeKind::Unknown => TypeForm::Unknown,
+        TypeKind::Unknown => TypeInner::Sampler { comparison: false },
         TypeKind::Scalar => {
             let scalar = f.scalar();
-            TypeForm::Known(TypeInner::Scalar(scalar))
+            TypeInner::Scalar(scalar)
         }
         TypeKind::Vector => {
             let size = VectorSize::from_number(f.b2);
             let scalar = f.scalar();
-            TypeForm::Known(TypeInner::Vector { size, scalar })
+            TypeInner::Vector { size, scalar }
         }
         TypeKind::Matrix => {
             let columns = VectorSize::from_number(f.b2);
             let rows = VectorSize::from_number(f.b3);
             let scalar = f.scalar();
-            TypeForm::Known(TypeInner::Matrix {
+            TypeInner::Matrix {
                 columns,
                 rows,
                 scalar,
-            })
+            }
         }
         TypeKind::CooperativeMatrix => {
             let columns = CooperativeSize::from_number(f.b2);
             let rows = CooperativeSize::from_number(f.b3);
             let scalar = f.scalar();
             let role = CooperativeRole::from_number(f.b6);
-            TypeForm::Known(TypeInner::CooperativeMatrix {
+            TypeInner::CooperativeMatrix {
                 columns,
                 rows,
                 scalar,
                 role,
-            })
+            }
         }
         TypeKind::Atomic => {
             let scalar = f.scalar();
-            TypeForm::Known(TypeInner::Atomic(scalar))
+            TypeInner::Atomic(scalar)
         }
         TypeKind::Pointer => {
             let n = f.named();
             let space = AddressSpace::from_number(f.b6, f.b7);
-            TypeForm::Known(TypeInner::Pointer {
+            TypeInner::Pointer {
                 base: TypeNumber(n),
                 space,
-            })
+            }
         }
         TypeKind::ValuePointer => {
             let size = option_size(f.b2);
             let scalar = f.scalar();
             let space = AddressSpace::from_number(f.b6, f.b7);
-            TypeForm::Known(TypeInner::ValuePointer {
+            TypeInner::ValuePointer {
                 size,
                 scalar,
                 space,
-            })
+            }
         }
         TypeKind::Array => {
             let n = f.named();
             let size = array_size(f.b4, f.third());
             let stride = f.last();
-            TypeForm::Known(TypeInner::Array {
+            TypeInner::Array {
                 base: TypeNumber(n),
                 size,
                 stride,
-            })
+            }
         }
         TypeKind::Struct => {
             let n = f.named();
             let count = f.second();
             let span = f.last();
-            TypeForm::Known(TypeInner::Struct {
+            TypeInner::Struct {
                 first: MemberNumber(n),
                 count,
                 span,
-            })
+            }
         }
         TypeKind::Image => {
             let dim = ImageDimension::from_number(f.b2);
             let class = f.image_class();
-            TypeForm::Known(TypeInner::Image {
+            TypeInner::Image {
                 dim,
                 arrayed: f.b3 == 1,
                 class,
-            })
+            }
         }
-        TypeKind::Sampler => TypeForm::Known(TypeInner::Sampler {
+        TypeKind::Sampler => TypeInner::Sampler {
             comparison: f.b2 == 1,
-        }),
-        TypeKind::AccelerationStructure => TypeForm::Known(TypeInner::AccelerationStructure {
+        },
+        TypeKind::AccelerationStructure => TypeInner::AccelerationStructure {
             vertex_return: f.b2 == 1,
-        }),
-        TypeKind::RayQuery => TypeForm::Known(TypeInner::RayQuery {
+        },
+        TypeKind::RayQuery => TypeInner::RayQuery {
             vertex_return: f.b2 == 1,
-        }),
+        },
         TypeKind::BindingArray => {
             let n = f.named();
             let size = array_size(f.b4, f.third());
-            TypeForm::Known(TypeInner::BindingArray {
+            TypeInner::BindingArray {
                 base: TypeNumber(n),
                 size,
-            })
+            }
         }
     }
 }
