@@ -127,7 +127,6 @@ fn row_names(s: Starts, n: RowNumber, e: Expression) -> bool
     ensures { λ r. ⌜ r ≡ rowNames s n e ⌝ }
 {
     match e {
-        Expression::Literal(_) => true,
         Expression::Constant(i) => is_item(s.constants, s.overrides, i),
         Expression::Override(i) => is_item(s.overrides, s.globals, i),
         Expression::ZeroValue(t) => is_type(s, t),
@@ -136,7 +135,6 @@ fn row_names(s: Starts, n: RowNumber, e: Expression) -> bool
         Expression::AccessIndex { base, index: _ } => is_earlier(n, base),
         Expression::Splat { size: _, value } => is_earlier(n, value),
         Expression::Swizzle { size: _, vector } => is_earlier(n, vector),
-        Expression::FunctionArgument(_) => true,
         Expression::GlobalVariable(i) => is_item(s.globals, s.arguments, i),
         Expression::LocalVariable(i) => is_item(s.locals, s.functions, i),
         Expression::Load { pointer } => is_earlier(n, pointer),
@@ -148,7 +146,6 @@ fn row_names(s: Starts, n: RowNumber, e: Expression) -> bool
         Expression::Select { accept } => is_earlier(n, accept),
         Expression::Derivative { expr } => is_earlier(n, expr),
         Expression::Relational { fun, argument } => relational_names(n, fun, argument),
-        Expression::Math => true,
         Expression::As {
             expr,
             kind: _,
@@ -157,11 +154,6 @@ fn row_names(s: Starts, n: RowNumber, e: Expression) -> bool
         Expression::CallResult(i) => is_item(s.functions, s.intersections, i),
         Expression::AtomicResult { ty } => is_type(s, ty),
         Expression::WorkGroupUniformLoadResult { ty } => is_type(s, ty),
-        Expression::ArrayLength => true,
-        Expression::RayQueryVertexPositions => true,
-        Expression::RayQueryProceedResult => true,
-        Expression::RayQueryGetIntersection => true,
-        Expression::SubgroupBallotResult => true,
         Expression::SubgroupOperationResult { ty } => is_type(s, ty),
         Expression::CooperativeLoad {
             columns: _,
@@ -170,6 +162,7 @@ fn row_names(s: Starts, n: RowNumber, e: Expression) -> bool
             pointer,
         } => is_earlier(n, pointer),
         Expression::CooperativeMultiplyAdd { c } => is_earlier(n, c),
+        _ => true,
     }
 }
 
