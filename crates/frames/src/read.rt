@@ -160,7 +160,7 @@ impl Frame {
     }
 }
 
-// A type of a known kind.
+// A type of a known kind; the arm of the unknown one is never taken.
 fn inner(kind: TypeKind, f: Frame) -> TypeInner
     requires { ⌜ (kind ≡ Unknown → ⊥) ⌝ }
     ensures { λ r. ⌜ Known r ≡ typeAs kind f ⌝ }

@@ -90,7 +90,7 @@ fn item_as(kind: ItemKind, f: Frame) -> Item
     }
 }
 
-// A row of a known kind.
+// A row of a known kind; the arm of the unknown one is never taken.
 fn expression(kind: RowKind, f: Frame) -> Expression
     requires { ⌜ (kind ≡ Unknown → ⊥) ⌝ }
     ensures { λ r. ⌜ Known r ≡ rowAs kind f ⌝ }

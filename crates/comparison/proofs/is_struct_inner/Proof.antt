@@ -1,4 +1,4 @@
--- `is_struct_inner`: a struct, or another kind. Assumes nothing.
+-- `is_struct_inner`: a struct, or another kind, case by case. Assumes nothing.
 use Prim.Native.Nat.{ℕ}
 use mathlib.Core.Path.{_≡_, refl}
 use mathlib.Core.Bool.{false}

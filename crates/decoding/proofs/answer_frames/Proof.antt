@@ -1,4 +1,4 @@
--- `text::answer_frames`. The invariant: the sum of the lines passed, at most 2 for each. Assumes nothing.
+-- `decoding::answer_frames`. The invariant: the sum of the lines passed, at most 2 for each. Assumes nothing.
 use mathlib.Core.Path.{_≡_}
 use Prim.Native.Nat.{_*_, _-_, _≤_}
 use native.Mathlib.Nat.{le-antisymm}

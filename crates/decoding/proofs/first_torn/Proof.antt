@@ -1,4 +1,4 @@
--- `text::first_torn`. The invariant: no line passed is torn. Assumes nothing.
+-- `decoding::first_torn`. The invariant: no line passed is torn. Assumes nothing.
 use mathlib.Core.Path.{_≡_}
 use Prim.Native.Nat.{_-_, _≤_}
 use borrow.Author.Needs.{needs}

@@ -1,4 +1,4 @@
--- `text::frame_byte`: the two characters are digits, since the line is whole. Assumes nothing.
+-- `decoding::frame_byte`: the two characters are digits, since the line is whole. Assumes nothing.
 use Prim.Native.Nat.{_+_, _*_}
 use borrow.Author.Needs.{needs}
 use Rattle.text.proofs.Line.{line-digit}

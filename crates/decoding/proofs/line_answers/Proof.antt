@@ -1,4 +1,4 @@
--- `text::line_answers`: the tests pick the case of the definition. Assumes nothing.
+-- `decoding::line_answers`: the tests pick the case of the definition. Assumes nothing.
 use borrow.Author.Needs.{needs}
 use borrow.Author.Tests.{eq-eqb, ne-eqb}
 use Rattle.text.specs.Reading.{answerFrames}

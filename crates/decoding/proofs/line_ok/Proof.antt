@@ -1,4 +1,4 @@
--- `text::line_ok`. The invariant: whether every character passed is a digit. Assumes nothing.
+-- `decoding::line_ok`. The invariant: whether every character passed is a digit. Assumes nothing.
 use mathlib.Core.Path.{_≡_, refl}
 use Prim.Native.Nat.{ℕ, _-_, _≤_}
 use native.Mathlib.Nat.{le-antisymm}

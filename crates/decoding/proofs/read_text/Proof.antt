@@ -1,4 +1,4 @@
--- `text::read_text`: the checks in the order of the definition, and the frames where they pass. A line's number fits, since a
+-- `decoding::read_text`: the checks in the order of the definition, and the frames where they pass. A line's number fits, since a
 -- text that is not too long has at most 1,024 lines. Assumes nothing.
 use mathlib.Core.Path.{refl, sym, _∙_}
 use native.Mathlib.Omega.{arith}

@@ -1,4 +1,4 @@
--- `text::too_short`: the tests in the order of the definition. Assumes nothing.
+-- `decoding::too_short`: the tests in the order of the definition. Assumes nothing.
 use native.Mathlib.Omega.{arith}
 use borrow.Author.Needs.{needs}
 use borrow.Author.Tests.{lt-ltb, le-ltb}

@@ -1,4 +1,4 @@
--- `text::value`: the sum is the digit's value in each of the two ranges of digits. Assumes nothing.
+-- `decoding::value`: the sum is the digit's value in each of the two ranges of digits. Assumes nothing.
 use mathlib.Core.Logic.{⊎-elim}
 use native.Mathlib.Omega.{arith}
 use borrow.Author.Needs.{needs}

@@ -1,4 +1,4 @@
--- `text::digit`: the test picks the case of the definition. Assumes nothing.
+-- `encoding::digit`: the test picks the case of the definition. Assumes nothing.
 use borrow.Author.Needs.{needs}
 use borrow.Author.Tests.{lt-ltb, le-ltb}
 use Rattle.text.specs.Hex.{digitOf}

@@ -1,4 +1,4 @@
--- `text::encode`. The invariant: the lines passed, and the digits of the bytes passed in this line, are written, and the
+-- `encoding::encode`. The invariant: the lines passed, and the digits of the bytes passed in this line, are written, and the
 -- other characters are as they were. Assumes nothing.
 use mathlib.Core.Path.{_≡_, refl, _∙_}
 use mathlib.Core.List.{_++_}

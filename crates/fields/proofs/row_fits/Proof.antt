@@ -1,4 +1,4 @@
--- `row_fits`: in each arm the tests of the kind's layout, in its order. Assumes nothing.
+-- `row_fits`: in each arm the tests of the kind's layout, in its order; the other kinds case by case. Assumes nothing.
 use Prim.Native.Nat.{ℕ}
 use mathlib.Core.Path.{_≡_, refl, _∙_}
 use mathlib.Core.List.{List, [], _∷_}
