@@ -1,13 +1,11 @@
 -- `index_into`: each arm knows its case, and what its calls ensure; the other kinds case by case. Assumes nothing.
 use Prim.Native.Nat.{ℕ}
-use mathlib.Core.Path.{_≡_, refl, _∙_}
+use mathlib.Core.Path.{_≡_, _∙_}
 use mathlib.Core.Bool.{false}
+use borrow.Author.Needs.{needs}
 use mathlib.Core.List.{List, [], _∷_}
-use types.Run.{OneOf, miss}
-use denote.Enum.Declared.{tagOf}
-use Rattle.ir.specs.declared.TypeInner.{TypeInner}
 use Rattle.ir.specs.declared.TypeInner.the-variants as Ti
-use Rattle.ir.proofs.TypeInner.{the-type}
+use Rattle.ir.proofs.Others.{Others, kindsBut, of-each}
 use Rattle.rule.specs.Answers.{told}
 use Rattle.rule.specs.Things.{memberTypes}
 use Rattle.row_rules.specs.Access.{indexInto}
@@ -17,26 +15,10 @@ use Rattle.row_access_index.proofs.index_into.Statement.{statement}
 use Rattle.row_access_index.proofs.index_into.Tie as tie
 
 -- the other kinds
-abbrev others : List ℕ
-others = 0 ∷ 3 ∷ 4 ∷ 5 ∷ 9 ∷ 10 ∷ 11 ∷ 12 ∷ []
-
-rest : (a : List ℕ) (b : Starts) (c : RowNumber) (d : ℕ) (t : TypeInner) → OneOf others (tagOf the-type t) → told (indexInto c d (memberTypes a b (Ti.RayQuery false)) (Ti.RayQuery false)) ≡ told (indexInto c d (memberTypes a b t) t)
-rest a b c d (Ti.Scalar u) h = refl
-rest a b c d (Ti.Vector u v) h = absurd (miss others 1 tt h)
-rest a b c d (Ti.Matrix u v w) h = absurd (miss others 2 tt h)
-rest a b c d (Ti.CooperativeMatrix u v w y) h = refl
-rest a b c d (Ti.Atomic u) h = refl
-rest a b c d (Ti.Pointer u v) h = refl
-rest a b c d (Ti.ValuePointer u v w) h = absurd (miss others 6 tt h)
-rest a b c d (Ti.Array u v w) h = absurd (miss others 7 tt h)
-rest a b c d (Ti.Struct u v w) h = absurd (miss others 8 tt h)
-rest a b c d (Ti.Image u v w) h = refl
-rest a b c d (Ti.Sampler u) h = refl
-rest a b c d (Ti.AccelerationStructure u) h = refl
-rest a b c d (Ti.RayQuery u) h = refl
-rest a b c d (Ti.BindingArray u v) h = absurd (miss others 13 tt h)
+rest : (a : List ℕ) (b : Starts) (c : RowNumber) (d : ℕ) → Others (kindsBut (1 ∷ 2 ∷ 6 ∷ 7 ∷ 8 ∷ 13 ∷ [])) (λ t. told (indexInto c d (memberTypes a b (Ti.RayQuery false)) (Ti.RayQuery false)) ≡ told (indexInto c d (memberTypes a b t) t))
+rest a b c d = of-each (search needs)
 
 pub index-into-spec : {M : Type 1} → statement M
 index-into-spec =
     tie.close
-    (tie.spec (λ c. c .match .keys1) (λ c κs. tt) (λ c. c .match .keys2) (λ c κs. tt) (λ c. c .match .keys3) (λ c κs. tt) (λ c. c .match .keys4) (λ c κs. tt) (λ c. c .match .keys5) (λ c κs. tt) (λ c. c .match .keys6) (λ c κs. tt) (λ c κs. tt) (λ c. rw (c .before .before .t .given .1, c .component .ensures)) (λ c. rw (c .before .before .t2 .given .1, c .column .ensures)) (λ c. rw (c .before .before .t3 .given .1, c .index-component .ensures)) (λ c. rw (c .before .before .t4 .given .1, c .numbered .ensures)) (λ c. rw (c .before .before .t5 .given .1, c .member .ensures)) (λ c. rw (c .before .before .t6 .given .1, c .numbered2 .ensures)) (λ c. c .invalid-access .ensures ∙ rest (c .before .before .before .args .frames .now) (c .before .before .before .args .s) (c .before .before .before .args .base) (c .before .before .before .args .index) (c .before .before .before .args .t) (c .before .match .keys7)))
+    (tie.spec (λ c. c .match .keys1) (λ c κs. tt) (λ c. c .match .keys2) (λ c κs. tt) (λ c. c .match .keys3) (λ c κs. tt) (λ c. c .match .keys4) (λ c κs. tt) (λ c. c .match .keys5) (λ c κs. tt) (λ c. c .match .keys6) (λ c κs. tt) (λ c κs. tt) (λ c. rw (c .before .before .t .given .1, c .component .ensures)) (λ c. rw (c .before .before .t2 .given .1, c .column .ensures)) (λ c. rw (c .before .before .t3 .given .1, c .index-component .ensures)) (λ c. rw (c .before .before .t4 .given .1, c .numbered .ensures)) (λ c. rw (c .before .before .t5 .given .1, c .member .ensures)) (λ c. rw (c .before .before .t6 .given .1, c .numbered2 .ensures)) (λ c. c .invalid-access .ensures ∙ rest (c .before .before .before .args .frames .now) (c .before .before .before .args .s) (c .before .before .before .args .base) (c .before .before .before .args .index) .at (c .before .before .before .args .t) (c .before .match .keys7)))

@@ -1,14 +1,10 @@
 -- `by_form`: each arm knows its case, and what its calls ensure; the other kinds case by case. Assumes nothing.
 use Prim.Native.Nat.{ℕ}
-use mathlib.Core.Path.{_≡_, refl, _∙_}
+use mathlib.Core.Path.{_≡_, _∙_}
 use mathlib.Core.List.{List, [], _∷_}
-use types.Run.{OneOf, miss}
-use denote.Enum.Declared.{tagOf}
 use borrow.Author.Needs.{needs}
 use Rattle.ir.specs.declared.ComponentNumber.{ComponentNumber}
-use Rattle.ir.specs.declared.TypeInner.{TypeInner}
-use Rattle.ir.specs.declared.TypeInner.the-variants as Ti
-use Rattle.ir.proofs.TypeInner.{the-type}
+use Rattle.ir.proofs.Others.{Others, kindsBut, of-each}
 use Rattle.answers.specs.declared.Verdict.the-variants as Vd
 use Rattle.archive.specs.declared.Starts.{Starts}
 use Rattle.rule.specs.Things.{memberTypes}
@@ -19,26 +15,9 @@ use Rattle.verdicts.proofs.by_form.Statement.{statement}
 use Rattle.verdicts.proofs.by_form.Tie as tie
 
 -- every other kind is refused
-abbrev others : List ℕ
-others = 0 ∷ 3 ∷ 4 ∷ 5 ∷ 6 ∷ 9 ∷ 10 ∷ 11 ∷ 12 ∷ 13 ∷ []
-
-rest : (fr : List ℕ) (s : Starts) (answers places : List ℕ) (first : ComponentNumber) (count : ℕ) (t : TypeInner) → OneOf others (tagOf the-type t)
-    → toJudged Vd.ComposedType ≡ judgedBy fr s answers places (byForm (partsIn fr s first count) (memberTypes fr s t) t)
+rest : (fr : List ℕ) (s : Starts) (answers places : List ℕ) (first : ComponentNumber) (count : ℕ) → Others (kindsBut (1 ∷ 2 ∷ 7 ∷ 8 ∷ [])) (λ t. toJudged Vd.ComposedType ≡ judgedBy fr s answers places (byForm (partsIn fr s first count) (memberTypes fr s t) t))
 unfolding judgedBy
-rest fr s answers places first count (Ti.Scalar u) h = refl
-rest fr s answers places first count (Ti.Vector u v) h = absurd (miss others 1 tt h)
-rest fr s answers places first count (Ti.Matrix u v w) h = absurd (miss others 2 tt h)
-rest fr s answers places first count (Ti.CooperativeMatrix u v w y) h = refl
-rest fr s answers places first count (Ti.Atomic u) h = refl
-rest fr s answers places first count (Ti.Pointer u v) h = refl
-rest fr s answers places first count (Ti.ValuePointer u v w) h = refl
-rest fr s answers places first count (Ti.Array u v w) h = absurd (miss others 7 tt h)
-rest fr s answers places first count (Ti.Struct u v w) h = absurd (miss others 8 tt h)
-rest fr s answers places first count (Ti.Image u v w) h = refl
-rest fr s answers places first count (Ti.Sampler u) h = refl
-rest fr s answers places first count (Ti.AccelerationStructure u) h = refl
-rest fr s answers places first count (Ti.RayQuery u) h = refl
-rest fr s answers places first count (Ti.BindingArray u v) h = refl
+rest fr s answers places first count = of-each (search needs)
 
 pub by-form-spec : {M : Type 1} → statement M
 by-form-spec =
@@ -59,4 +38,4 @@ by-form-spec =
     (λ c. rw (c .before .before .before .t2 .given .1) (rw (c .before .number .ensures) at (c .counted-parts .ensures)))
     (λ c. rw (c .before .before .t3 .given .1) (c .array-parts .ensures))
     (λ c. let g = c .before .before .before .before .before .before .before .args in rw (c .before .before .t4 .given .1) (c .counted-parts2 .ensures ∙ struct-counted (g .frames .now) (g .s) (g .answers .now) (g .places .now) (g .first) (g .count) _ _))
-    (λ c. let g = c .before .before .before .before .args in rest (g .frames .now) (g .s) (g .answers .now) (g .places .now) (g .first) (g .count) (g .t) (c .match .keys5)))
+    (λ c. let g = c .before .before .before .before .args in rest (g .frames .now) (g .s) (g .answers .now) (g .places .now) (g .first) (g .count) .at (g .t) (c .match .keys5)))
