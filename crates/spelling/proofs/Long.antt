@@ -14,9 +14,9 @@ use Rattle.words.specs.Words as W
 use Rattle.words.specs.Words.{wordBytes}
 use Rattle.words.specs.Lines.{num, pieceBytes, spelled}
 use Rattle.words.proofs.Long.{number-long, none-long, piece-long, longest, no-longer}
-use Rattle.spelling.specs.declared.types.ScalarWords.{ScalarWords}
-use Rattle.spelling.specs.declared.types.Short.{Short}
-use Rattle.spelling.specs.Types.{picked, names, named, scalarWords, around, byNumber, vector, brief, within, inside, pointer, array, cooperative, className, arrayedName, image, unknownKind, whole}
+use Rattle.type_spelling.specs.declared.ScalarWords.{ScalarWords}
+use Rattle.type_spelling.specs.declared.Short.{Short}
+use Rattle.type_spelling.specs.Types.{picked, names, named, scalarWords, around, byNumber, vector, brief, within, inside, pointer, array, cooperative, className, arrayedName, image, unknownKind, whole}
 use Rattle.spelling.specs.Answers.{manner, refusal, judged, said, shown, ending, lineOf, faultWords, faultOf}
 use Rattle.spelling.proofs.Runs.{three-spelled}
 

@@ -7,7 +7,7 @@ use lib.ListN.{length, length-append}
 use Rattle.words.specs.Words.{table, wordBytes}
 use Rattle.words.specs.Lines.{pieceBytes, spelled, written}
 use Rattle.words.proofs.Writing.{join, spelled-more}
-use Rattle.spelling.specs.Types.{filled}
+use Rattle.type_spelling.specs.Types.{filled}
 
 no-bytes : pieceBytes 0 ≡ []
 unfolding pieceBytes wordBytes table

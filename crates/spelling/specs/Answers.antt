@@ -9,7 +9,7 @@ use Rattle.frames.specs.declared.Frame.{Frame}
 use Rattle.frames.specs.Bytes.{half, word, frameAt}
 use Rattle.words.specs.Words as W
 use Rattle.words.specs.Lines.{num, spelled, written}
-use Rattle.spelling.specs.Types.{picked, whole}
+use Rattle.type_spelling.specs.Types.{picked, whole}
 
 -- how a part was asked for: `indexed`, byte 8
 unfoldable pub manner : ℕ → ℕ

@@ -1,8 +1,8 @@
 // What the lines of answers, verdicts and faults say (specs/Answers.antt), and their bytes.
-use super::types::pick;
-use super::types::whole;
 use frames::Frame;
 use frames::frame_at;
+use type_spelling::pick;
+use type_spelling::whole;
 use words::num;
 use words::put_pieces;
 use words::table;
@@ -11,7 +11,7 @@ ghost use mathlib.Core.List.{_++_};
 ghost use Prim.Native.Nat.{_+_, _≤_};
 ghost use lib.ListN.{length, take, drop};
 ghost use Rattle.frames.specs.Bytes.{word};
-ghost use Rattle.spelling.specs.Types.{filled};
+ghost use Rattle.type_spelling.specs.Types.{filled};
 ghost use Rattle.spelling.specs.Answers.{manner, refusal, judged, said, shown, ending, lineOf, faultWords, faultOf, madeIn, madeLong};
 
 // Bytes 4 to 7: an index, what was expected, or a component.

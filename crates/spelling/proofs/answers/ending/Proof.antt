@@ -2,8 +2,8 @@
 use mathlib.Core.Path.{_≡_, refl}
 use borrow.Author.Needs.{needs}
 use borrow.Author.Tests.{eq-eqb, ne-eqb}
+use Rattle.type_spelling.specs.Types.{filled}
 use Rattle.spelling.specs.Answers.{ending}
-use Rattle.spelling.specs.Types.{filled}
 use Rattle.spelling.proofs.answers.ending.Statement.{statement}
 use Rattle.spelling.proofs.answers.ending.Tie as tie
 

@@ -2,8 +2,8 @@
 use mathlib.Core.Path.{_≡_, refl, sym, _∙_}
 use borrow.Author.Needs.{needs}
 use borrow.Author.Tests.{eq-eqb, le-ltb, lt-ltb, ne-eqb}
+use Rattle.type_spelling.specs.Types.{filled}
 use Rattle.spelling.specs.Answers.{judged}
-use Rattle.spelling.specs.Types.{filled}
 use Rattle.spelling.proofs.answers.judged.Statement.{statement}
 use Rattle.spelling.proofs.answers.judged.Tie as tie
 

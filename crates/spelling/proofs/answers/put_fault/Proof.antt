@@ -9,7 +9,7 @@ use borrow.Author.Needs.{needs}
 use borrow.Author.Tests.{lt-ltb, le-ltb}
 use Rattle.words.specs.Lines.{spelled, written}
 use Rattle.words.proofs.Writing.{pieces-fit}
-use Rattle.spelling.specs.Types.{filled}
+use Rattle.type_spelling.specs.Types.{filled}
 use Rattle.spelling.specs.Answers.{faultWords, faultOf, madeIn, madeLong}
 use Rattle.spelling.proofs.Runs.{spelled-filled}
 use Rattle.spelling.proofs.answers.put_fault.Statement.{statement}

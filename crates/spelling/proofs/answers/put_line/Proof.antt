@@ -9,7 +9,7 @@ use borrow.Author.Tests.{lt-ltb, le-ltb}
 use Rattle.words.specs.Words as W
 use Rattle.words.specs.Lines.{num, spelled, written}
 use Rattle.words.proofs.Writing.{pieces-fit}
-use Rattle.spelling.specs.Types.{filled}
+use Rattle.type_spelling.specs.Types.{filled}
 use Rattle.spelling.specs.Answers.{said, shown, ending, lineOf, madeIn, madeLong}
 use Rattle.spelling.proofs.Runs.{spelled-filled, three, three-spelled}
 use Rattle.spelling.proofs.answers.put_line.Statement.{statement}
