@@ -11,23 +11,15 @@ use operand_frames::form_frame;
 use operand_frames::is_plain;
 use operand_frames::type_frame;
 ghost use mathlib.Core.Path.{_≡_};
-ghost use Rattle.row_rules.specs.Operators.{equalScalars};
 ghost use Rattle.compose.specs.Judged.{memberType};
 ghost use Rattle.compose.specs.Shown.{sameScalar, columnShown, sameForm, samePointer, valueShown, typeShown, partShown};
-
-pub fn equal_scalars(k: Scalar, j: Scalar) -> bool
-    ensures { λ r. ⌜ r ≡ equalScalars k j ⌝ }
-{
-    let a = k.kind;
-    let b = j.kind;
-    (a.number() == b.number()) & (k.width == j.width)
-}
 
 // Whether the scalar in bytes 4 and 5 is this one.
 pub fn same_scalar(f: Frame, scalar: Scalar) -> bool
     ensures { λ r. ⌜ r ≡ sameScalar f scalar ⌝ }
 {
-    equal_scalars(f.scalar(), scalar)
+    let own = f.scalar();
+    own.equals(scalar)
 }
 
 // Whether a frame is that of a vector of this size and scalar.

@@ -35,7 +35,7 @@ use Rattle.rule.specs.Rule.{Rule, come, run}
 use Rattle.type_methods.specs.Canonical.{equalTypes}
 use Rattle.type_methods.specs.Comparison.{found}
 use Rattle.type_methods.proofs.Laws.{onBool, compare-run}
-use Rattle.row_rules.specs.Operators.{equalScalars}
+use Rattle.ir.specs.Scalars.{equalScalars}
 use Rattle.row_rules.specs.Answered.{toResult, membersIn}
 use Rattle.operands.specs.Past.{answerIn, pastIn}
 use Rattle.compose.specs.declared.Part.{Part}

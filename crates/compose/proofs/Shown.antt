@@ -34,8 +34,8 @@ use Rattle.type_methods.specs.Canonical.{valuePointer, orOwn, formFound, throug
 use Rattle.type_methods.specs.Comparison.{byAnswers, likeness}
 use Rattle.type_methods.proofs.Equality.{equal-types, identical-self}
 use Rattle.type_methods.proofs.Seen.{never}
-use Rattle.row_rules.specs.Operators.{equalScalars}
-use Rattle.operand_frames.specs.Shown.{typeFrame, formFrame, scalarIn, isPlain}
+use Rattle.ir.specs.Scalars.{equalScalars}
+use Rattle.operand_frames.specs.Shown.{typeFrameIn, formFrame, scalarShown, isPlain}
 use Rattle.operand_frames.proofs.Looked.{type-frame, scalar-form, vector-form, matrix-form, pointer-form, array-form, struct-form, plain-form, answered, in-range}
 use Rattle.compose.specs.declared.Part.{Part}
 use Rattle.compose.specs.declared.Part.the-variants as Pa
@@ -69,13 +69,13 @@ module _ (fr : List ℕ) (s : Starts) where
 
   pub scalar-added : (k : Scalar) (i : ℕ) (f : Frame) → byte (formFrame fr s f) 1 ≡ 1
       → answerAdded i (λ r. formAdded i k (formIn fr s (resolved r))) (answerOf f) ≡ countAdded i (cond (sameScalar (formFrame fr s f) k) (some 1) none)
-  scalar-added k i f e = added-shown k i f (Ti.Scalar (scalarIn (formFrame fr s f))) refl (scalar-form (formFrame fr s f) e)
+  scalar-added k i f e = added-shown k i f (Ti.Scalar (scalarShown (formFrame fr s f))) refl (scalar-form (formFrame fr s f) e)
 
   pub vector-added : (k : Scalar) (i : ℕ) (f : Frame) → byte (formFrame fr s f) 1 ≡ 2
       → answerAdded i (λ r. formAdded i k (formIn fr s (resolved r))) (answerOf f)
       ≡ countAdded i (cond (sameScalar (formFrame fr s f) k) (some (vectorSizeNumber (vectorSizeOf (byte (formFrame fr s f) 2)))) none)
   vector-added k i f e =
-      added-shown k i f (Ti.Vector (vectorSizeOf (byte (formFrame fr s f) 2)) (scalarIn (formFrame fr s f))) refl (vector-form (formFrame fr s f) e)
+      added-shown k i f (Ti.Vector (vectorSizeOf (byte (formFrame fr s f) 2)) (scalarShown (formFrame fr s f))) refl (vector-form (formFrame fr s f) e)
 
   -- A COLUMN
 
@@ -83,8 +83,8 @@ module _ (fr : List ℕ) (s : Starts) where
   column-form g rows k h =
       let rest = and-second (eqb (byte g 1) 2) _ h in
       let z = size-same (vectorSizeOf (byte g 2)) rows (eqb-true _ _ (and-first _ (sameScalar g k) rest)) in
-      let x = scalar-same (scalarIn g) k (and-second (eqb (vectorSizeNumber (vectorSizeOf (byte g 2))) (vectorSizeNumber rows)) _ rest) in
-      vector-form g (eqb-true _ _ (and-first _ _ h)) ∙ ap (λ (y : VectorSize). Tf.Known (Ti.Vector y (scalarIn g))) z
+      let x = scalar-same (scalarShown g) k (and-second (eqb (vectorSizeNumber (vectorSizeOf (byte g 2))) (vectorSizeNumber rows)) _ rest) in
+      vector-form g (eqb-true _ _ (and-first _ _ h)) ∙ ap (λ (y : VectorSize). Tf.Known (Ti.Vector y (scalarShown g))) z
       ∙ ap (λ (j : Scalar). Tf.Known (Ti.Vector rows j)) x
 
   column-shown : (rows : VectorSize) (k : Scalar) (i : ℕ) (f : Frame) → columnShown (formFrame fr s f) rows k ≡ true
@@ -144,30 +144,30 @@ module _ (fr : List ℕ) (s : Starts) where
       e5 : byte f 5 ≡ byte g 5
       e5 = eqb-true _ _ (and-second (eqb (byte f 4) (byte g 4)) _ h4)
 
-      scalars : scalarIn g ≡ scalarIn f
+      scalars : scalarShown g ≡ scalarShown f
       scalars = sym (ap (λ (b : ℕ). made (scalarKindOf b) (byte f 5)) e4 ∙ ap (λ (b : ℕ). made (scalarKindOf (byte g 4)) b) e5)
 
       go : (x y z : Bool) → eqb (byte f 1) 1 ≡ x → eqb (byte f 1) 2 ≡ y → eqb (byte f 1) 3 ≡ z → (x || (y || z)) ≡ true → Valued n f
       go true y z p q r o =
-          let t = Ti.Scalar (scalarIn f) in
+          let t = Ti.Scalar (scalarShown f) in
           let k : byte f 1 ≡ 1 = eqb-true _ _ p in
           let e : typeIn fr s n ≡ Tf.Known t = e0 ∙ scalar-form g (sym e1 ∙ k) ∙ ap (λ (j : Scalar). Tf.Known (Ti.Scalar j)) scalars in
           record { inner = t; form = scalar-form f k; alike = like-value n t t e refl refl refl }
       go false true z p q r o =
-          let t = Ti.Vector (vectorSizeOf (byte f 2)) (scalarIn f) in
+          let t = Ti.Vector (vectorSizeOf (byte f 2)) (scalarShown f) in
           let k : byte f 1 ≡ 2 = eqb-true _ _ q in
           let e : typeIn fr s n ≡ Tf.Known t =
           e0 ∙ vector-form g (sym e1 ∙ k) ∙ ap (λ (j : Scalar). Tf.Known (Ti.Vector (vectorSizeOf (byte g 2)) j)) scalars
-          ∙ ap (λ (b : ℕ). Tf.Known (Ti.Vector (vectorSizeOf b) (scalarIn f))) (sym e2) in
+          ∙ ap (λ (b : ℕ). Tf.Known (Ti.Vector (vectorSizeOf b) (scalarShown f))) (sym e2) in
           record { inner = t; form = vector-form f k; alike = like-value n t t e refl refl refl }
       go false false true p q r o =
-          let t = Ti.Matrix (vectorSizeOf (byte f 2)) (vectorSizeOf (byte f 3)) (scalarIn f) in
+          let t = Ti.Matrix (vectorSizeOf (byte f 2)) (vectorSizeOf (byte f 3)) (scalarShown f) in
           let k : byte f 1 ≡ 3 = eqb-true _ _ r in
           let e : typeIn fr s n ≡ Tf.Known t =
           e0 ∙ matrix-form g (sym e1 ∙ k)
           ∙ ap (λ (j : Scalar). Tf.Known (Ti.Matrix (vectorSizeOf (byte g 2)) (vectorSizeOf (byte g 3)) j)) scalars
-          ∙ ap (λ (b : ℕ). Tf.Known (Ti.Matrix (vectorSizeOf b) (vectorSizeOf (byte g 3)) (scalarIn f))) (sym e2)
-          ∙ ap (λ (b : ℕ). Tf.Known (Ti.Matrix (vectorSizeOf (byte f 2)) (vectorSizeOf b) (scalarIn f))) (sym e3) in
+          ∙ ap (λ (b : ℕ). Tf.Known (Ti.Matrix (vectorSizeOf b) (vectorSizeOf (byte g 3)) (scalarShown f))) (sym e2)
+          ∙ ap (λ (b : ℕ). Tf.Known (Ti.Matrix (vectorSizeOf (byte f 2)) (vectorSizeOf b) (scalarShown f))) (sym e3) in
           record { inner = t; form = matrix-form f k; alike = like-value n t t e refl refl refl }
       go false false false p q r o = never (cc)
 
@@ -180,12 +180,12 @@ module _ (fr : List ℕ) (s : Starts) where
       go (eqb (byte g 1) 6 && (eqb (byte f 2) (byte g 2) && (eqb (byte f 3) (byte g 3) && (eqb (byte f 6) (byte g 6) && eqb (byte f 7) (byte g 7))))) refl h
     where
       go : (q : Bool) → (eqb (byte g 1) 6 && (eqb (byte f 2) (byte g 2) && (eqb (byte f 3) (byte g 3) && (eqb (byte f 6) (byte g 6) && eqb (byte f 7) (byte g 7))))) ≡ q
-          → cond q (isPlain (typeFrame fr s (record { 0 = half f 2 }))) false ≡ true → Valued n f
+          → cond q (isPlain (typeFrameIn fr s (record { 0 = half f 2 }))) false ≡ true → Valued n f
       go true h1 plain =
           let b : TypeNumber = record { 0 = half f 2 } in
           let p = spaceOf (byte f 6) (byte f 7) in
           let t = Ti.Pointer b p in
-          let w = plain-form (typeFrame fr s b) plain in
+          let w = plain-form (typeFrameIn fr s b) plain in
           let base : typeIn fr s b ≡ Tf.Known (w .inner) = type-frame fr s b ∙ w .is in
           let k1 : byte g 1 ≡ 6 = eqb-true _ _ (and-first _ _ h1) in
           let h2 = and-second (eqb (byte g 1) 6) _ h1 in
@@ -223,11 +223,11 @@ module _ (fr : List ℕ) (s : Starts) where
   type-shown n i f h = go (eqb (byte f 0) 8) (eqb (byte f 0) 9) refl refl h
     where
       go : (a b : Bool) → eqb (byte f 0) 8 ≡ a → eqb (byte f 0) 9 ≡ b
-          → cond a (eqb (half f 2) (n .0)) (cond b (valueShown fr s f (typeFrame fr s n)) false) ≡ true
+          → cond a (eqb (half f 2) (n .0)) (cond b (valueShown fr s f (typeFrameIn fr s n)) false) ≡ true
           → answerVerdict i (λ t. partVerdict i (likeness fr s (number n) (resolved t))) (answerOf f) ≡ Ov.None
       go true b p q h =
           rw p (ap (λ (m : ℕ). partVerdict i (likeness fr s (number n) (number (record { 0 = m })))) (eqb-true (half f 2) (n .0) h) ∙ ap (partVerdict i) (like-self (number n)))
-      go false true p q h = let w = valued-shown n f (typeFrame fr s n) (type-frame fr s n) h in rw (p, q, w .form) (ap (partVerdict i) (w .alike))
+      go false true p q h = let w = valued-shown n f (typeFrameIn fr s n) (type-frame fr s n) h in rw (p, q, w .form) (ap (partVerdict i) (w .alike))
       go false false p q h = never (cc)
 
   -- WHAT IS ASKED
@@ -241,18 +241,18 @@ module _ (fr : List ℕ) (s : Starts) where
   -- THE COMPOSED TYPE, by its frame: what its components are held to
 
   module _ (an pl : List ℕ) (ty : TypeNumber) (first : ComponentNumber) (n : ℕ) (f : Frame) (e : typeIn fr s ty ≡ typeOf f) where
-    pub vector-composed : (z : VectorSize) (k : Scalar) → byte f 1 ≡ 2 → z ≡ vectorSizeOf (byte f 2) → k ≡ scalarIn f
+    pub vector-composed : (z : VectorSize) (k : Scalar) → byte f 1 ≡ 2 → z ≡ vectorSizeOf (byte f 2) → k ≡ scalarShown f
         → judgedBy fr s an pl (vectorParts z k 0 0 (partsIn fr s first n)) ≡ judgedBy fr s an pl (verdict ty (partsIn fr s first n))
     vector-composed z k h p q =
-        rw (p, q) (sym (composed-known fr s an pl ty (partsIn fr s first n) (Ti.Vector (vectorSizeOf (byte f 2)) (scalarIn f)) (e ∙ vector-form f h)))
+        rw (p, q) (sym (composed-known fr s an pl ty (partsIn fr s first n) (Ti.Vector (vectorSizeOf (byte f 2)) (scalarShown f)) (e ∙ vector-form f h)))
 
     pub matrix-composed : (m : ℕ) (c z : VectorSize) (k : Scalar) → byte f 1 ≡ 3 → m ≡ vectorSizeNumber c → c ≡ vectorSizeOf (byte f 2) → z ≡ vectorSizeOf (byte f 3)
-        → k ≡ scalarIn f
+        → k ≡ scalarShown f
         → judgedBy fr s an pl (counted m (partsIn fr s first n) (eachPart (askedOf fr s (Pa.Column z k)) 0 (partsIn fr s first n)))
         ≡ judgedBy fr s an pl (verdict ty (partsIn fr s first n))
     matrix-composed m c z k h o p q r =
         rw (o, p, q, r)
-        (sym (composed-known fr s an pl ty (partsIn fr s first n) (Ti.Matrix (vectorSizeOf (byte f 2)) (vectorSizeOf (byte f 3)) (scalarIn f)) (e ∙ matrix-form f h)))
+        (sym (composed-known fr s an pl ty (partsIn fr s first n) (Ti.Matrix (vectorSizeOf (byte f 2)) (vectorSizeOf (byte f 3)) (scalarShown f)) (e ∙ matrix-form f h)))
 
     pub array-composed : (m b : ℕ) → (eqb (byte f 1) 8 && eqb (byte f 4) 0) ≡ true → m ≡ word f 8 → b ≡ half f 2
         → judgedBy fr s an pl (counted m (partsIn fr s first n) (eachPart (askedOf fr s (Pa.Element (record { 0 = b }))) 0 (partsIn fr s first n)))

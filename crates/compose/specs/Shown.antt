@@ -10,15 +10,15 @@ use Rattle.ir.specs.Numbers.{vectorSizeOf, vectorSizeNumber}
 use Rattle.frames.specs.declared.Frame.{Frame}
 use Rattle.frames.specs.Bytes.{byte, half}
 use Rattle.archive.specs.declared.Starts.{Starts}
-use Rattle.row_rules.specs.Operators.{equalScalars}
-use Rattle.operand_frames.specs.Shown.{typeFrame, formFrame, scalarIn, isPlain}
+use Rattle.ir.specs.Scalars.{equalScalars}
+use Rattle.operand_frames.specs.Shown.{typeFrameIn, formFrame, scalarShown, isPlain}
 use Rattle.compose.specs.declared.Part.{Part}
 use Rattle.compose.specs.declared.Part.the-variants as Pa
 use Rattle.compose.specs.Judged.{memberType}
 
 -- the scalar in bytes 4 and 5 is this one
 abbrev pub sameScalar : Frame → Scalar → Bool
-sameScalar f k = equalScalars (scalarIn f) k
+sameScalar f k = equalScalars (scalarShown f) k
 
 -- a frame is that of a vector of this size and scalar
 abbrev pub columnShown : Frame → VectorSize → Scalar → Bool
@@ -37,7 +37,7 @@ samePointer fr s f g =
     cond
     (eqb (byte g 1) 6
     && (eqb (byte f 2) (byte g 2) && (eqb (byte f 3) (byte g 3) && (eqb (byte f 6) (byte g 6) && eqb (byte f 7) (byte g 7)))))
-    (isPlain (typeFrame fr s (record { 0 = half f 2 }))) false
+    (isPlain (typeFrameIn fr s (record { 0 = half f 2 }))) false
 
 -- the frames of a value and of a type show that they are the same
 abbrev pub valueShown : List ℕ → Starts → Frame → Frame → Bool
@@ -45,7 +45,7 @@ valueShown fr s f g = cond (eqb (byte f 1) 6) (samePointer fr s f g) (sameForm f
 
 -- an answer's frame shows that it is the same as type n: its number, or a value with that type's bytes
 abbrev pub typeShown : List ℕ → Starts → TypeNumber → Frame → Bool
-typeShown fr s n f = cond (eqb (byte f 0) 8) (eqb (half f 2) (n .0)) (cond (eqb (byte f 0) 9) (valueShown fr s f (typeFrame fr s n)) false)
+typeShown fr s n f = cond (eqb (byte f 0) 8) (eqb (half f 2) (n .0)) (cond (eqb (byte f 0) 9) (valueShown fr s f (typeFrameIn fr s n)) false)
 
 -- the frame of component i's answer shows that it is as asked
 abbrev pub partShown : List ℕ → Starts → Part → ℕ → Frame → Bool

@@ -21,7 +21,7 @@ use Rattle.rule.specs.Rule.{Rule, done, come, past}
 use Rattle.type_methods.specs.Canonical.{equalTypes}
 use Rattle.type_methods.specs.Comparison.{compare}
 use Rattle.row_rules.specs.Selectors.{ifScalar, ifVector}
-use Rattle.row_rules.specs.Operators.{equalScalars}
+use Rattle.ir.specs.Scalars.{equalScalars}
 
 -- COMPONENTS
 

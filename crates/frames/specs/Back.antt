@@ -1,4 +1,4 @@
--- The values of a row's and of an item's layout, and the frame that these make up, as Out.antt has them of a type.
+-- The values of a row's and of an item's layout, and the frame that these make up (document 01, "The file", families 3 and 4), as Out.antt has them of a type.
 use Prim.Native.Nat.{ℕ}
 use Rattle.ir.specs.declared.RowKind.{RowKind}
 use Rattle.ir.specs.declared.RowKind.the-variants as Rk

@@ -1,6 +1,9 @@
--- The scalar's own constants (document 01, "Constants such as U32, BOOL and F32 belong to the scalar itself"; type_methods.rs).
+-- The scalar's own constants (document 01, "Constants such as U32, BOOL and F32 belong to the scalar itself"; type_methods.rs), and when two scalars are equal.
+use mathlib.Core.Bool.{Bool, _&&_}
+use lib.Dec.{eqb}
 use Rattle.ir.specs.declared.Scalar.{Scalar}
 use Rattle.ir.specs.declared.ScalarKind.the-variants as Sk
+use Rattle.ir.specs.Numbers.{scalarKindNumber}
 
 abbrev pub I16 : Scalar
 I16 = record { kind = Sk.Sint; width = 2 }
@@ -37,3 +40,7 @@ ABSTRACT-INT = record { kind = Sk.AbstractInt; width = 8 }
 
 abbrev pub ABSTRACT-FLOAT : Scalar
 ABSTRACT-FLOAT = record { kind = Sk.AbstractFloat; width = 8 }
+
+-- the same kind and the same width
+abbrev pub equalScalars : Scalar → Scalar → Bool
+equalScalars k j = eqb (scalarKindNumber (k .kind)) (scalarKindNumber (j .kind)) && eqb (k .width) (j .width)

@@ -1,4 +1,4 @@
--- Methods of a type's inner form (the source's type_methods.rs): its scalar, and of a pointer the space and what it points to. WGSL has no value
+-- Methods of a type's inner form (document 01, "Port order", type_methods.rs): its scalar, and of a pointer the space and what it points to. WGSL has no value
 -- pointers; the source decides.
 use Rattle.ir.specs.declared.Scalar.{Scalar}
 use Rattle.ir.specs.declared.OptionVectorSize.{OptionVectorSize}

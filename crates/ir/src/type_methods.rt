@@ -1,4 +1,4 @@
-// type_methods.rs: the methods of TypeInner that take no types.
+// type_methods.rs: the methods of TypeInner that take no types, and the equality of scalars.
 use super::OptionAddressSpace;
 use super::OptionScalar;
 use super::OptionTypeResolution;
@@ -7,6 +7,7 @@ use super::Scalar;
 use super::TypeInner;
 use super::TypeResolution;
 ghost use mathlib.Core.Path.{_≡_};
+ghost use Rattle.ir.specs.Scalars.{equalScalars};
 ghost use Rattle.ir.specs.TypeMethods.{scalarIn, pointerSpace, valueBase, pointerBase};
 
 // What a value pointer points to: a scalar, or a vector where it has a size.
@@ -16,6 +17,17 @@ fn value_base(size: OptionVectorSize, scalar: Scalar) -> TypeInner
     match size {
         OptionVectorSize::None => TypeInner::Scalar(scalar),
         OptionVectorSize::Some(size) => TypeInner::Vector { size, scalar },
+    }
+}
+
+impl Scalar {
+    // Whether two scalars have the same kind and the same width.
+    pub fn equals(self, other: Scalar) -> bool
+        ensures { λ r. ⌜ r ≡ equalScalars self other ⌝ }
+    {
+        let kind = self.kind;
+        let wanted = other.kind;
+        (kind.number() == wanted.number()) & (self.width == other.width)
     }
 }
 

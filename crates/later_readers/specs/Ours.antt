@@ -1,4 +1,4 @@
--- Our readers: what the contracts of `type_rows`, `row_type`, `compose_verdict` and `same_type` fix (reader/specs), as bytes. The buffers that are lent are any
+-- Our readers, of whom document 01's claim is made ("A row's type", last paragraphs): what the contracts of `type_rows`, `row_type`, `compose_verdict` and `same_type` fix (reader/specs), as bytes. The buffers that are lent are any
 -- functions of the text.
 use Prim.Native.Nat.{ℕ, _+_, _*_, _≤_}
 use mathlib.Core.List.{List}

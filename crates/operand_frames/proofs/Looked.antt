@@ -36,7 +36,7 @@ use Rattle.operands.specs.declared.Looked.the-variants as Lo
 use Rattle.operands.specs.declared.Based.the-variants as Ba
 use Rattle.operands.specs.Past.{answerIn, ruled, formed, lookedIn, basedOn, basedAt, basedBy, basedIn}
 use Rattle.operands.proofs.Steps.{type-seen, base-into, base-through}
-use Rattle.operand_frames.specs.Shown.{pastFrame, typeFrame, formFrame, shownFrame, scalarIn, isPlain}
+use Rattle.operand_frames.specs.Shown.{pastFrame, typeFrameIn, formFrame, shownFrame, scalarShown, isPlain}
 
 -- a row's answer is that of its frame
 pub past-frame : (an pl : List ℕ) (n : RowNumber) → answerIn an pl n ≡ answerOf (pastFrame an pl n)
@@ -48,7 +48,7 @@ past-frame an pl n = go (ltb (n .0) (length pl))
     go false = refl
 
 -- a type is that of its frame
-pub type-frame : (fr : List ℕ) (s : Starts) (n : TypeNumber) → typeIn fr s n ≡ typeOf (typeFrame fr s n)
+pub type-frame : (fr : List ℕ) (s : Starts) (n : TypeNumber) → typeIn fr s n ≡ typeOf (typeFrameIn fr s n)
 unfolding typeIn typeOf
 type-frame fr s n = go (isType s n)
   where
@@ -62,15 +62,15 @@ no-form t e = never (cc)
 
 -- SCALARS, VECTORS AND MATRICES
 
-pub scalar-form : (f : Frame) → byte f 1 ≡ 1 → typeOf f ≡ Tf.Known (Ti.Scalar (scalarIn f))
+pub scalar-form : (f : Frame) → byte f 1 ≡ 1 → typeOf f ≡ Tf.Known (Ti.Scalar (scalarShown f))
 unfolding typeOf
 scalar-form f e = ap (λ (k : ℕ). typeAs (typeKindOf k) f) e
 
-pub vector-form : (f : Frame) → byte f 1 ≡ 2 → typeOf f ≡ Tf.Known (Ti.Vector (vectorSizeOf (byte f 2)) (scalarIn f))
+pub vector-form : (f : Frame) → byte f 1 ≡ 2 → typeOf f ≡ Tf.Known (Ti.Vector (vectorSizeOf (byte f 2)) (scalarShown f))
 unfolding typeOf
 vector-form f e = ap (λ (k : ℕ). typeAs (typeKindOf k) f) e
 
-pub matrix-form : (f : Frame) → byte f 1 ≡ 3 → typeOf f ≡ Tf.Known (Ti.Matrix (vectorSizeOf (byte f 2)) (vectorSizeOf (byte f 3)) (scalarIn f))
+pub matrix-form : (f : Frame) → byte f 1 ≡ 3 → typeOf f ≡ Tf.Known (Ti.Matrix (vectorSizeOf (byte f 2)) (vectorSizeOf (byte f 3)) (scalarShown f))
 unfolding typeOf
 matrix-form f e = ap (λ (k : ℕ). typeAs (typeKindOf k) f) e
 
@@ -112,7 +112,7 @@ module _ (fr : List ℕ) (s : Starts) where
   answered f t sound e = go (eqb (byte f 0) 8) (eqb (byte f 0) 9) refl refl e
     where
       go : (a b : Bool) → eqb (byte f 0) 8 ≡ a → eqb (byte f 0) 9 ≡ b
-          → typeOf (cond a (typeFrame fr s (record { 0 = half f 2 })) (cond b f zeroFrame)) ≡ Tf.Known t → Answered f t
+          → typeOf (cond a (typeFrameIn fr s (record { 0 = half f 2 })) (cond b f zeroFrame)) ≡ Tf.Known t → Answered f t
       go true b p q h = record { given = Tr.Handle (record { 0 = half f 2 }); answer = rw p; form = type-frame fr s (record { 0 = half f 2 }) ∙ h }
       go false true p q h = record { given = Tr.Value t; answer = rw (p, q, h); form = ap (soundForm t) sound }
       go false false p q h = no-form t h
@@ -132,8 +132,8 @@ module _ (fr : List ℕ) (s : Starts) where
   answered-number f t own e = go (eqb (byte f 0) 8) (eqb (byte f 0) 9) refl refl own e
     where
       go : (a b : Bool) → eqb (byte f 0) 8 ≡ a → eqb (byte f 0) 9 ≡ b
-          → (byte (cond a (typeFrame fr s (record { 0 = half f 2 })) (cond b f zeroFrame)) 0 ≡ 9 → ⊥)
-          → typeOf (cond a (typeFrame fr s (record { 0 = half f 2 })) (cond b f zeroFrame)) ≡ Tf.Known t → Answered f t
+          → (byte (cond a (typeFrameIn fr s (record { 0 = half f 2 })) (cond b f zeroFrame)) 0 ≡ 9 → ⊥)
+          → typeOf (cond a (typeFrameIn fr s (record { 0 = half f 2 })) (cond b f zeroFrame)) ≡ Tf.Known t → Answered f t
       go true b p q o h = record { given = Tr.Handle (record { 0 = half f 2 }); answer = rw p; form = type-frame fr s (record { 0 = half f 2 }) ∙ h }
       go false true p q o h = absurd (o (eqb-true _ _ q))
       go false false p q o h = no-form t h
@@ -166,7 +166,7 @@ module _ (fr : List ℕ) (s : Starts) where
       by-into t own w = base-into fr s an pl here n th f (ap (basedBy fr s here) (w .is) ∙ own)
 
       -- and of a pointer, by its base's frame
-      pub by-through : (u : TypeInner) → byte g 1 ≡ 6 → typeOf (typeFrame fr s (record { 0 = half g 2 })) ≡ Tf.Known u
+      pub by-through : (u : TypeInner) → byte g 1 ≡ 6 → typeOf (typeFrameIn fr s (record { 0 = half g 2 })) ≡ Tf.Known u
           → told (th (record { 0 = half g 2 }) (spaceOf (byte g 6) (byte g 7)) (formed fr s u)) ≡ ruled fr s an pl (byBase here n th f)
       unfolding basedIn
       by-through u k e =

@@ -19,12 +19,12 @@ abbrev pub pastFrame : List ℕ → List ℕ → RowNumber → Frame
 pastFrame answers places n = cond (ltb (n .0) (length places)) (frameAt answers (getD places (n .0) 0)) zeroFrame
 
 -- the frame of type n; zeros, of unknown kind, where there is none
-abbrev pub typeFrame : List ℕ → Starts → TypeNumber → Frame
-typeFrame fr s n = cond (isType s n) (frameAt fr (n .0)) zeroFrame
+abbrev pub typeFrameIn : List ℕ → Starts → TypeNumber → Frame
+typeFrameIn fr s n = cond (isType s n) (frameAt fr (n .0)) zeroFrame
 
 -- the frame of the form of an answer's type: of a number that type's, of a value its own
 abbrev pub formFrame : List ℕ → Starts → Frame → Frame
-formFrame fr s f = cond (eqb (byte f 0) 8) (typeFrame fr s (record { 0 = half f 2 })) (cond (eqb (byte f 0) 9) f zeroFrame)
+formFrame fr s f = cond (eqb (byte f 0) 8) (typeFrameIn fr s (record { 0 = half f 2 })) (cond (eqb (byte f 0) 9) f zeroFrame)
 
 -- the same of row n's answer
 abbrev pub shownFrame : List ℕ → Starts → List ℕ → List ℕ → RowNumber → Frame
@@ -35,5 +35,5 @@ abbrev pub isPlain : Frame → Bool
 isPlain f = eqb (byte f 1) 1 || (eqb (byte f 1) 2 || eqb (byte f 1) 3)
 
 -- the scalar in bytes 4 and 5
-abbrev pub scalarIn : Frame → Scalar
-scalarIn f = read scalar f
+abbrev pub scalarShown : Frame → Scalar
+scalarShown f = read scalar f

@@ -7,7 +7,7 @@ use frames::no_frame;
 use ir::RowNumber;
 use ir::TypeNumber;
 ghost use mathlib.Core.Path.{_≡_};
-ghost use Rattle.operand_frames.specs.Shown.{pastFrame, typeFrame, formFrame, shownFrame, isPlain};
+ghost use Rattle.operand_frames.specs.Shown.{pastFrame, typeFrameIn, formFrame, shownFrame, isPlain};
 
 // The frame of row n's answer; zeros, which read as the fixed refusal, of a row that is not typed yet.
 pub fn past_frame(answers: &[u8], places: &[u16], n: RowNumber) -> Frame
@@ -24,7 +24,7 @@ pub fn past_frame(answers: &[u8], places: &[u16], n: RowNumber) -> Frame
 
 // The frame of type n; zeros, of unknown kind, where there is none.
 pub fn type_frame(frames: &[u8], s: Starts, n: TypeNumber) -> Frame
-    ensures { λ r. ⌜ r ≡ typeFrame (now (frames .entry)) s n ⌝ }
+    ensures { λ r. ⌜ r ≡ typeFrameIn (now (frames .entry)) s n ⌝ }
 {
     if is_type(s, n) {
         frame_at(frames, n.0 as usize)

@@ -37,7 +37,7 @@ use Rattle.row_rules.specs.Typed.{typed}
 use Rattle.operands.specs.declared.Based.the-variants as Ba
 use Rattle.operands.specs.Past.{answerIn, ruled, ruledShown, basedAt}
 use Rattle.operands.proofs.Steps.{multiply-run, row-run}
-use Rattle.operand_frames.specs.Shown.{shownFrame, scalarIn}
+use Rattle.operand_frames.specs.Shown.{shownFrame, scalarShown}
 use Rattle.operand_frames.proofs.Looked.{Seen, seen-sound, seen-number}
 
 pub form-at : (f : Frame) (k : ℕ) → byte f 1 ≡ k → typeOf f ≡ typeAs (typeKindOf k) f
@@ -45,12 +45,12 @@ unfolding typeOf
 form-at f k e = ap (λ (x : ℕ). typeAs (typeKindOf x) f) e
 
 -- a value pointer, to a scalar and to a vector
-pub pointer-none : (f : Frame) → byte f 1 ≡ 7 → byte f 2 ≡ 0 → typeOf f ≡ Tf.Known (Ti.ValuePointer Ov.None (scalarIn f) (spaceOf (byte f 6) (byte f 7)))
-pointer-none f e h = form-at f 7 e ∙ ap (λ (b : Bool). Tf.Known (Ti.ValuePointer (cond b Ov.None (Ov.Some (vectorSizeOf (byte f 2)))) (scalarIn f) (spaceOf (byte f 6) (byte f 7)))) (eq-eqb _ _ h)
+pub pointer-none : (f : Frame) → byte f 1 ≡ 7 → byte f 2 ≡ 0 → typeOf f ≡ Tf.Known (Ti.ValuePointer Ov.None (scalarShown f) (spaceOf (byte f 6) (byte f 7)))
+pointer-none f e h = form-at f 7 e ∙ ap (λ (b : Bool). Tf.Known (Ti.ValuePointer (cond b Ov.None (Ov.Some (vectorSizeOf (byte f 2)))) (scalarShown f) (spaceOf (byte f 6) (byte f 7)))) (eq-eqb _ _ h)
 
 pub pointer-some : (f : Frame) → byte f 1 ≡ 7 → (byte f 2 ≡ 0 → ⊥)
-    → typeOf f ≡ Tf.Known (Ti.ValuePointer (Ov.Some (vectorSizeOf (byte f 2))) (scalarIn f) (spaceOf (byte f 6) (byte f 7)))
-pointer-some f e h = form-at f 7 e ∙ ap (λ (b : Bool). Tf.Known (Ti.ValuePointer (cond b Ov.None (Ov.Some (vectorSizeOf (byte f 2)))) (scalarIn f) (spaceOf (byte f 6) (byte f 7)))) (ne-eqb _ _ h)
+    → typeOf f ≡ Tf.Known (Ti.ValuePointer (Ov.Some (vectorSizeOf (byte f 2))) (scalarShown f) (spaceOf (byte f 6) (byte f 7)))
+pointer-some f e h = form-at f 7 e ∙ ap (λ (b : Bool). Tf.Known (Ti.ValuePointer (cond b Ov.None (Ov.Some (vectorSizeOf (byte f 2)))) (scalarShown f) (spaceOf (byte f 6) (byte f 7)))) (ne-eqb _ _ h)
 
 -- below the bound, and not
 pub in-bound : (base : RowNumber) (i bound m : ℕ) (a : TypeAnswer) → i < m → m ≡ bound → rowFrame (told (given a)) ≡ rowFrame (told (bounded base i bound a))

@@ -25,7 +25,7 @@ use Rattle.rule.specs.Answers.{value, resolved, given, Typed, Result, told, row
 use Rattle.rule.specs.Things.{valueFault}
 use Rattle.type_methods.specs.Canonical.{ifPointer}
 use Rattle.row_rules.specs.Operators.{product}
-use Rattle.operand_frames.specs.Shown.{scalarIn}
+use Rattle.operand_frames.specs.Shown.{scalarShown}
 
 -- a frame is that of a row's answer, or of family 0: then frames do not suffice
 abbrev pub Quick : Frame → Result Typed → Type 0
@@ -34,13 +34,13 @@ Quick f x = (byte f 0 ≡ 0 → ⊥) → f ≡ rowFrame x
 -- VALUES, family 9, of the scalar in bytes 4 and 5 of f
 
 abbrev pub scalarValue : Frame → Frame
-scalarValue f = typeFrame 9 (Ti.Scalar (scalarIn f))
+scalarValue f = typeFrame 9 (Ti.Scalar (scalarShown f))
 
 abbrev pub vectorValue : VectorSize → Frame → Frame
-vectorValue z f = typeFrame 9 (Ti.Vector z (scalarIn f))
+vectorValue z f = typeFrame 9 (Ti.Vector z (scalarShown f))
 
 abbrev pub matrixValue : VectorSize → VectorSize → Frame → Frame
-matrixValue c r f = typeFrame 9 (Ti.Matrix c r (scalarIn f))
+matrixValue c r f = typeFrame 9 (Ti.Matrix c r (scalarShown f))
 
 -- POINTERS, family 9, in the space in bytes 6 and 7 of f
 
@@ -52,10 +52,10 @@ pointerTo b f = typeFrame 9 (Ti.Pointer (record { 0 = b }) (spaceIn f))
 
 -- to the scalar in g, and to a vector of it
 abbrev pub componentPointer : Frame → Frame → Frame
-componentPointer g f = typeFrame 9 (Ti.ValuePointer Ov.None (scalarIn g) (spaceIn f))
+componentPointer g f = typeFrame 9 (Ti.ValuePointer Ov.None (scalarShown g) (spaceIn f))
 
 abbrev pub columnPointer : VectorSize → Frame → Frame → Frame
-columnPointer r g f = typeFrame 9 (Ti.ValuePointer (Ov.Some r) (scalarIn g) (spaceIn f))
+columnPointer r g f = typeFrame 9 (Ti.ValuePointer (Ov.Some r) (scalarShown g) (spaceIn f))
 
 -- BY THE FORM OF A TYPE x, which a frame shows: a frame is that of what a rule gives for it, or of family 0
 

@@ -10,7 +10,7 @@ use row_values::scalar_type;
 use row_values::vector_type;
 ghost use mathlib.Core.Path.{_≡_};
 ghost use Rattle.rule.specs.Answers.{told};
-ghost use Rattle.row_rules.specs.Operators.{boolsOf, equalScalars, logicalOf, widthOr, castOf};
+ghost use Rattle.row_rules.specs.Operators.{boolsOf, logicalOf, widthOr, castOf};
 ghost use Rattle.row_rules.specs.Answered.{toResult};
 
 // A bool for each component.
@@ -24,21 +24,13 @@ pub fn bools_of(t: TypeInner) -> Answer
     }
 }
 
-fn equal_scalars(k: Scalar, j: Scalar) -> bool
-    ensures { λ r. ⌜ r ≡ equalScalars k j ⌝ }
-{
-    let kind = k.kind;
-    let other = j.kind;
-    (kind.number() == other.number()) & (k.width == j.width)
-}
-
 // Exactly the scalar type BOOL.
 pub fn logical_of(t: TypeInner) -> Answer
     ensures { λ r. ⌜ toResult r ≡ told (logicalOf t) ⌝ }
 {
     match t {
         TypeInner::Scalar(scalar) => {
-            if equal_scalars(scalar, Scalar::BOOL) {
+            if scalar.equals(Scalar::BOOL) {
                 scalar_type(Scalar::BOOL)
             } else {
                 incompatible_operands()

@@ -1,4 +1,5 @@
--- A row's answer as the code gives it, and what the code goes by where a rule reads a member's type or comes to an image's class.
+-- A row's answer as the code gives it (document 01, "The shape each place takes", last paragraph), and what the code goes by where a rule reads a member's type or comes to
+-- an image's class.
 use Prim.Native.Nat.{ℕ}
 use mathlib.Core.List.{List}
 use Rattle.ir.specs.declared.TypeNumber.{TypeNumber}

@@ -1,7 +1,6 @@
 -- Unary, Binary, Select, Derivative, Relational and As, in the source's order (document 01, "A row's type"). Refusal: 18.
 use Prim.Native.Nat.{ℕ}
-use mathlib.Core.Bool.{Bool, cond, _&&_}
-use lib.Dec.{eqb}
+use mathlib.Core.Bool.{cond}
 use Rattle.ir.specs.declared.RowNumber.{RowNumber}
 use Rattle.ir.specs.declared.VectorSize.{VectorSize}
 use Rattle.ir.specs.declared.CooperativeSize.{CooperativeSize}
@@ -16,8 +15,7 @@ use Rattle.ir.specs.declared.OptionBytes.{OptionBytes}
 use Rattle.ir.specs.declared.OptionBytes.the-variants as Ob
 use Rattle.ir.specs.declared.TypeInner.{TypeInner}
 use Rattle.ir.specs.declared.TypeInner.the-variants as Ti
-use Rattle.ir.specs.Numbers.{scalarKindNumber}
-use Rattle.ir.specs.Scalars.{BOOL}
+use Rattle.ir.specs.Scalars.{BOOL, equalScalars}
 use Rattle.answers.specs.declared.Refusal.the-variants.{IncompatibleOperands}
 use Rattle.rule.specs.Answers.{TypeAnswer, value, Typed, given, refused}
 use Rattle.rule.specs.Rule.{Rule, done}
@@ -83,10 +81,6 @@ boolsOf t =
 -- Equal, NotEqual, Less, LessEqual, Greater, GreaterEqual: a bool for each component of the left operand. WGSL: "Comparison Expressions".
 abbrev pub comparison : RowNumber → RowNumber → Rule Typed
 comparison here left = byType here left boolsOf
-
--- two scalars are the same in kind and width
-abbrev pub equalScalars : Scalar → Scalar → Bool
-equalScalars k j = eqb (scalarKindNumber (k .kind)) (scalarKindNumber (j .kind)) && eqb (k .width) (j .width)
 
 -- exactly the scalar type BOOL; every other type is number 18
 abbrev pub logicalOf : TypeInner → Typed

@@ -28,7 +28,7 @@ use Rattle.ir.specs.declared.FunctionResult.the-variants as Fr
 use Rattle.ir.specs.declared.OptionBytes.{OptionBytes}
 use Rattle.ir.specs.declared.TypeInner.{TypeInner}
 use Rattle.ir.specs.declared.TypeInner.the-variants as Ti
-use Rattle.ir.specs.Scalars.{U32, F32, BOOL}
+use Rattle.ir.specs.Scalars.{U32, F32, BOOL, equalScalars}
 use Rattle.answers.specs.declared.Refusal.{Refusal}
 use Rattle.archive.specs.declared.Starts.{Starts}
 use Rattle.archive.specs.Names.{isType, resultNames}
@@ -40,7 +40,7 @@ use Rattle.ir.specs.declared.OptionScalar.{OptionScalar}
 use Rattle.ir.specs.declared.OptionScalar.the-variants as Os
 use Rattle.row_rules.specs.Variables.{argument, variable, loadThrough, loadInto}
 use Rattle.row_rules.specs.Images.{sampledScalar, gatheredScalar, gatheredOf, sampledOf, sizeOf, imageSizeOf}
-use Rattle.row_rules.specs.Operators.{timesScalar, product, boolsOf, equalScalars, logicalOf, castOf}
+use Rattle.row_rules.specs.Operators.{timesScalar, product, boolsOf, logicalOf, castOf}
 use Rattle.row_rules.specs.Results.{resultOf, special, cooperativeOf}
 use Rattle.typifier_laws.proofs.Ranged.{Each, IfSome, TypeInRange, TypedInRange, BaseInRange, refusal-number}
 use Rattle.typifier_laws.proofs.Selected.{by-scalar, by-vector, by-matrix, by-cooperative-matrix, by-atomic, by-value-pointer, by-image, by-struct, by-array, by-binding-array}

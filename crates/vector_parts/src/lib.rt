@@ -2,7 +2,6 @@
 use answers::Answer;
 use answers::Verdict;
 use archive::Starts;
-use component_frames::equal_scalars;
 use component_frames::same_scalar;
 use compose::Added;
 use families::component_at;
@@ -39,10 +38,10 @@ fn count_added(i: u32, scalar: Scalar, t: TypeInner) -> Added
     ensures { λ r. ⌜ r ≡ countAdded i (adds scalar t) ⌝ }
 {
     match t {
-        TypeInner::Scalar(k) => adds_scalar(i, equal_scalars(k, scalar), 1),
+        TypeInner::Scalar(k) => adds_scalar(i, k.equals(scalar), 1),
         TypeInner::Vector { size, scalar: k } => adds_scalar(
             i,
-            equal_scalars(k, scalar),
+            k.equals(scalar),
             size.number() as u32,
         ),
         _ => Added::Decided(Verdict::ComponentType { index: i }),

@@ -22,7 +22,7 @@ use Rattle.rule.specs.Rule.{Rule, done, come, Step, step, Readings, placed, fol
 use Rattle.rule.specs.Claim.{reading, readings, amongReadings}
 use Rattle.type_methods.specs.Canonical.{ifPointer, canonical, equalTypes, identical}
 use Rattle.type_methods.specs.Comparison.{inForm, inForms, byStruct, byIdentical, compare}
-use Rattle.row_rules.specs.Operators.{equalScalars}
+use Rattle.ir.specs.Scalars.{equalScalars}
 use Rattle.row_rules.specs.Typed.{typing}
 use Rattle.row_cases.specs.Reads.{unlessRefused, unlessNewer}
 use Rattle.compose.specs.Verdict.{comeTo, orPart, eachPart, counted, adds, addPart, vectorParts, columnIs, elementIs, memberIs, arrayParts, byForm, verdict}

@@ -22,7 +22,7 @@ use Rattle.rule.specs.Things.{Form, Thing, form, structNumber, Sight}
 use Rattle.rule.specs.Rule.{Step, step, Readings, placed}
 use Rattle.type_methods.specs.Canonical.{ifPointer, canonical, equalTypes, identical}
 use Rattle.row_rules.specs.Selectors.{ifScalar, ifVector}
-use Rattle.row_rules.specs.Operators.{equalScalars}
+use Rattle.ir.specs.Scalars.{equalScalars}
 use Rattle.row_cases.specs.Reads.{unlessRefused, unlessNewer}
 
 -- what a component is held against

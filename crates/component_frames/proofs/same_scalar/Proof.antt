@@ -8,4 +8,4 @@ same-scalar-spec =
     (tie.spec
     (λ c κs. tt)
     (λ c κs. tt)
-    (λ c. rw (c .equal-scalars .ensures, c .before .scalar .ensures)))
+    (λ c. rw (c .equals .ensures, c .before .scalar .ensures)))

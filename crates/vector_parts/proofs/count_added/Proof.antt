@@ -19,4 +19,4 @@ rest a b = of-each (search needs)
 pub count-added-spec : {M : Type 1} → statement M
 count-added-spec =
     tie.close
-    (tie.spec (λ c. c .match .keys1) (λ c κs. tt) (λ c κs. tt) (λ c. c .match .keys2) (λ c κs. tt) (λ c κs. tt) (λ c. search needs) (λ c κs. tt) (λ c. rw (c .before .before .before .t .given .1, c .adds-scalar .ensures, c .before .equal-scalars .ensures)) (λ c. rw (c .before .before .before .before .t2 .given .1, c .adds-scalar2 .ensures, c .before .number .ensures, c .before .before .equal-scalars2 .ensures)) (λ c. rest (c .before .args .i) (c .before .args .scalar) .at (c .before .args .t) (c .match .keys3)))
+    (tie.spec (λ c. c .match .keys1) (λ c κs. tt) (λ c κs. tt) (λ c. c .match .keys2) (λ c κs. tt) (λ c κs. tt) (λ c. search needs) (λ c κs. tt) (λ c. rw (c .before .before .before .t .given .1, c .adds-scalar .ensures, c .before .equals .ensures)) (λ c. rw (c .before .before .before .before .t2 .given .1, c .adds-scalar2 .ensures, c .before .number .ensures, c .before .before .equals2 .ensures)) (λ c. rest (c .before .args .i) (c .before .args .scalar) .at (c .before .args .t) (c .match .keys3)))

@@ -17,4 +17,4 @@ rest = of-each (search needs)
 pub logical-of-spec : {M : Type 1} → statement M
 logical-of-spec =
     tie.close
-    (tie.spec (λ c. c .match .keys1) (λ c κs. tt) (λ c κs. tt) (λ c κs. tt) (λ c κs. tt) (λ c. rw (c .before .before .before .before .t .given .1, c .scalar-type .ensures, ← c .before .before .equal-scalars .ensures, c .before .if1 .taken)) (λ c. rw (c .before .before .before .before .t .given .1, c .incompatible-operands .ensures, ← c .before .before .equal-scalars .ensures, c .before .if1 .left)) (λ c. c .incompatible-operands2 .ensures ∙ rest .at (c .before .before .args .t) (c .before .match .keys2)))
+    (tie.spec (λ c. c .match .keys1) (λ c κs. tt) (λ c κs. tt) (λ c κs. tt) (λ c κs. tt) (λ c. rw (c .before .before .before .before .t .given .1, c .scalar-type .ensures, ← c .before .before .equals .ensures, c .before .if1 .taken)) (λ c. rw (c .before .before .before .before .t .given .1, c .incompatible-operands .ensures, ← c .before .before .equals .ensures, c .before .if1 .left)) (λ c. c .incompatible-operands2 .ensures ∙ rest .at (c .before .before .args .t) (c .before .match .keys2)))
