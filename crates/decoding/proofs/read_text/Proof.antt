@@ -13,7 +13,7 @@ use Rattle.decoding.proofs.read_text.Tie as tie
 
 returns : tie.Need-returns
 unfolding readText
-returns c = (rw (lt-ltb _ _ (c .if1 .taken)), refl)
+returns c = (rw (lt-ltb 33792 _ (c .if1 .taken)), refl)
 
 returns-2 : tie.Need-returns-2
 unfolding readText

@@ -1,4 +1,5 @@
 -- `decoding::too_short`: the tests in the order of the definition. Assumes nothing.
+use Prim.Native.Nat.{_*_}
 use native.Mathlib.Omega.{arith}
 use borrow.Author.Needs.{needs}
 use borrow.Author.Tests.{lt-ltb, le-ltb}
@@ -8,7 +9,7 @@ use Rattle.decoding.proofs.too_short.Tie as tie
 
 returns : tie.Need-returns
 unfolding tooShort
-returns c = rw (← c .before .line-count .ensures, lt-ltb _ _ (c .if1 .taken))
+returns c = rw (← c .before .line-count .ensures, lt-ltb _ (16 * c .before .line-count .result) (c .if1 .taken))
 
 returns-2 : tie.Need-returns-2
 unfolding tooShort
