@@ -7,6 +7,7 @@ use ir::RowNumber;
 use ir::VectorSize;
 use operands::Based;
 use operands::Looked;
+use operands::past::ended;
 use operands::past::look_into;
 use operands::past::look_through;
 use row_access::access::access_into;
@@ -43,7 +44,7 @@ pub fn access(
             space,
             inner,
         } => access_through(ty, space, inner),
-        Based::Ended(answer) => answer,
+        Based::Ended(end) => ended(end),
     }
 }
 
@@ -65,7 +66,7 @@ pub fn access_index(
             space,
             inner,
         } => index_through(frames, s, base, index, ty, space, inner),
-        Based::Ended(answer) => answer,
+        Based::Ended(end) => ended(end),
     }
 }
 
@@ -82,7 +83,7 @@ pub fn splat(
 {
     match look_into(frames, s, answers, places, here, value) {
         Looked::Seen(inner) => splat_of(size, value, inner),
-        Looked::Ended(answer) => answer,
+        Looked::Ended(end) => ended(end),
     }
 }
 
@@ -99,7 +100,7 @@ pub fn swizzle(
 {
     match look_into(frames, s, answers, places, here, vector) {
         Looked::Seen(inner) => swizzle_of(size, vector, inner),
-        Looked::Ended(answer) => answer,
+        Looked::Ended(end) => ended(end),
     }
 }
 
@@ -120,7 +121,7 @@ pub fn load(
             space: _,
             inner,
         } => load_through(ty, inner),
-        Based::Ended(answer) => answer,
+        Based::Ended(end) => ended(end),
     }
 }
 
@@ -150,6 +151,6 @@ pub fn cooperative_load(
             space: _,
             inner,
         } => cooperative_of(columns, rows, role, pointer, inner.scalar()),
-        Based::Ended(answer) => answer,
+        Based::Ended(end) => ended(end),
     }
 }

@@ -5,6 +5,7 @@ use ir::ImageQuery;
 use ir::RowNumber;
 use ir::Scalar;
 use operands::Looked;
+use operands::past::ended;
 use operands::past::look_into;
 use row_images::gathered_of;
 use row_images::image_size_of;
@@ -28,7 +29,7 @@ fn gathered(
 {
     match look_into(frames, s, answers, places, here, image) {
         Looked::Seen(inner) => gathered_of(image, inner),
-        Looked::Ended(answer) => answer,
+        Looked::Ended(end) => ended(end),
     }
 }
 
@@ -45,7 +46,7 @@ pub fn sampled(
 {
     match look_into(frames, s, answers, places, here, image) {
         Looked::Seen(inner) => sampled_from(here, image, inner),
-        Looked::Ended(answer) => answer,
+        Looked::Ended(end) => ended(end),
     }
 }
 
@@ -79,7 +80,7 @@ fn image_size(
 {
     match look_into(frames, s, answers, places, here, image) {
         Looked::Seen(inner) => image_size_of(image, inner),
-        Looked::Ended(answer) => answer,
+        Looked::Ended(end) => ended(end),
     }
 }
 

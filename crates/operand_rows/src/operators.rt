@@ -5,6 +5,7 @@ use ir::OptionBytes;
 use ir::RowNumber;
 use ir::ScalarKind;
 use operands::Looked;
+use operands::past::ended;
 use operands::past::look_into;
 use row_operators::operators::bools_of;
 use row_operators::operators::cast_of;
@@ -28,7 +29,7 @@ pub fn bools(
 {
     match look_into(frames, s, answers, places, here, n) {
         Looked::Seen(inner) => bools_of(inner),
-        Looked::Ended(answer) => answer,
+        Looked::Ended(end) => ended(end),
     }
 }
 
@@ -45,7 +46,7 @@ pub fn logical(
 {
     match look_into(frames, s, answers, places, here, left) {
         Looked::Seen(inner) => logical_of(inner),
-        Looked::Ended(answer) => answer,
+        Looked::Ended(end) => ended(end),
     }
 }
 
@@ -63,6 +64,6 @@ pub fn cast(
 {
     match look_into(frames, s, answers, places, here, expr) {
         Looked::Seen(inner) => cast_of(kind, convert, inner),
-        Looked::Ended(answer) => answer,
+        Looked::Ended(end) => ended(end),
     }
 }

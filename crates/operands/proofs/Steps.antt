@@ -20,6 +20,7 @@ use Rattle.archive.specs.Access.{typeIn, rowIn}
 use Rattle.rule.specs.Answers.{TypeAnswer, number, resolved, Typed, row, Result, told, newer}
 use Rattle.rule.specs.Things.{Form, formIn, Shown, seeRow}
 use Rattle.rule.specs.Rule.{Rule, done, run}
+use Rattle.operands.specs.declared.Unresolved.{Unresolved}
 use Rattle.operands.specs.declared.Looked.{Looked}
 use Rattle.operands.specs.declared.Looked.the-variants as Lo
 use Rattle.operands.specs.declared.Based.{Based}
@@ -29,7 +30,7 @@ use Rattle.row_rules.specs.Images.{sampledFrom, sampled}
 use Rattle.row_rules.specs.Operators.{product, multiply}
 use Rattle.row_rules.specs.Typed.{typed}
 use Rattle.row_rules.specs.Answered.{toResult, sampledIn}
-use Rattle.operands.specs.Past.{answerIn, ruled, ruledShown, formed, lookedAt, lookedBy, lookedIn, basedOn, basedAt, basedBy, basedIn, rightBy, leftBy, rightRead, leftRead}
+use Rattle.operands.specs.Past.{answerIn, ruled, ruledShown, formed, endedBy, lookedAt, lookedBy, lookedIn, basedOn, basedAt, basedBy, basedIn, rightBy, leftBy, rightRead, leftRead}
 
 -- by what was found
 abbrev onForm : {X : Type 0} → TypeForm → (TypeInner → X) → X → X
@@ -43,12 +44,12 @@ onAnswer (An.Newer r) f = toResult (An.Newer r)
 
 abbrev onLooked : Looked → (TypeInner → Result Typed) → Result Typed
 onLooked (Lo.Seen i) f = f i
-onLooked (Lo.Ended a) f = toResult a
+onLooked (Lo.Ended u) f = endedBy u
 
 abbrev onBased : Based → (TypeInner → Result Typed) → (TypeNumber → AddressSpace → TypeInner → Result Typed) → Result Typed
 onBased (Ba.Into t) into through = into t
 onBased (Ba.Through b p t) into through = through b p t
-onBased (Ba.Ended a) into through = toResult a
+onBased (Ba.Ended u) into through = endedBy u
 
 module _ (fr : List ℕ) (s : Starts) (an pl : List ℕ) where
   abbrev ran : Rule Typed → Result Typed
@@ -106,7 +107,7 @@ module _ (fr : List ℕ) (s : Starts) (an pl : List ℕ) where
       unfolding ruled
       type-seen f q = sym (look-run n _ ∙ ap (λ (l : Looked). onLooked l (λ j. told (f j))) q)
 
-      pub type-ended : (f : TypeInner → Typed) {a : Answer} → lookedIn fr s an pl here n ≡ Lo.Ended a → toResult a ≡ ran (byType here n f)
+      pub type-ended : (f : TypeInner → Typed) {u : Unresolved} → lookedIn fr s an pl here n ≡ Lo.Ended u → endedBy u ≡ ran (byType here n f)
       unfolding ruled
       type-ended f q = sym (look-run n _ ∙ ap (λ (l : Looked). onLooked l (λ j. told (f j))) q)
 
@@ -135,7 +136,7 @@ module _ (fr : List ℕ) (s : Starts) (an pl : List ℕ) where
       pub sampled-seen : {i : TypeInner} → lookedIn fr s an pl here n ≡ Lo.Seen i → sampledIn here n i ≡ ran (sampled here n)
       sampled-seen {i} q = sym (look-run n _ ∙ ap (λ (l : Looked). onLooked l (λ j. ran (sampledFrom here n j))) q ∙ class-run i)
 
-      pub sampled-ended : {a : Answer} → lookedIn fr s an pl here n ≡ Lo.Ended a → toResult a ≡ ran (sampled here n)
+      pub sampled-ended : {u : Unresolved} → lookedIn fr s an pl here n ≡ Lo.Ended u → endedBy u ≡ ran (sampled here n)
       sampled-ended q = sym (look-run n _ ∙ ap (λ (l : Looked). onLooked l (λ j. ran (sampledFrom here n j))) q)
 
       -- OF A POINTER its base is looked into
@@ -168,7 +169,7 @@ module _ (fr : List ℕ) (s : Starts) (an pl : List ℕ) where
 
         based-looked : (l : Looked) → onLooked l (λ i. ran (throughBase here th f (formed fr s i))) ≡ given-of (basedBy fr s here l)
         based-looked (Lo.Seen i) = base-run i
-        based-looked (Lo.Ended a) = refl
+        based-looked (Lo.Ended u) = refl
 
         based-run : ran (byBase here n th f) ≡ given-of (basedIn fr s an pl here n)
         unfolding basedIn
@@ -181,7 +182,7 @@ module _ (fr : List ℕ) (s : Starts) (an pl : List ℕ) where
             → told (th b p (formed fr s t)) ≡ ran (byBase here n th f)
         base-through q = sym (based-run ∙ ap given-of q)
 
-        pub base-ended : {a : Answer} → basedIn fr s an pl here n ≡ Ba.Ended a → toResult a ≡ ran (byBase here n th f)
+        pub base-ended : {u : Unresolved} → basedIn fr s an pl here n ≡ Ba.Ended u → endedBy u ≡ ran (byBase here n th f)
         base-ended q = sym (based-run ∙ ap given-of q)
 
     -- MULTIPLY

@@ -23,6 +23,8 @@ use Rattle.rule.specs.Answers.{TypeAnswer, resolved, Typed, refused, row, Resul
 use Rattle.rule.specs.Things.{Form, memberTypes, formIn, Shown, seeIn}
 use Rattle.rule.specs.Rule.{Rule, Answers, run}
 use Rattle.type_methods.specs.Canonical.{ifPointer}
+use Rattle.operands.specs.declared.Unresolved.{Unresolved}
+use Rattle.operands.specs.declared.Unresolved.the-variants as Un
 use Rattle.operands.specs.declared.Looked.{Looked}
 use Rattle.operands.specs.declared.Looked.the-variants as Lo
 use Rattle.operands.specs.declared.Based.{Based}
@@ -52,16 +54,21 @@ ruledShown fr s answers places here none = newer (row here)
 abbrev pub formed : List ℕ → Starts → TypeInner → Form
 formed fr s t = record { inner = t; members = memberTypes fr s t }
 
+-- a row that ends with an operand's answer, which holds no type
+abbrev pub endedBy : Unresolved → Result Typed
+endedBy (Un.Refused e) = told (refused e)
+endedBy (Un.Newer r) = newer (row r)
+
 -- AN OPERAND IS READ AND ITS TYPE LOOKED INTO: the form, or the answer that the row ends with
 
 abbrev pub lookedAt : RowNumber → TypeForm → Looked
 lookedAt here (Tf.Known i) = Lo.Seen i
-lookedAt here Tf.Unknown = Lo.Ended (An.Newer here)
+lookedAt here Tf.Unknown = Lo.Ended (Un.Newer here)
 
 abbrev pub lookedBy : List ℕ → Starts → RowNumber → Answer → Looked
 lookedBy fr s here (An.Resolved t) = lookedAt here (formIn fr s (resolved t))
-lookedBy fr s here (An.Refused e) = Lo.Ended (An.Refused e)
-lookedBy fr s here (An.Newer r) = Lo.Ended (An.Newer r)
+lookedBy fr s here (An.Refused e) = Lo.Ended (Un.Refused e)
+lookedBy fr s here (An.Newer r) = Lo.Ended (Un.Newer r)
 
 unfoldable pub lookedIn : List ℕ → Starts → List ℕ → List ℕ → RowNumber → RowNumber → Looked
 lookedIn fr s answers places here n = lookedBy fr s here (answerIn answers places n)
@@ -70,14 +77,14 @@ lookedIn fr s answers places here n = lookedBy fr s here (answerIn answers place
 
 abbrev pub basedOn : RowNumber → TypeNumber → AddressSpace → TypeForm → Based
 basedOn here b p (Tf.Known t) = Ba.Through b p t
-basedOn here b p Tf.Unknown = Ba.Ended (An.Newer here)
+basedOn here b p Tf.Unknown = Ba.Ended (Un.Newer here)
 
 abbrev pub basedAt : List ℕ → Starts → RowNumber → TypeInner → Based
 basedAt fr s here t = ifPointer t (λ b p. basedOn here b p (typeIn fr s b)) (Ba.Into t)
 
 abbrev pub basedBy : List ℕ → Starts → RowNumber → Looked → Based
 basedBy fr s here (Lo.Seen i) = basedAt fr s here i
-basedBy fr s here (Lo.Ended a) = Ba.Ended a
+basedBy fr s here (Lo.Ended u) = Ba.Ended u
 
 unfoldable pub basedIn : List ℕ → Starts → List ℕ → List ℕ → RowNumber → RowNumber → Based
 basedIn fr s answers places here n = basedBy fr s here (lookedIn fr s answers places here n)

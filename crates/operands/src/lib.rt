@@ -1,15 +1,22 @@
 // Earlier answers, read from the answer buffer, and the types of operands, looked into.
 pub mod past;
 
-use answers::Answer;
+use answers::Refusal;
 use ir::AddressSpace;
+use ir::RowNumber;
 use ir::TypeInner;
 use ir::TypeNumber;
+
+// An answer that holds no type.
+pub enum Unresolved {
+    Refused(Refusal),
+    Newer { row: RowNumber },
+}
 
 // An operand that was read and looked into: the inner form of its type, or the answer that the row ends with.
 pub enum Looked {
     Seen(TypeInner),
-    Ended(Answer),
+    Ended(Unresolved),
 }
 
 // The same where of a Pointer the base is looked into too: a form that is no Pointer, or a Pointer's base, its space and the base's form.
@@ -20,5 +27,5 @@ pub enum Based {
         space: AddressSpace,
         inner: TypeInner,
     },
-    Ended(Answer),
+    Ended(Unresolved),
 }

@@ -1,6 +1,7 @@
 // What a rule reads: earlier answers, and the types of operands.
 use super::Based;
 use super::Looked;
+use super::Unresolved;
 use again::answer;
 use answers::Answer;
 use answers::Refusal;
@@ -14,7 +15,8 @@ use ir::TypeForm;
 use ir::TypeInner;
 use ir::TypeNumber;
 ghost use mathlib.Core.Path.{_≡_};
-ghost use Rattle.operands.specs.Past.{answerIn, lookedAt, lookedIn, basedOn, basedAt, basedIn};
+ghost use Rattle.row_rules.specs.Answered.{toResult};
+ghost use Rattle.operands.specs.Past.{answerIn, endedBy, lookedAt, lookedIn, basedOn, basedAt, basedIn};
 
 // The answer of row n, at the frame of the answer buffer that `places` has for it; of a row that is not typed yet the fixed refusal.
 pub fn past(answers: &[u8], places: &[u16], n: RowNumber) -> Answer
@@ -29,12 +31,22 @@ pub fn past(answers: &[u8], places: &[u16], n: RowNumber) -> Answer
     }
 }
 
+// The answer of a row that ends there.
+pub fn ended(end: Unresolved) -> Answer
+    ensures { λ r. ⌜ toResult r ≡ endedBy end ⌝ }
+{
+    match end {
+        Unresolved::Refused(why) => Answer::Refused(why),
+        Unresolved::Newer { row } => Answer::Newer { row },
+    }
+}
+
 fn look_at(here: RowNumber, form: TypeForm) -> Looked
     ensures { λ r. ⌜ r ≡ lookedAt here form ⌝ }
 {
     match form {
         TypeForm::Known(inner) => Looked::Seen(inner),
-        TypeForm::Unknown => Looked::Ended(Answer::Newer { row: here }),
+        TypeForm::Unknown => Looked::Ended(Unresolved::Newer { row: here }),
     }
 }
 
@@ -49,11 +61,10 @@ pub fn look_into(
 ) -> Looked
     ensures { λ r. ⌜ r ≡ lookedIn (now (frames .entry)) s (now (answers .entry)) (now (places .entry)) here n ⌝ }
 {
-    let answer = past(answers, places, n);
-    match answer {
+    match past(answers, places, n) {
         Answer::Resolved(ty) => look_at(here, form_of(frames, s, ty)),
-        Answer::Refused(_) => Looked::Ended(answer),
-        Answer::Newer { row: _ } => Looked::Ended(answer),
+        Answer::Refused(why) => Looked::Ended(Unresolved::Refused(why)),
+        Answer::Newer { row } => Looked::Ended(Unresolved::Newer { row }),
     }
 }
 
@@ -62,7 +73,7 @@ fn base_at(here: RowNumber, base: TypeNumber, space: AddressSpace, form: TypeFor
 {
     match form {
         TypeForm::Known(inner) => Based::Through { base, space, inner },
-        TypeForm::Unknown => Based::Ended(Answer::Newer { row: here }),
+        TypeForm::Unknown => Based::Ended(Unresolved::Newer { row: here }),
     }
 }
 
@@ -88,6 +99,6 @@ pub fn look_through(
 {
     match look_into(frames, s, answers, places, here, n) {
         Looked::Seen(inner) => into_base(frames, s, here, inner),
-        Looked::Ended(answer) => Based::Ended(answer),
+        Looked::Ended(end) => Based::Ended(end),
     }
 }

@@ -8,4 +8,4 @@ use Rattle.access_rows.proofs.access.Tie as tie
 pub access-spec : {M : Type 1} → statement M
 access-spec =
     tie.close
-    (tie.spec (λ c κs. tt) (λ c. c .match .keys1) (λ c κs. tt) (λ c. c .match .keys2) (λ c κs. tt) (λ c. c .match .keys3) (λ c. let g = c .before .before .before .before .before .before .before .before .args in c .access-into .ensures ∙ base-into (g .frames .now) (g .s) (g .answers .now) (g .places .now) (g .here) (g .base) (λ b p x. accessThrough b p (x .inner)) (λ x. accessInto (g .base) (x .inner)) (sym (c .before .before .before .before .look-through .ensures) ∙ c .before .before .t .given .1)) (λ c. let g = c .before .before .before .before .before .before .before .before .args in c .access-through .ensures ∙ base-through (g .frames .now) (g .s) (g .answers .now) (g .places .now) (g .here) (g .base) (λ b p x. accessThrough b p (x .inner)) (λ x. accessInto (g .base) (x .inner)) (sym (c .before .before .before .before .look-through .ensures) ∙ c .before .before .ty .given .1)) (λ c. let g = c .before .before .before .before .before .before .before .args in base-ended (g .frames .now) (g .s) (g .answers .now) (g .places .now) (g .here) (g .base) (λ b p x. accessThrough b p (x .inner)) (λ x. accessInto (g .base) (x .inner)) (sym (c .before .before .before .look-through .ensures) ∙ c .before .answer .given .1)))
+    (tie.spec (λ c κs. tt) (λ c. c .match .keys1) (λ c κs. tt) (λ c. c .match .keys2) (λ c κs. tt) (λ c. c .match .keys3) (λ c κs. tt) (λ c. let g = c .before .before .before .before .before .before .before .before .args in c .access-into .ensures ∙ base-into (g .frames .now) (g .s) (g .answers .now) (g .places .now) (g .here) (g .base) (λ b p x. accessThrough b p (x .inner)) (λ x. accessInto (g .base) (x .inner)) (sym (c .before .before .before .before .look-through .ensures) ∙ c .before .before .t .given .1)) (λ c. let g = c .before .before .before .before .before .before .before .before .args in c .access-through .ensures ∙ base-through (g .frames .now) (g .s) (g .answers .now) (g .places .now) (g .here) (g .base) (λ b p x. accessThrough b p (x .inner)) (λ x. accessInto (g .base) (x .inner)) (sym (c .before .before .before .before .look-through .ensures) ∙ c .before .before .ty .given .1)) (λ c. let g = c .before .before .before .before .before .before .before .before .args in c .ended .ensures ∙ base-ended (g .frames .now) (g .s) (g .answers .now) (g .places .now) (g .here) (g .base) (λ b p x. accessThrough b p (x .inner)) (λ x. accessInto (g .base) (x .inner)) (sym (c .before .before .before .before .look-through .ensures) ∙ c .before .before .end .given .1)))

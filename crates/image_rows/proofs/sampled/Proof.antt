@@ -7,4 +7,4 @@ use Rattle.image_rows.proofs.sampled.Tie as tie
 pub sampled-spec : {M : Type 1} → statement M
 sampled-spec =
     tie.close
-    (tie.spec (λ c κs. tt) (λ c. c .match .keys1) (λ c κs. tt) (λ c. c .match .keys2) (λ c. let g = c .before .before .before .before .before .before .before .before .args in c .sampled-from .ensures ∙ sampled-seen (g .frames .now) (g .s) (g .answers .now) (g .places .now) (g .here) (g .image) (sym (c .before .before .before .before .look-into .ensures) ∙ c .before .before .inner .given .1)) (λ c. let g = c .before .before .before .before .before .before .before .args in sampled-ended (g .frames .now) (g .s) (g .answers .now) (g .places .now) (g .here) (g .image) (sym (c .before .before .before .look-into .ensures) ∙ c .before .answer .given .1)))
+    (tie.spec (λ c κs. tt) (λ c. c .match .keys1) (λ c κs. tt) (λ c. c .match .keys2) (λ c κs. tt) (λ c. let g = c .before .before .before .before .before .before .before .before .args in c .sampled-from .ensures ∙ sampled-seen (g .frames .now) (g .s) (g .answers .now) (g .places .now) (g .here) (g .image) (sym (c .before .before .before .before .look-into .ensures) ∙ c .before .before .inner .given .1)) (λ c. let g = c .before .before .before .before .before .before .before .before .args in c .ended .ensures ∙ sampled-ended (g .frames .now) (g .s) (g .answers .now) (g .places .now) (g .here) (g .image) (sym (c .before .before .before .before .look-into .ensures) ∙ c .before .before .end .given .1)))

@@ -1,21 +1,20 @@
 -- `look_into`: by the answer that the operand has. Assumes nothing.
 use mathlib.Core.Path.{sym, ap, _∙_}
-use Rattle.operands.specs.declared.Looked.the-variants as Lo
 use Rattle.operands.specs.Past.{lookedBy, lookedIn}
 use Rattle.operands.proofs.past.look_into.Statement.{statement}
 use Rattle.operands.proofs.past.look_into.Tie as tie
 
 returns : tie.Need-returns
 unfolding lookedIn
-returns c = let g = c .before .before .before .before .before .before .before .before .before .args in rw (c .look-at .ensures, c .before .form-of .ensures) (sym (ap (lookedBy (g .frames .now) (g .s) (g .here)) (sym (c .before .before .before .before .before .past .ensures) ∙ c .before .before .before .answer .given .1)))
+returns c = let g = c .before .before .before .before .before .before .before .before .before .args in rw (c .look-at .ensures, c .before .form-of .ensures) (sym (ap (lookedBy (g .frames .now) (g .s) (g .here)) (sym (c .before .before .before .before .before .past .ensures) ∙ c .before .before .before .ty .given .1)))
 
 returns-2 : tie.Need-returns-2
 unfolding lookedIn
-returns-2 c = let g = c .before .before .before .before .before .before .args in ap (Lo.Ended) (c .enum-told .given .1) ∙ sym (ap (lookedBy (g .frames .now) (g .s) (g .here)) (sym (c .before .before .past .ensures) ∙ c .enum-told .given .1))
+returns-2 c = let g = c .before .before .before .before .before .before .before .args in sym (ap (lookedBy (g .frames .now) (g .s) (g .here)) (sym (c .before .before .before .past .ensures) ∙ c .before .why .given .1))
 
 returns-3 : tie.Need-returns-3
 unfolding lookedIn
-returns-3 c = let g = c .before .before .before .before .before .before .args in ap (Lo.Ended) (c .enum-told2 .given .1) ∙ sym (ap (lookedBy (g .frames .now) (g .s) (g .here)) (sym (c .before .before .past .ensures) ∙ c .enum-told2 .given .1))
+returns-3 c = let g = c .before .before .before .before .before .before .before .args in sym (ap (lookedBy (g .frames .now) (g .s) (g .here)) (sym (c .before .before .before .past .ensures) ∙ c .before .row .given .1))
 
 pub look-into-spec : {M : Type 1} → statement M
 look-into-spec =

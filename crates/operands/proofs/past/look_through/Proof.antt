@@ -10,7 +10,7 @@ returns c = let g = c .before .before .before .before .before .before .before .b
 
 returns-2 : tie.Need-returns-2
 unfolding basedIn
-returns-2 c = let g = c .before .before .before .before .before .before .before .args in sym (ap (basedBy (g .frames .now) (g .s) (g .here)) (sym (c .before .before .before .look-into .ensures) ∙ c .before .answer .given .1))
+returns-2 c = let g = c .before .before .before .before .before .before .before .args in sym (ap (basedBy (g .frames .now) (g .s) (g .here)) (sym (c .before .before .before .look-into .ensures) ∙ c .before .end .given .1))
 
 pub look-through-spec : {M : Type 1} → statement M
 look-through-spec =
