@@ -65,16 +65,16 @@ fn item_fits(kind: ItemKind, f: Frame) -> bool
 {
     match kind {
         ItemKind::Unknown => true,
-        ItemKind::Constant => zero_from_4(f),
-        ItemKind::Override => zero_from_4(f),
+        ItemKind::Constant
+        | ItemKind::Override
+        | ItemKind::FunctionArgument
+        | ItemKind::LocalVariable
+        | ItemKind::RayIntersection
+        | ItemKind::RayVertexReturn => zero_from_4(f),
         ItemKind::GlobalVariable => space_fits(f.b6, f.b7)
             & ((f.b4 == 0) & ((f.b5 == 0) & (zero_from_8(f)))),
-        ItemKind::FunctionArgument => zero_from_4(f),
-        ItemKind::LocalVariable => zero_from_4(f),
         ItemKind::Function => option_fits(f.b4, f.named())
             & ((f.b5 == 0) & ((f.b6 == 0) & ((f.b7 == 0) & (zero_from_8(f))))),
-        ItemKind::RayIntersection => zero_from_4(f),
-        ItemKind::RayVertexReturn => zero_from_4(f),
     }
 }
 
@@ -82,16 +82,14 @@ fn row_fits(kind: RowKind, f: Frame) -> bool
     ensures { λ r. ⌜ r ≡ fitsAll (rowLayout kind) f ⌝ }
 {
     match kind {
-        RowKind::Unknown => true,
+        RowKind::Unknown | RowKind::Math => true,
         RowKind::Literal => (f.b6 < 12)
             & ((f.b2 == 0)
                 & ((f.b3 == 0) & ((f.b4 == 0) & ((f.b5 == 0) & ((f.b7 == 0) & (zero_from_8(f))))))),
         RowKind::Compose => (f.b6 == 0) & ((f.b7 == 0) & (zero_8_11(f))),
         RowKind::AccessIndex => (f.b4 == 0)
             & ((f.b5 == 0) & ((f.b6 == 0) & ((f.b7 == 0) & (zero_8_11(f))))),
-        RowKind::Splat => size_fits(f.b6)
-            & ((f.b4 == 0) & ((f.b5 == 0) & ((f.b7 == 0) & (zero_from_8(f))))),
-        RowKind::Swizzle => size_fits(f.b6)
+        RowKind::Splat | RowKind::Swizzle => size_fits(f.b6)
             & ((f.b4 == 0) & ((f.b5 == 0) & ((f.b7 == 0) & (zero_from_8(f))))),
         RowKind::FunctionArgument => (f.b2 == 0)
             & ((f.b3 == 0)
@@ -103,17 +101,16 @@ fn row_fits(kind: RowKind, f: Frame) -> bool
         RowKind::Binary => (f.b6 < 18) & ((f.b7 == 0) & (zero_from_8(f))),
         RowKind::Relational => relational_fits(f)
             & ((f.b4 == 0) & ((f.b5 == 0) & ((f.b7 == 0) & (zero_from_8(f))))),
-        RowKind::Math => true,
         RowKind::As => (f.b6 < 6)
             & (option_fits(f.b7, f.b8 as u16)
                 & ((f.b4 == 0)
                     & ((f.b5 == 0)
                         & ((f.b9 == 0) & ((f.b10 == 0) & ((f.b11 == 0) & (zero_from_12(f)))))))),
-        RowKind::ArrayLength => no_field(f),
-        RowKind::RayQueryVertexPositions => no_field(f),
-        RowKind::RayQueryProceedResult => no_field(f),
-        RowKind::RayQueryGetIntersection => no_field(f),
-        RowKind::SubgroupBallotResult => no_field(f),
+        RowKind::ArrayLength
+        | RowKind::RayQueryVertexPositions
+        | RowKind::RayQueryProceedResult
+        | RowKind::RayQueryGetIntersection
+        | RowKind::SubgroupBallotResult => no_field(f),
         RowKind::CooperativeLoad => cooperative_fits(f.b6)
             & (cooperative_fits(f.b7)
                 & ((f.b8 < 3)

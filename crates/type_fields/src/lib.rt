@@ -102,7 +102,7 @@ pub fn type_fits(kind: TypeKind, f: Frame) -> bool
 {
     match kind {
         TypeKind::Unknown => true,
-        TypeKind::Scalar => (f.b4 < 6)
+        TypeKind::Scalar | TypeKind::Atomic => (f.b4 < 6)
             & ((f.b2 == 0) & ((f.b3 == 0) & ((f.b6 == 0) & ((f.b7 == 0) & (zero_from_8(f)))))),
         TypeKind::Vector => size_fits(f.b2)
             & ((f.b4 < 6) & ((f.b3 == 0) & ((f.b6 == 0) & ((f.b7 == 0) & (zero_from_8(f)))))),
@@ -111,8 +111,6 @@ pub fn type_fits(kind: TypeKind, f: Frame) -> bool
         TypeKind::CooperativeMatrix => cooperative_fits(f.b2)
             & (cooperative_fits(f.b3)
                 & ((f.b4 < 6) & ((f.b6 < 3) & ((f.b7 == 0) & (zero_from_8(f)))))),
-        TypeKind::Atomic => (f.b4 < 6)
-            & ((f.b2 == 0) & ((f.b3 == 0) & ((f.b6 == 0) & ((f.b7 == 0) & (zero_from_8(f)))))),
         TypeKind::Pointer => space_fits(f.b6, f.b7)
             & ((f.b4 == 0) & ((f.b5 == 0) & (zero_from_8(f)))),
         TypeKind::ValuePointer => option_size_fits(f.b2)
@@ -121,9 +119,8 @@ pub fn type_fits(kind: TypeKind, f: Frame) -> bool
             & ((f.b5 == 0) & ((f.b6 == 0) & ((f.b7 == 0)))),
         TypeKind::Struct => (f.b6 == 0) & ((f.b7 == 0) & (zero_8_11(f))),
         TypeKind::Image => dimension_fits(f.b2) & ((f.b3 < 2) & (class_fits(f) & (zero_from_8(f)))),
-        TypeKind::Sampler => (f.b2 < 2) & ((f.b3 == 0) & (zero_from_4(f))),
-        TypeKind::AccelerationStructure => (f.b2 < 2) & ((f.b3 == 0) & (zero_from_4(f))),
-        TypeKind::RayQuery => (f.b2 < 2) & ((f.b3 == 0) & (zero_from_4(f))),
+        TypeKind::Sampler | TypeKind::AccelerationStructure | TypeKind::RayQuery => (f.b2 < 2)
+            & ((f.b3 == 0) & (zero_from_4(f))),
         TypeKind::BindingArray => array_size_fits(f.b4, f.third())
             & ((f.b5 == 0) & ((f.b6 == 0) & ((f.b7 == 0) & (zero_from_12(f))))),
     }
