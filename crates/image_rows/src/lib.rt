@@ -98,8 +98,8 @@ pub fn image_query(
 {
     match query {
         ImageQuery::Size => image_size(frames, s, answers, places, here, image),
-        ImageQuery::NumLevels => scalar_type(Scalar::U32),
-        ImageQuery::NumLayers => scalar_type(Scalar::U32),
-        ImageQuery::NumSamples => scalar_type(Scalar::U32),
+        ImageQuery::NumLevels | ImageQuery::NumLayers | ImageQuery::NumSamples => scalar_type(
+            Scalar::U32,
+        ),
     }
 }

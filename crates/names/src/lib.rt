@@ -100,9 +100,7 @@ fn query_names(n: RowNumber, image: RowNumber, query: ImageQuery) -> bool
 {
     match query {
         ImageQuery::Size => is_earlier(n, image),
-        ImageQuery::NumLevels => true,
-        ImageQuery::NumLayers => true,
-        ImageQuery::NumSamples => true,
+        ImageQuery::NumLevels | ImageQuery::NumLayers | ImageQuery::NumSamples => true,
     }
 }
 
@@ -110,10 +108,8 @@ fn relational_names(n: RowNumber, fun: RelationalFunction, argument: RowNumber) 
     ensures { λ r. ⌜ r ≡ relationalNames n fun argument ⌝ }
 {
     match fun {
-        RelationalFunction::All => true,
-        RelationalFunction::Any => true,
-        RelationalFunction::IsNan => is_earlier(n, argument),
-        RelationalFunction::IsInf => is_earlier(n, argument),
+        RelationalFunction::All | RelationalFunction::Any => true,
+        RelationalFunction::IsNan | RelationalFunction::IsInf => is_earlier(n, argument),
     }
 }
 

@@ -1,4 +1,9 @@
--- `image_query`: each query has its rule. Assumes nothing.
+-- `image_query`: each query has its rule; the arm of several queries query by query. Assumes nothing.
+use mathlib.Core.Path.{refl, sym, ap, _∙_}
+use mathlib.Core.List.{[], _∷_}
+use Rattle.ir.proofs.Keys.{of-image-queries}
+use Rattle.row_rules.specs.Images.{imageQuery}
+use Rattle.operands.specs.Past.{ruled}
 use Rattle.operands.proofs.Steps.{done-run}
 use Rattle.image_rows.proofs.image_query.Statement.{statement}
 use Rattle.image_rows.proofs.image_query.Tie as tie
@@ -6,4 +11,4 @@ use Rattle.image_rows.proofs.image_query.Tie as tie
 pub image-query-spec : {M : Type 1} → statement M
 image-query-spec =
     tie.close
-    (tie.spec (λ c. c .match .keys1) (λ c κs. tt) (λ c. c .match .keys2) (λ c κs. tt) (λ c. c .match .keys3) (λ c κs. tt) (λ c. c .match .keys4) (λ c κs. tt) (λ c. rw (c .before .enum-told .given .1, c .image-size .ensures)) (λ c. rw (c .before .enum-told2 .given .1, c .scalar-type .ensures, done-run)) (λ c. rw (c .before .enum-told3 .given .1, c .scalar-type2 .ensures, done-run)) (λ c. rw (c .before .enum-told4 .given .1, c .scalar-type3 .ensures, done-run)))
+    (tie.spec (λ c. c .match .keys1) (λ c κs. tt) (λ c κs. tt) (λ c. rw (c .before .enum-told .given .1, c .image-size .ensures)) (λ c. let a = c .before .before .before .before .before .args in c .scalar-type .ensures ∙ sym (done-run (a .frames .now) (a .s) (a .answers .now) (a .places .now) _) ∙ ap (ruled (a .frames .now) (a .s) (a .answers .now) (a .places .now)) (of-image-queries (imageQuery (a .here) (a .image)) (1 ∷ 2 ∷ 3 ∷ []) refl (a .query) (c .before .match .keys2))))

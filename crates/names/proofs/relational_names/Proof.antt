@@ -1,8 +1,12 @@
--- `relational_names`: each arm knows its case, and what its calls ensure. Assumes nothing.
+-- `relational_names`: an arm of two functions function by function. Assumes nothing.
+use mathlib.Core.Path.{refl, _∙_}
+use mathlib.Core.List.{[], _∷_}
+use Rattle.ir.proofs.Keys.{of-relational-functions}
+use Rattle.archive.specs.Names.{relationalNames}
 use Rattle.names.proofs.relational_names.Statement.{statement}
 use Rattle.names.proofs.relational_names.Tie as tie
 
 pub relational-names-spec : {M : Type 1} → statement M
 relational-names-spec =
     tie.close
-    (tie.spec (λ c. c .match .keys1) (λ c. c .match .keys2) (λ c. c .match .keys3) (λ c κs. tt) (λ c. c .match .keys4) (λ c κs. tt) (λ c. rw (c .enum-told .given .1)) (λ c. rw (c .enum-told2 .given .1)) (λ c. rw (c .before .enum-told3 .given .1, c .is-earlier .ensures)) (λ c. rw (c .before .enum-told4 .given .1, c .is-earlier2 .ensures)))
+    (tie.spec (λ c κs. tt) (λ c. let a = c .before .args in of-relational-functions (λ g. relationalNames (a .n) g (a .argument)) (0 ∷ 1 ∷ []) refl (a .fun) (c .match .keys1)) (λ c. let a = c .before .before .args in c .is-earlier .ensures ∙ of-relational-functions (λ g. relationalNames (a .n) g (a .argument)) (2 ∷ 3 ∷ []) refl (a .fun) (c .before .match .keys2)))
