@@ -1,8 +1,6 @@
 -- Document 01, "Cases", P: worked cases, each the whole text and the whole output, written by hand from the document. Those after the first ten are more.
 use Prim.Native.Nat.{ℕ, _+_, _*_, _-_}
-use Prim.Native.Char.{code}
 use Prim.Native.String.{String}
-use Prim.Native.String as S
 use mathlib.Core.Bool.{cond}
 use mathlib.Core.List.{List, [], _∷_, _++_}
 use lib.Dec.{ltb}
@@ -25,17 +23,8 @@ use Rattle.ir.specs.declared.VectorSize.the-variants as Vs
 use Rattle.frames.specs.declared.Frame.{Frame}
 use Rattle.frames.specs.Bytes.{frameAt}
 use Rattle.rule.specs.Answers.{number, given, told, count}
+use Rattle.words.specs.Words.{characters, lines}
 use Rattle.reader.specs.Typing.{RowGiven, VerdictGiven, noCompose}
-
--- the characters of a text, by their numbers
-abbrev bytes : String → List ℕ
-bytes S.[] = []
-bytes (S._∷_ c s) = code c ∷ bytes s
-
--- lines, each with its line feed
-abbrev lines : List String → List ℕ
-lines [] = []
-lines (s ∷ ss) = bytes s ++ 10 ∷ lines ss
 
 abbrev digit : ℕ → ℕ
 digit c = cond (ltb c 97) (c - 48) (c - 87)
@@ -49,7 +38,7 @@ paired (c ∷ d ∷ s) = (16 * digit c + digit d) ∷ paired s
 -- the frames that such lines stand for
 abbrev frames : List String → List ℕ
 frames [] = []
-frames (s ∷ ss) = paired (bytes s) ++ frames ss
+frames (s ∷ ss) = paired (characters s) ++ frames ss
 
 -- the frame that one such line stands for
 abbrev frame : String → Frame

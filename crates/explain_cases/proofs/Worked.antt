@@ -23,12 +23,12 @@ use Rattle.compose.specs.Verdict.{eachPart, vectorParts}
 use Rattle.answering.specs.Outputs.{outputs, framesBytes}
 use Rattle.reader.specs.File.{readFile}
 use Rattle.words.specs.Words as W
-use Rattle.words.specs.Words.{wordBytes}
+use Rattle.words.specs.Words.{wordBytes, lines}
 use Rattle.words.specs.Lines.{digits, pieceBytes, spelled}
 use Rattle.type_spelling.specs.Types.{picked, names, named, scalarWords, around, vector, brief, within, pointer, array, cooperative, className, arrayedName, image, whole}
 use Rattle.spelling.specs.Answers.{manner, refusal, judged, said, shown, ending, lineOf, faultWords}
 use Rattle.explaining.specs.Explained.{joined, fitting, nextRow, rowAt, linesOf, explained, explainedIn}
-use Rattle.explain_cases.specs.Table.{lines, Case, table}
+use Rattle.explain_cases.specs.Table.{Case, table}
 
 -- what is written, and how many bytes
 abbrev given : Case → List ℕ × ℕ

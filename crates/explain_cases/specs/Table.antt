@@ -1,14 +1,7 @@
 -- Small texts and their lines for people, each the whole text and all of its lines, written by hand (docs/EXPLAIN.md).
 use Prim.Native.Nat.{ℕ}
 use Prim.Native.String.{String}
-use mathlib.Core.List.{List, [], _∷_, _++_}
-use lib.ListN.{length}
-use Rattle.words.specs.Words.{characters}
-
--- lines, each with its line feed
-abbrev pub lines : List String → List ℕ
-lines [] = []
-lines (s ∷ ss) = characters s ++ 10 ∷ lines ss
+use mathlib.Core.List.{List, [], _∷_}
 
 -- a text, an output buffer's length, and what of the lines is written into it
 pub record Case : Type 0 where

@@ -4,13 +4,18 @@ use Prim.Native.Nat.{ℕ}
 use Prim.Native.Char.{code}
 use Prim.Native.String.{String}
 use Prim.Native.String as S
-use mathlib.Core.List.{List, [], _∷_}
+use mathlib.Core.List.{List, [], _∷_, _++_}
 use lib.ListN.{getD}
 
 -- the characters of a word, by their numbers
 abbrev pub characters : String → List ℕ
 characters S.[] = []
 characters (S._∷_ c s) = code c ∷ characters s
+
+-- lines, each with its line feed
+abbrev pub lines : List String → List ℕ
+lines [] = []
+lines (s ∷ ss) = characters s ++ 10 ∷ lines ss
 
 -- THE WORDS
 unfoldable pub table : List String
