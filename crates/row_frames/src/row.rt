@@ -24,13 +24,10 @@ use frames::Frame;
 use frames::no_frame;
 use frames::put_frame;
 use ir::AddressSpace;
-use ir::BinaryOperator;
 use ir::CooperativeRole;
 use ir::CooperativeSize;
-use ir::ImageQuery;
 use ir::ItemNumber;
 use ir::Literal;
-use ir::RelationalFunction;
 use ir::RowNumber;
 use ir::Scalar;
 use ir::ScalarKind;
@@ -138,16 +135,12 @@ fn query(
 ) -> Frame
     ensures { λ r. ⌜ Quick r (ruled (now (frames .entry)) s (now (answers .entry)) (now (places .entry)) (imageQuery here n (imageQueryOf asked))) ⌝ }
 {
-    match ImageQuery::from_number(asked) {
-        ImageQuery::Size => image_size(frames, s, answers, places, here, n),
-        ImageQuery::NumLevels | ImageQuery::NumLayers | ImageQuery::NumSamples => scalar_frame(
-            1,
-            0,
-            0,
-            Scalar::U32,
-            0,
-            0,
-        ),
+    match asked {
+        0 => image_size(frames, s, answers, places, here, n),
+        1 => scalar_frame(1, 0, 0, Scalar::U32, 0, 0),
+        2 => scalar_frame(1, 0, 0, Scalar::U32, 0, 0),
+        3 => scalar_frame(1, 0, 0, Scalar::U32, 0, 0),
+        _ => no_frame(),
     }
 }
 
@@ -163,23 +156,12 @@ fn relational(
 ) -> Frame
     ensures { λ r. ⌜ Quick r (ruled (now (frames .entry)) s (now (answers .entry)) (now (places .entry)) (relational here (relationalFunctionOf fun) n)) ⌝ }
 {
-    match RelationalFunction::from_number(fun) {
-        RelationalFunction::All | RelationalFunction::Any => scalar_frame(
-            1,
-            0,
-            0,
-            Scalar::BOOL,
-            0,
-            0,
-        ),
-        RelationalFunction::IsNan | RelationalFunction::IsInf => bools(
-            frames,
-            s,
-            answers,
-            places,
-            here,
-            n,
-        ),
+    match fun {
+        0 => scalar_frame(1, 0, 0, Scalar::BOOL, 0, 0),
+        1 => scalar_frame(1, 0, 0, Scalar::BOOL, 0, 0),
+        2 => bools(frames, s, answers, places, here, n),
+        3 => bools(frames, s, answers, places, here, n),
+        _ => no_frame(),
     }
 }
 
@@ -196,31 +178,26 @@ fn binary(
 ) -> Frame
     ensures { λ r. ⌜ Quick r (ruled (now (frames .entry)) s (now (answers .entry)) (now (places .entry)) (binary here (binaryOperatorOf op) left right)) ⌝ }
 {
-    match BinaryOperator::from_number(op) {
-        BinaryOperator::Add
-        | BinaryOperator::Subtract
-        | BinaryOperator::Divide
-        | BinaryOperator::Modulo
-        | BinaryOperator::And
-        | BinaryOperator::ExclusiveOr
-        | BinaryOperator::InclusiveOr
-        | BinaryOperator::ShiftLeft
-        | BinaryOperator::ShiftRight => same_as(answers, places, left),
-        BinaryOperator::Multiply => multiply(frames, s, answers, places, here, left, right),
-        BinaryOperator::Equal
-        | BinaryOperator::NotEqual
-        | BinaryOperator::Less
-        | BinaryOperator::LessEqual
-        | BinaryOperator::Greater
-        | BinaryOperator::GreaterEqual => bools(frames, s, answers, places, here, left),
-        BinaryOperator::LogicalAnd | BinaryOperator::LogicalOr => logical(
-            frames,
-            s,
-            answers,
-            places,
-            here,
-            left,
-        ),
+    match op {
+        0 => same_as(answers, places, left),
+        1 => same_as(answers, places, left),
+        2 => multiply(frames, s, answers, places, here, left, right),
+        3 => same_as(answers, places, left),
+        4 => same_as(answers, places, left),
+        5 => bools(frames, s, answers, places, here, left),
+        6 => bools(frames, s, answers, places, here, left),
+        7 => bools(frames, s, answers, places, here, left),
+        8 => bools(frames, s, answers, places, here, left),
+        9 => bools(frames, s, answers, places, here, left),
+        10 => bools(frames, s, answers, places, here, left),
+        11 => same_as(answers, places, left),
+        12 => same_as(answers, places, left),
+        13 => same_as(answers, places, left),
+        14 => logical(frames, s, answers, places, here, left),
+        15 => logical(frames, s, answers, places, here, left),
+        16 => same_as(answers, places, left),
+        17 => same_as(answers, places, left),
+        _ => no_frame(),
     }
 }
 
