@@ -6,7 +6,7 @@ use mathlib.Core.List.{List, [], _∷_, map}
 use mathlib.Core.Logic.{_⊎_, inl, inr}
 use types.Run.{OneOf}
 use denote.Enum.Declared.{tagOf}
-use Rattle.ir.specs.Numbers.{rowKindOf, typeKindOf, itemKindOf, binaryOperatorOf, relationalFunctionOf, imageQueryOf}
+use Rattle.ir.specs.Numbers.{rowKindOf, typeKindOf, itemKindOf, relationalFunctionOf, imageQueryOf}
 use Rattle.ir.specs.declared.RowKind.{RowKind}
 use Rattle.ir.specs.declared.RowKind.the-variants as Rk
 use Rattle.ir.proofs.RowKind as RowKind′
@@ -16,9 +16,6 @@ use Rattle.ir.proofs.TypeKind as TypeKind′
 use Rattle.ir.specs.declared.ItemKind.{ItemKind}
 use Rattle.ir.specs.declared.ItemKind.the-variants as Ik
 use Rattle.ir.proofs.ItemKind as ItemKind′
-use Rattle.ir.specs.declared.BinaryOperator.{BinaryOperator}
-use Rattle.ir.specs.declared.BinaryOperator.the-variants as Bo
-use Rattle.ir.proofs.BinaryOperator as BinaryOperator′
 use Rattle.ir.specs.declared.RelationalFunction.{RelationalFunction}
 use Rattle.ir.specs.declared.RelationalFunction.the-variants as Rf
 use Rattle.ir.proofs.RelationalFunction as RelationalFunction′
@@ -116,29 +113,6 @@ itemKind-tag Ik.RayVertexReturn = refl
 
 pub of-item-kinds : {B : Type 0} (f : ItemKind → B) {b : B} (ks : List ℕ) → map (λ (k : ℕ). f (itemKindOf k)) ks ≡ map (λ (k : ℕ). b) ks → (a : ItemKind) → OneOf ks (tagOf ItemKind′.the-type a) → b ≡ f a
 of-item-kinds f ks e a h = of-keys (λ (k : ℕ). f (itemKindOf k)) ks e (tagOf ItemKind′.the-type a) h ∙ ap f (itemKind-tag a)
-
-binaryOperator-tag : (a : BinaryOperator) → binaryOperatorOf (tagOf BinaryOperator′.the-type a) ≡ a
-binaryOperator-tag Bo.Add = refl
-binaryOperator-tag Bo.Subtract = refl
-binaryOperator-tag Bo.Multiply = refl
-binaryOperator-tag Bo.Divide = refl
-binaryOperator-tag Bo.Modulo = refl
-binaryOperator-tag Bo.Equal = refl
-binaryOperator-tag Bo.NotEqual = refl
-binaryOperator-tag Bo.Less = refl
-binaryOperator-tag Bo.LessEqual = refl
-binaryOperator-tag Bo.Greater = refl
-binaryOperator-tag Bo.GreaterEqual = refl
-binaryOperator-tag Bo.And = refl
-binaryOperator-tag Bo.ExclusiveOr = refl
-binaryOperator-tag Bo.InclusiveOr = refl
-binaryOperator-tag Bo.LogicalAnd = refl
-binaryOperator-tag Bo.LogicalOr = refl
-binaryOperator-tag Bo.ShiftLeft = refl
-binaryOperator-tag Bo.ShiftRight = refl
-
-pub of-binary-operators : {B : Type 0} (f : BinaryOperator → B) {b : B} (ks : List ℕ) → map (λ (k : ℕ). f (binaryOperatorOf k)) ks ≡ map (λ (k : ℕ). b) ks → (a : BinaryOperator) → OneOf ks (tagOf BinaryOperator′.the-type a) → b ≡ f a
-of-binary-operators f ks e a h = of-keys (λ (k : ℕ). f (binaryOperatorOf k)) ks e (tagOf BinaryOperator′.the-type a) h ∙ ap f (binaryOperator-tag a)
 
 relationalFunction-tag : (a : RelationalFunction) → relationalFunctionOf (tagOf RelationalFunction′.the-type a) ≡ a
 relationalFunction-tag Rf.All = refl

@@ -29,30 +29,24 @@ pub fn binary(
     ensures { λ r. ⌜ toResult r ≡ ruled (now (frames .entry)) s (now (answers .entry)) (now (places .entry)) (binary here op left right) ⌝ }
 {
     match op {
-        BinaryOperator::Add
-        | BinaryOperator::Subtract
-        | BinaryOperator::Divide
-        | BinaryOperator::Modulo
-        | BinaryOperator::And
-        | BinaryOperator::ExclusiveOr
-        | BinaryOperator::InclusiveOr
-        | BinaryOperator::ShiftLeft
-        | BinaryOperator::ShiftRight => past(answers, places, left),
+        BinaryOperator::Add => past(answers, places, left),
+        BinaryOperator::Subtract => past(answers, places, left),
+        BinaryOperator::Divide => past(answers, places, left),
+        BinaryOperator::Modulo => past(answers, places, left),
         BinaryOperator::Multiply => multiply(frames, s, answers, places, here, left, right),
-        BinaryOperator::Equal
-        | BinaryOperator::NotEqual
-        | BinaryOperator::Less
-        | BinaryOperator::LessEqual
-        | BinaryOperator::Greater
-        | BinaryOperator::GreaterEqual => bools(frames, s, answers, places, here, left),
-        BinaryOperator::LogicalAnd | BinaryOperator::LogicalOr => logical(
-            frames,
-            s,
-            answers,
-            places,
-            here,
-            left,
-        ),
+        BinaryOperator::Equal => bools(frames, s, answers, places, here, left),
+        BinaryOperator::NotEqual => bools(frames, s, answers, places, here, left),
+        BinaryOperator::Less => bools(frames, s, answers, places, here, left),
+        BinaryOperator::LessEqual => bools(frames, s, answers, places, here, left),
+        BinaryOperator::Greater => bools(frames, s, answers, places, here, left),
+        BinaryOperator::GreaterEqual => bools(frames, s, answers, places, here, left),
+        BinaryOperator::LogicalAnd => logical(frames, s, answers, places, here, left),
+        BinaryOperator::LogicalOr => logical(frames, s, answers, places, here, left),
+        BinaryOperator::And => past(answers, places, left),
+        BinaryOperator::ExclusiveOr => past(answers, places, left),
+        BinaryOperator::InclusiveOr => past(answers, places, left),
+        BinaryOperator::ShiftLeft => past(answers, places, left),
+        BinaryOperator::ShiftRight => past(answers, places, left),
     }
 }
 
@@ -69,14 +63,9 @@ pub fn relational(
     ensures { λ r. ⌜ toResult r ≡ ruled (now (frames .entry)) s (now (answers .entry)) (now (places .entry)) (relational here fun argument) ⌝ }
 {
     match fun {
-        RelationalFunction::All | RelationalFunction::Any => scalar_type(Scalar::BOOL),
-        RelationalFunction::IsNan | RelationalFunction::IsInf => bools(
-            frames,
-            s,
-            answers,
-            places,
-            here,
-            argument,
-        ),
+        RelationalFunction::All => scalar_type(Scalar::BOOL),
+        RelationalFunction::Any => scalar_type(Scalar::BOOL),
+        RelationalFunction::IsNan => bools(frames, s, answers, places, here, argument),
+        RelationalFunction::IsInf => bools(frames, s, answers, places, here, argument),
     }
 }
