@@ -15,8 +15,7 @@ use Rattle.answers.specs.declared.PointerBase.{PointerBase}
 use Rattle.answers.specs.declared.PointerBase.the-variants as Pb
 use Rattle.ir.specs.declared.AddressSpace.the-variants as Sp
 use Rattle.ir.specs.declared.OptionVectorSize.the-variants as Ov
-use Rattle.ir.specs.declared.Scalar.{Scalar}
-use Rattle.ir.specs.declared.ScalarKind.the-variants as Sk
+use Rattle.ir.specs.Scalars.{F32}
 use Rattle.ir.specs.declared.TypeInner.the-variants as Ti
 use Rattle.ir.specs.declared.TypeResolution.the-variants as Tr
 use Rattle.ir.specs.declared.VectorSize.the-variants as Vs
@@ -77,7 +76,7 @@ abbrev prints : List ℕ → List String → Case
 prints t out = record { text = t; lent = []; asked = print; answer = printed (lines out); after = [] }
 
 -- the file whose rows the document types
-abbrev paper : List String
+abbrev pub paper : List String
 paper =
     "01010000020400000000000000000000" ∷
     "01020300020400000000000000000000" ∷
@@ -109,7 +108,7 @@ product =
     "04120000010002000000000000000000" ∷ []
 
 -- f32, vec3 and vec4; a vec4 composed from a vec3 and a scalar, and one from two vec3
-abbrev composes : List String
+abbrev pub composes : List String
 composes =
     "01010000020400000000000000000000" ∷
     "01020300020400000000000000000000" ∷
@@ -138,7 +137,7 @@ abbrev ofComposes : Asked → Answered → Case
 ofComposes a answer = record { text = lines composes; lent = replicate 177 7; asked = a; answer = answer; after = frames composes ++ 7 ∷ [] }
 
 -- a constant array with count 0, after the scalar that it names
-abbrev noCount : List String
+abbrev pub noCount : List String
 noCount =
     "01010000020400000000000000000000" ∷
     "01080000000000000000000010000000" ∷ []
@@ -171,9 +170,6 @@ pointers =
     "01070300020403000000000000000000" ∷
     "01050000010400000000000000000000" ∷
     "01060800000002000000000000000000" ∷ []
-
-abbrev f32 : Scalar
-f32 = record { kind = Sk.Float; width = 4 }
 
 -- a question about that file's types
 abbrev ofPointers : Asked → Answered → Case
@@ -291,8 +287,8 @@ table =
     -- an answer buffer that is too small changes nothing
     ∷ record { text = lines composes; lent = replicate 177 7; asked = types (replicate 95 9); answer = typesAre Short (replicate 95 9); after = replicate 177 7 }
     -- the value pointer of a pointer to a scalar or vector, in its space; every other type is its own, by its number
-    ∷ ofPointers (canonical 2) (canonicalIs (Ct.Form (Tr.Value (Ti.ValuePointer Ov.None f32 Sp.Function))))
-    ∷ ofPointers (canonical 3) (canonicalIs (Ct.Form (Tr.Value (Ti.ValuePointer (Ov.Some Vs.Tri) f32 Sp.Private))))
+    ∷ ofPointers (canonical 2) (canonicalIs (Ct.Form (Tr.Value (Ti.ValuePointer Ov.None F32 Sp.Function))))
+    ∷ ofPointers (canonical 3) (canonicalIs (Ct.Form (Tr.Value (Ti.ValuePointer (Ov.Some Vs.Tri) F32 Sp.Private))))
     ∷ ofPointers (canonical 9) (canonicalIs (Ct.Form (Tr.Handle (record { 0 = 9 }))))
     ∷ ofPointers (canonical 6) (canonicalIs (Ct.Form (Tr.Handle (record { 0 = 6 }))))
     -- 22 where the type, or a pointer's base, is of unknown kind; 6 for a number out of range; the file's own number first
@@ -303,8 +299,8 @@ table =
     -- the base: a number, also where its kind is unknown; of a value pointer a scalar or a vector by value; no pointer
     ∷ ofPointers (base 2) (baseIs (Pb.Base (Tr.Handle (record { 0 = 0 }))))
     ∷ ofPointers (base 5) (baseIs (Pb.Base (Tr.Handle (record { 0 = 4 }))))
-    ∷ ofPointers (base 6) (baseIs (Pb.Base (Tr.Value (Ti.Scalar f32))))
-    ∷ ofPointers (base 7) (baseIs (Pb.Base (Tr.Value (Ti.Vector Vs.Tri f32))))
+    ∷ ofPointers (base 6) (baseIs (Pb.Base (Tr.Value (Ti.Scalar F32))))
+    ∷ ofPointers (base 7) (baseIs (Pb.Base (Tr.Value (Ti.Vector Vs.Tri F32))))
     ∷ ofPointers (base 0) (baseIs Pb.NotPointer)
     ∷ ofPointers (base 4) (baseIs Pb.Newer)
     ∷ ofPointers (base 10) (baseIs Pb.Index)

@@ -2,15 +2,7 @@
 use Prim.Native.Nat.{ℕ}
 use mathlib.Core.List.{List, [], _∷_, _++_}
 use mathlib.Core.Option.{Option, none, some}
-use Rattle.row_cases.specs.Lines.{full, short, plain, indexed}
-
--- a compose of a type from so many components, the first of them given
-abbrev composes : ℕ → ℕ → ℕ → List ℕ
-composes t n first = full 4 5 t 0 n 0 0 0 0 first
-
--- a component
-abbrev comp : ℕ → List ℕ
-comp n = short 5 0 n 0 0 0 0 0
+use Rattle.frames.specs.Written.{full, short, plain, indexed, compose, part}
 
 -- a verdict: number, compose row, expected or component, given
 abbrev judge : ℕ → ℕ → ℕ → ℕ → List ℕ
@@ -40,41 +32,41 @@ lines =
     -- 0 to 6: f32, vec3, u32, type 6, a row of kind 200, a refused row, a pointer to type 6
     silent (plain 4 0) ∷ silent (plain 4 1) ∷ silent (plain 4 8) ∷ silent (plain 4 6) ∷ silent (plain 200 0) ∷ silent (indexed 7 1 3) ∷ silent (plain 4 9)
     -- P: vec4 from vec3 and scalar passes, from two vec3 count 4 given 6; the total is checked last
-    ∷ line (composes 2 2 0) (judge 0 7 0 0)
-    ∷ line (composes 2 2 2) (judge 31 8 4 6)
-    ∷ line (composes 2 4 0) (judge 31 9 4 10)
+    ∷ line (compose 2 2 0) (judge 0 7 0 0)
+    ∷ line (compose 2 2 2) (judge 31 8 4 6)
+    ∷ line (compose 2 4 0) (judge 31 9 4 10)
     -- vec4 from u32; from a type of unknown kind; from a newer row; from a refused row; from nothing
-    ∷ line (composes 2 1 4) (judge 32 10 0 0)
-    ∷ line (composes 2 1 5) (judge 22 11 0 0)
-    ∷ line (composes 2 1 6) (judge 22 12 0 0)
-    ∷ line (composes 2 1 7) (judge 33 13 0 0)
-    ∷ line (composes 2 0 0) (judge 31 14 4 0)
+    ∷ line (compose 2 1 4) (judge 32 10 0 0)
+    ∷ line (compose 2 1 5) (judge 22 11 0 0)
+    ∷ line (compose 2 1 6) (judge 22 12 0 0)
+    ∷ line (compose 2 1 7) (judge 33 13 0 0)
+    ∷ line (compose 2 0 0) (judge 31 14 4 0)
     -- a matrix from its columns; from one; a column that is a pointer to an unknown kind is 32, one of unknown kind 22
-    ∷ line (composes 3 2 2) (judge 0 15 0 0)
-    ∷ line (composes 3 1 2) (judge 31 16 2 1)
-    ∷ line (composes 3 2 8) (judge 32 17 0 0)
-    ∷ line (composes 3 2 5) (judge 22 18 0 0)
-    ∷ line (composes 3 2 11) (judge 32 19 0 0)
+    ∷ line (compose 3 2 2) (judge 0 15 0 0)
+    ∷ line (compose 3 1 2) (judge 31 16 2 1)
+    ∷ line (compose 3 2 8) (judge 32 17 0 0)
+    ∷ line (compose 3 2 5) (judge 22 18 0 0)
+    ∷ line (compose 3 2 11) (judge 32 19 0 0)
     -- an array from two f32; the second part a vec3; a part that is a pointer to an unknown kind; too many
-    ∷ line (composes 4 2 9) (judge 0 20 0 0)
-    ∷ line (composes 4 2 11) (judge 32 21 1 0)
-    ∷ line (composes 4 2 8) (judge 22 22 0 0)
-    ∷ line (composes 4 3 8) (judge 31 23 2 3)
+    ∷ line (compose 4 2 9) (judge 0 20 0 0)
+    ∷ line (compose 4 2 11) (judge 32 21 1 0)
+    ∷ line (compose 4 2 8) (judge 22 22 0 0)
+    ∷ line (compose 4 3 8) (judge 31 23 2 3)
     -- a struct from its members; the second part wrong
-    ∷ line (composes 5 2 11) (judge 0 24 0 0)
-    ∷ line (composes 5 2 9) (judge 32 25 1 0)
+    ∷ line (compose 5 2 11) (judge 0 24 0 0)
+    ∷ line (compose 5 2 9) (judge 32 25 1 0)
     -- what can't be composed: a scalar, a dynamic array; a type of unknown kind
-    ∷ line (composes 0 0 0) (judge 30 26 0 0)
-    ∷ line (composes 7 1 6) (judge 30 27 0 0)
-    ∷ line (composes 6 1 6) (11 ∷ 22 ∷ 28 ∷ 0 ∷ 255 ∷ 255 ∷ 255 ∷ 255 ∷ 0 ∷ 0 ∷ 0 ∷ 0 ∷ 0 ∷ 0 ∷ 0 ∷ 0 ∷ [])
+    ∷ line (compose 0 0 0) (judge 30 26 0 0)
+    ∷ line (compose 7 1 6) (judge 30 27 0 0)
+    ∷ line (compose 6 1 6) (11 ∷ 22 ∷ 28 ∷ 0 ∷ 255 ∷ 255 ∷ 255 ∷ 255 ∷ 0 ∷ 0 ∷ 0 ∷ 0 ∷ 0 ∷ 0 ∷ 0 ∷ 0 ∷ [])
     -- an array over an unknown kind from rows of that very number
-    ∷ line (composes 10 2 13) (judge 0 29 0 0)
+    ∷ line (compose 10 2 13) (judge 0 29 0 0)
     ∷ []
 
 -- components 0 to 14
 abbrev components : List ℕ
 components =
-    comp 1 ++ comp 0 ++ comp 1 ++ comp 1 ++ comp 2 ++ comp 3 ++ comp 4 ++ comp 5 ++ comp 6 ++ comp 0 ++ comp 0 ++ comp 0 ++ comp 1 ++ comp 3 ++ comp 3
+    part 1 ++ part 0 ++ part 1 ++ part 1 ++ part 2 ++ part 3 ++ part 4 ++ part 5 ++ part 6 ++ part 0 ++ part 0 ++ part 0 ++ part 1 ++ part 3 ++ part 3
 
 abbrev rowsOf : List Line → List ℕ
 rowsOf [] = []

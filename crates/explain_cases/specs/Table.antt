@@ -2,6 +2,7 @@
 use Prim.Native.Nat.{ℕ}
 use Prim.Native.String.{String}
 use mathlib.Core.List.{List, [], _∷_}
+use Rattle.cases.specs.Table.{paper, composes, noCount}
 
 -- a text, an output buffer's length, and what of the lines is written into it
 pub record Case : Type 0 where
@@ -12,42 +13,6 @@ pub record Case : Type 0 where
 -- with room for all
 abbrev whole : List String → List String → Case
 whole t s = record { text = t; room = 4096; said = s }
-
--- the file whose rows document 01 types
-abbrev paper : List String
-paper =
-    "01010000020400000000000000000000" ∷
-    "01020300020400000000000000000000" ∷
-    "01c80000000000000000000000000000" ∷
-    "03050100000000000000000000000000" ∷
-    "03050200000000000000000000000000" ∷
-    "040c0000000000000000000000000000" ∷
-    "04070000000000000000000002000000" ∷
-    "040d0100000000000000000000000000" ∷
-    "040c0100000000000000000000000000" ∷
-    "040d0300000000000000000000000000" ∷
-    "04070000000000000000000003000000" ∷ []
-
--- a scalar, vectors of three and of four of it, a value of each of the first two, and vectors of four made of both, and of the vector of three twice
-abbrev composes : List String
-composes =
-    "01010000020400000000000000000000" ∷
-    "01020300020400000000000000000000" ∷
-    "01020400020400000000000000000000" ∷
-    "04040000000000000000000000000000" ∷
-    "04040100000000000000000000000000" ∷
-    "04050200020000000000000000000000" ∷
-    "04050200020000000000000002000000" ∷
-    "05000100000000000000000000000000" ∷
-    "05000000000000000000000000000000" ∷
-    "05000100000000000000000000000000" ∷
-    "05000100000000000000000000000000" ∷ []
-
--- a constant array whose count is 0, after the scalar that it names
-abbrev noCount : List String
-noCount =
-    "01010000020400000000000000000000" ∷
-    "01080000000000000000000010000000" ∷ []
 
 -- values of: a scalar of three bytes; a storage image; a pointer to a struct in storage; a struct
 abbrev values : List String

@@ -4,3 +4,4 @@ pub mod Layout
 pub mod Forms
 pub mod Out
 pub mod Back
+pub mod Written

@@ -9,15 +9,8 @@ use Rattle.frames.specs.declared.Frame.{Frame}
 use Rattle.frames.specs.Bytes.{frameAt}
 use Rattle.rule.specs.Answers.{Place, component, composed, nowhere, told, alike}
 use Rattle.rule.specs.Answers as Answers
-use Rattle.row_cases.specs.Lines.{full, short, plain, indexed, binary, numbered, scalar, refusal, bound}
+use Rattle.frames.specs.Written.{full, short, plain, indexed, binary, compose, part, numbered, scalar, refusal, bound}
 use Rattle.later_readers.specs.Reader.{Choice}
-
--- a compose of type t from n components, the first of them component c
-abbrev compose : ℕ → ℕ → ℕ → List ℕ
-compose t n c = full 4 5 t 0 n 0 0 0 0 c
-
-abbrev component-row : ℕ → List ℕ
-component-row m = short 5 0 m 0 0 0 0 0
 
 -- types 0 to 4: f32, a vector of two of it, kind 200, a pointer to it in Function, an array of two of it
 abbrev types : List ℕ
@@ -40,8 +33,8 @@ rows =
 
 abbrev components : List ℕ
 components =
-    component-row 0 ++ component-row 5 ++ component-row 10 ++ component-row 10 ++ component-row 0 ++ component-row 16 ++ component-row 5 ++ component-row 0
-    ++ component-row 6
+    part 0 ++ part 5 ++ part 10 ++ part 10 ++ part 0 ++ part 16 ++ part 5 ++ part 0
+    ++ part 6
 
 abbrev pub text : List ℕ
 text = textOf (types ++ locals ++ rows ++ components) 35

@@ -11,7 +11,7 @@ use Rattle.text.specs.Lines.{lineCount, decoded, textOf}
 use Rattle.frames.specs.declared.Frame.{Frame}
 use Rattle.frames.specs.Bytes.{byte, frameAt}
 use Rattle.rule.specs.Answers.{row, composed, nowhere, newer}
-use Rattle.row_cases.specs.Lines.{plain, marked}
+use Rattle.frames.specs.Written.{plain, marked}
 use Rattle.later_readers.specs.Reader.{Reader, rowBytes, verdictBytes, comparedBytes}
 
 -- a row's number 22 at row m

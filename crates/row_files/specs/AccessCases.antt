@@ -1,6 +1,7 @@
 -- Worked rows: variables, parts, loads, and what is newer; by hand from document 01 ("A row's type" and "Cases", P).
 use mathlib.Core.List.{[], _∷_, _++_}
-use Rattle.row_cases.specs.Lines.{full, short, plain, marked, indexed, binary, numbered, scalar, vector, refusal, bound, Case, line}
+use Rattle.frames.specs.Written.{full, short, plain, marked, indexed, binary, numbered, scalar, vector, refusal, bound}
+use Rattle.row_cases.specs.Lines.{Case, line}
 
 -- P: a component of a local vector, loaded; a local of unknown kind, loaded; a component past the end
 abbrev pub locals : Case

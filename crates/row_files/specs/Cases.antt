@@ -1,6 +1,7 @@
 -- Worked rows: operators, images, items and results; by hand from document 01 ("A row's type" and "Cases", P). And the table of all worked files.
 use mathlib.Core.List.{List, [], _∷_, _++_}
-use Rattle.row_cases.specs.Lines.{full, short, plain, marked, indexed, binary, numbered, scalar, vector, refusal, Case, line}
+use Rattle.frames.specs.Written.{full, short, plain, marked, indexed, binary, compose, part, numbered, scalar, vector, refusal}
+use Rattle.row_cases.specs.Lines.{Case, line}
 use Rattle.row_files.specs.AccessCases.{locals, matrix, pointers, newerThings}
 
 -- Splat, Swizzle, Unary, Binary, Select, Derivative, Relational, As
@@ -146,7 +147,7 @@ items = record {
   lines =
       line (plain 2 0) (numbered 1)
       ∷ line (plain 3 0) (numbered 0)
-      ∷ line (full 4 5 1 0 2 0 0 0 0 0) (numbered 1)
+      ∷ line (compose 1 2 0) (numbered 1)
       ∷ line (indexed 10 0 0) (numbered 1)
       ∷ line (indexed 10 0 1) (numbered 0)
       ∷ line (indexed 10 0 2) (short 10 19 0 0 2 0 0 0)
@@ -162,7 +163,7 @@ items = record {
       ∷ line (plain 32 1) (numbered 1)
       ∷ [];
   -- the compose's two components
-  after = short 5 0 1 0 0 0 0 0 ++ short 5 0 1 0 0 0 0 0;
+  after = part 1 ++ part 1;
 }
 
 -- no item of kind 7 or 8

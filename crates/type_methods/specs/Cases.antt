@@ -3,11 +3,8 @@ use Prim.Native.Nat.{ℕ}
 use mathlib.Core.List.{List, [], _∷_, _++_}
 use Rattle.frames.specs.declared.Frame.{Frame}
 use Rattle.frames.specs.Bytes.{frameAt}
+use Rattle.frames.specs.Written.{full, short, numbered}
 use Rattle.rule.specs.Answers.{Result, told, newer, nowhere, Compared, alike, unlike, field, index}
-
--- the first eight bytes of a frame whose others are zero
-abbrev short : ℕ → ℕ → ℕ → ℕ → ℕ → ℕ → ℕ → ℕ → List ℕ
-short b0 b1 b2 b3 b4 b5 b6 b7 = b0 ∷ b1 ∷ b2 ∷ b3 ∷ b4 ∷ b5 ∷ b6 ∷ b7 ∷ 0 ∷ 0 ∷ 0 ∷ 0 ∷ 0 ∷ 0 ∷ 0 ∷ 0 ∷ []
 
 -- types 0 to 7: f32, vec3 of it, a pointer to type 0 in Function, two alike structs of one member, kind 200, a pointer to it, f32 again; then the
 -- member
@@ -26,11 +23,7 @@ case l r o = record { left = frameAt l 0; right = frameAt r 0; outcome = o }
 
 -- a dynamic array as a value, by its base and stride
 abbrev array : ℕ → ℕ → List ℕ
-array b t = 9 ∷ 8 ∷ b ∷ 0 ∷ 2 ∷ 0 ∷ 0 ∷ 0 ∷ 0 ∷ 0 ∷ 0 ∷ 0 ∷ t ∷ 0 ∷ 0 ∷ 0 ∷ []
-
--- the number of a type
-abbrev numbered : ℕ → List ℕ
-numbered n = short 8 0 n 0 0 0 0 0
+array b t = full 9 8 b 0 2 0 0 0 0 t
 
 abbrev pub table : List Case
 table =
