@@ -22,12 +22,14 @@ use Rattle.rule.specs.Things as Row
 use Rattle.rule.specs.Rule.{Rule, done, come, Step, step, Readings, follow, placed}
 use Rattle.rule.specs.Claim.{reading, readings, amongReadings}
 use Rattle.type_methods.specs.Canonical.{ifPointer}
+use Rattle.row_rules.specs.declared.Pass.{Pass}
+use Rattle.row_rules.specs.declared.Pass.the-variants as Pa
 use Rattle.row_rules.specs.Selectors.{ifImage}
 use Rattle.row_rules.specs.Steps.{operand, look, sameAs, byType, throughBase, byBase}
 use Rattle.row_rules.specs.Images.{sampled, sampledFrom, sampledOf, imageSample, imageQuery}
-use Rattle.row_rules.specs.Operators.{product, multiply, binary, relational}
+use Rattle.row_rules.specs.Operators.{product, multiply, binary, binaryBy, relational}
 use Rattle.row_rules.specs.Typed.{resolve, typed, typing}
-use Rattle.row_cases.specs.Reads.{reads, sampleReads, queryReads, binaryReads, relationalReads, unlessRefused, unlessNewer, baseThing, classThing, stepTo, lineSteps, shownSteps, rowReading}
+use Rattle.row_cases.specs.Reads.{reads, sampleReads, queryReads, binaryReads, binaryReadsBy, relationalReads, unlessRefused, unlessNewer, baseThing, classThing, stepTo, lineSteps, shownSteps, rowReading}
 
 -- an operand's steps keep their places
 kept : (xs : List Step) → placed (λ p. p) xs ≡ xs
@@ -159,55 +161,59 @@ module _ (sight : Sight) (earlier : Readings) where
   binary-steps here Bo.ShiftLeft l r = answer-steps l
   binary-steps here Bo.ShiftRight l r = answer-steps l
 
+  binary-by-steps : (pass : Pass) (here : RowNumber) (op : BinaryOperator) (l r : RowNumber) → steps (binaryBy pass here op l r) ≡ lineSteps sight earlier here (binaryReadsBy pass op l r)
+  binary-by-steps Pa.First here op l r = binary-steps here op l r
+  binary-by-steps Pa.Second here op l r = binary-steps here op l r
+
   relational-steps : (here : RowNumber) (f : RelationalFunction) (n : RowNumber) → steps (relational here f n) ≡ lineSteps sight earlier here (relationalReads f n)
   relational-steps here Rf.All n = refl
   relational-steps here Rf.Any n = refl
   relational-steps here Rf.IsNan n = into-steps here n _
   relational-steps here Rf.IsInf n = into-steps here n _
 
-  resolve-steps : (here : RowNumber) (s : Shown) → steps (resolve here s) ≡ lineSteps sight earlier here (reads s)
-  resolve-steps here (Row.literal l) = refl
-  resolve-steps here (Row.constant t) = refl
-  resolve-steps here (Row.override t) = refl
-  resolve-steps here (Row.zeroValue t) = refl
-  resolve-steps here (Row.compose t parts) = refl
-  resolve-steps here (Row.access n) = into-base-steps here n _ _
-  resolve-steps here (Row.accessIndex n i) = into-base-steps here n _ _
-  resolve-steps here (Row.splat z n) = into-steps here n _
-  resolve-steps here (Row.swizzle z n) = into-steps here n _
-  resolve-steps here (Row.functionArgument i t) = refl
-  resolve-steps here (Row.globalVariable t s) = refl
-  resolve-steps here (Row.localVariable t) = refl
-  resolve-steps here (Row.load n) = into-base-steps here n _ _
-  resolve-steps here (Row.imageSample n g) = sample-steps here n g
-  resolve-steps here (Row.imageLoad n) = into-class-steps here n
-  resolve-steps here (Row.imageQuery n q) = query-steps here n q
-  resolve-steps here (Row.unary n) = answer-steps n
-  resolve-steps here (Row.binary op l r) = binary-steps here op l r
-  resolve-steps here (Row.select n) = answer-steps n
-  resolve-steps here (Row.derivative n) = answer-steps n
-  resolve-steps here (Row.relational f n) = relational-steps here f n
-  resolve-steps here (Row.cast n k w) = into-steps here n _
-  resolve-steps here (Row.callResult t) = refl
-  resolve-steps here (Row.atomicResult t) = refl
-  resolve-steps here (Row.workGroupUniformLoadResult t) = refl
-  resolve-steps here Row.arrayLength = refl
-  resolve-steps here (Row.rayQueryVertexPositions t) = refl
-  resolve-steps here Row.rayQueryProceedResult = refl
-  resolve-steps here (Row.rayQueryGetIntersection t) = refl
-  resolve-steps here Row.subgroupBallotResult = refl
-  resolve-steps here (Row.subgroupOperationResult t) = refl
-  resolve-steps here (Row.cooperativeLoad c r o n) = into-base-steps here n _ _
-  resolve-steps here (Row.cooperativeMultiplyAdd n) = answer-steps n
+  resolve-steps : (pass : Pass) (here : RowNumber) (s : Shown) → steps (resolve pass here s) ≡ lineSteps sight earlier here (reads pass s)
+  resolve-steps pass here (Row.literal l) = refl
+  resolve-steps pass here (Row.constant t) = refl
+  resolve-steps pass here (Row.override t) = refl
+  resolve-steps pass here (Row.zeroValue t) = refl
+  resolve-steps pass here (Row.compose t parts) = refl
+  resolve-steps pass here (Row.access n) = into-base-steps here n _ _
+  resolve-steps pass here (Row.accessIndex n i) = into-base-steps here n _ _
+  resolve-steps pass here (Row.splat z n) = into-steps here n _
+  resolve-steps pass here (Row.swizzle z n) = into-steps here n _
+  resolve-steps pass here (Row.functionArgument i t) = refl
+  resolve-steps pass here (Row.globalVariable t s) = refl
+  resolve-steps pass here (Row.localVariable t) = refl
+  resolve-steps pass here (Row.load n) = into-base-steps here n _ _
+  resolve-steps pass here (Row.imageSample n g) = sample-steps here n g
+  resolve-steps pass here (Row.imageLoad n) = into-class-steps here n
+  resolve-steps pass here (Row.imageQuery n q) = query-steps here n q
+  resolve-steps pass here (Row.unary n) = answer-steps n
+  resolve-steps pass here (Row.binary op l r) = binary-by-steps pass here op l r
+  resolve-steps pass here (Row.select n) = answer-steps n
+  resolve-steps pass here (Row.derivative n) = answer-steps n
+  resolve-steps pass here (Row.relational f n) = relational-steps here f n
+  resolve-steps pass here (Row.cast n k w) = into-steps here n _
+  resolve-steps pass here (Row.callResult t) = refl
+  resolve-steps pass here (Row.atomicResult t) = refl
+  resolve-steps pass here (Row.workGroupUniformLoadResult t) = refl
+  resolve-steps pass here Row.arrayLength = refl
+  resolve-steps pass here (Row.rayQueryVertexPositions t) = refl
+  resolve-steps pass here Row.rayQueryProceedResult = refl
+  resolve-steps pass here (Row.rayQueryGetIntersection t) = refl
+  resolve-steps pass here Row.subgroupBallotResult = refl
+  resolve-steps pass here (Row.subgroupOperationResult t) = refl
+  resolve-steps pass here (Row.cooperativeLoad c r o n) = into-base-steps here n _ _
+  resolve-steps pass here (Row.cooperativeMultiplyAdd n) = answer-steps n
 
   -- THE READING of every row is the table's
-  pub reads-are : (r : RowNumber) → follow sight earlier (typed r) .steps ≡ rowReading sight earlier r
-  reads-are r = go (sight (kind r)) refl
+  pub reads-are : (pass : Pass) (r : RowNumber) → follow sight earlier (typed pass r) .steps ≡ rowReading pass sight earlier r
+  reads-are pass r = go (sight (kind r)) refl
     where
-      go : (o : Option Shown) → sight (kind r) ≡ o → steps (typed r) ≡ step (row r) (kind r) ∷ shownSteps sight earlier r o
+      go : (o : Option Shown) → sight (kind r) ≡ o → steps (typed pass r) ≡ step (row r) (kind r) ∷ shownSteps pass sight earlier r o
       go none q = rw (q, steps, follow)
-      go (some s) q = rw (q, steps, follow) (ap (λ (l : List Step). step (row r) (kind r) ∷ l) (resolve-steps r s))
+      go (some s) q = rw (q, steps, follow) (ap (λ (l : List Step). step (row r) (kind r) ∷ l) (resolve-steps pass r s))
 
 -- and so over the rows of a file
-pub file-reads : (fr : List ℕ) (n : ℕ) → reading (see fr) typing n (typing n) ≡ rowReading (see fr) (amongReadings (readings (see fr) typing n)) (record { 0 = n })
-file-reads fr n = reads-are (see fr) (amongReadings (readings (see fr) typing n)) (record { 0 = n })
+pub file-reads : (pass : Pass) (fr : List ℕ) (n : ℕ) → reading (see fr) (typing pass) n (typing pass n) ≡ rowReading pass (see fr) (amongReadings (readings (see fr) (typing pass) n)) (record { 0 = n })
+file-reads pass fr n = reads-are (see fr) (amongReadings (readings (see fr) (typing pass) n)) pass (record { 0 = n })

@@ -17,6 +17,8 @@ use Rattle.rule.specs.Things.{Shown, Form, Thing, kind, form, texels, Sight}
 use Rattle.rule.specs.Things as Row
 use Rattle.rule.specs.Rule.{Step, step, Readings}
 use Rattle.type_methods.specs.Canonical.{ifPointer}
+use Rattle.row_rules.specs.declared.Pass.{Pass}
+use Rattle.row_rules.specs.declared.Pass.the-variants as Pa
 use Rattle.row_rules.specs.Selectors.{ifImage}
 
 -- what is looked into: the type of an operand, by its place among those read; that type's base, if it is a Pointer; that type's class, if it is an Image
@@ -85,6 +87,11 @@ binaryReads Bo.LogicalOr l r = into l
 binaryReads Bo.ShiftLeft l r = answer l
 binaryReads Bo.ShiftRight l r = answer l
 
+-- by the pass
+abbrev pub binaryReadsBy : Pass → BinaryOperator → RowNumber → RowNumber → Reads
+binaryReadsBy Pa.First op l r = binaryReads op l r
+binaryReadsBy Pa.Second op l r = binaryReads op l r
+
 -- All and Any read nothing
 abbrev pub relationalReads : RelationalFunction → RowNumber → Reads
 relationalReads Rf.All n = nothing
@@ -93,40 +100,40 @@ relationalReads Rf.IsNan n = into n
 relationalReads Rf.IsInf n = into n
 
 -- rows of kinds 1 to 34 but 22, Math, which shows nothing
-abbrev pub reads : Shown → Reads
-reads (Row.literal l) = nothing
-reads (Row.constant t) = nothing
-reads (Row.override t) = nothing
-reads (Row.zeroValue t) = nothing
-reads (Row.compose t parts) = nothing
-reads (Row.access n) = intoBase n
-reads (Row.accessIndex n i) = intoBase n
-reads (Row.splat z n) = into n
-reads (Row.swizzle z n) = into n
-reads (Row.functionArgument i t) = nothing
-reads (Row.globalVariable t s) = nothing
-reads (Row.localVariable t) = nothing
-reads (Row.load n) = intoBase n
-reads (Row.imageSample n gather) = sampleReads n gather
-reads (Row.imageLoad n) = intoClass n
-reads (Row.imageQuery n query) = queryReads n query
-reads (Row.unary n) = answer n
-reads (Row.binary op l r) = binaryReads op l r
-reads (Row.select n) = answer n
-reads (Row.derivative n) = answer n
-reads (Row.relational fun n) = relationalReads fun n
-reads (Row.cast n k w) = into n
-reads (Row.callResult t) = nothing
-reads (Row.atomicResult t) = nothing
-reads (Row.workGroupUniformLoadResult t) = nothing
-reads Row.arrayLength = nothing
-reads (Row.rayQueryVertexPositions t) = nothing
-reads Row.rayQueryProceedResult = nothing
-reads (Row.rayQueryGetIntersection t) = nothing
-reads Row.subgroupBallotResult = nothing
-reads (Row.subgroupOperationResult t) = nothing
-reads (Row.cooperativeLoad c r o n) = intoBase n
-reads (Row.cooperativeMultiplyAdd n) = answer n
+abbrev pub reads : Pass → Shown → Reads
+reads pass (Row.literal l) = nothing
+reads pass (Row.constant t) = nothing
+reads pass (Row.override t) = nothing
+reads pass (Row.zeroValue t) = nothing
+reads pass (Row.compose t parts) = nothing
+reads pass (Row.access n) = intoBase n
+reads pass (Row.accessIndex n i) = intoBase n
+reads pass (Row.splat z n) = into n
+reads pass (Row.swizzle z n) = into n
+reads pass (Row.functionArgument i t) = nothing
+reads pass (Row.globalVariable t s) = nothing
+reads pass (Row.localVariable t) = nothing
+reads pass (Row.load n) = intoBase n
+reads pass (Row.imageSample n gather) = sampleReads n gather
+reads pass (Row.imageLoad n) = intoClass n
+reads pass (Row.imageQuery n query) = queryReads n query
+reads pass (Row.unary n) = answer n
+reads pass (Row.binary op l r) = binaryReadsBy pass op l r
+reads pass (Row.select n) = answer n
+reads pass (Row.derivative n) = answer n
+reads pass (Row.relational fun n) = relationalReads fun n
+reads pass (Row.cast n k w) = into n
+reads pass (Row.callResult t) = nothing
+reads pass (Row.atomicResult t) = nothing
+reads pass (Row.workGroupUniformLoadResult t) = nothing
+reads pass Row.arrayLength = nothing
+reads pass (Row.rayQueryVertexPositions t) = nothing
+reads pass Row.rayQueryProceedResult = nothing
+reads pass (Row.rayQueryGetIntersection t) = nothing
+reads pass Row.subgroupBallotResult = nothing
+reads pass (Row.subgroupOperationResult t) = nothing
+reads pass (Row.cooperativeLoad c r o n) = intoBase n
+reads pass (Row.cooperativeMultiplyAdd n) = answer n
 
 -- THE READING of a line, over the earlier readings and what a file shows
 
@@ -187,10 +194,10 @@ abbrev pub lineSteps : Sight → Readings → RowNumber → Reads → List Step
 lineSteps sight earlier here r = operandSteps earlier (r .operands) (λ ts. lookSteps sight (row here) ts (r .looks))
 
 -- a row that shows nothing is newer, and its reading ends with its kind
-abbrev pub shownSteps : Sight → Readings → RowNumber → Option Shown → List Step
-shownSteps sight earlier here (some s) = lineSteps sight earlier here (reads s)
-shownSteps sight earlier here none = []
+abbrev pub shownSteps : Pass → Sight → Readings → RowNumber → Option Shown → List Step
+shownSteps pass sight earlier here (some s) = lineSteps sight earlier here (reads pass s)
+shownSteps pass sight earlier here none = []
 
 -- the reading of the row `here`: its own kind, then its line of the table
-abbrev pub rowReading : Sight → Readings → RowNumber → List Step
-rowReading sight earlier here = step (row here) (kind here) ∷ shownSteps sight earlier here (sight (kind here))
+abbrev pub rowReading : Pass → Sight → Readings → RowNumber → List Step
+rowReading pass sight earlier here = step (row here) (kind here) ∷ shownSteps pass sight earlier here (sight (kind here))

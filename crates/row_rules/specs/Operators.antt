@@ -19,6 +19,8 @@ use Rattle.ir.specs.Scalars.{BOOL, equalScalars}
 use Rattle.answers.specs.declared.Refusal.the-variants.{IncompatibleOperands}
 use Rattle.rule.specs.Answers.{TypeAnswer, value, Typed, given, refused}
 use Rattle.rule.specs.Rule.{Rule, done}
+use Rattle.row_rules.specs.declared.Pass.{Pass}
+use Rattle.row_rules.specs.declared.Pass.the-variants as Pa
 use Rattle.row_rules.specs.Selectors.{ifScalar, ifVector, ifMatrix, ifCooperativeMatrix}
 use Rattle.row_rules.specs.Steps.{operand, look, sameAs, byType}
 
@@ -114,6 +116,11 @@ binary here Bo.ExclusiveOr left right = bits left
 binary here Bo.InclusiveOr left right = bits left
 binary here Bo.ShiftLeft left right = bits left
 binary here Bo.ShiftRight left right = bits left
+
+-- by the pass
+abbrev pub binaryBy : Pass → RowNumber → BinaryOperator → RowNumber → RowNumber → Rule Typed
+binaryBy Pa.First here op left right = binary here op left right
+binaryBy Pa.Second here op left right = binary here op left right
 
 -- SELECT: the type of what is accepted. WGSL: "Logical Built-in Functions", select.
 abbrev pub select : RowNumber → Rule Typed
