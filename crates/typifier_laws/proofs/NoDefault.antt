@@ -22,7 +22,9 @@ use Rattle.rule.specs.Things as Row
 use Rattle.rule.specs.Things.{Shown, Seen, kind, see}
 use Rattle.rule.specs.Rule.{Rule, come, past, Step, step, Reading, Readings, run, follow, placed}
 use Rattle.rule.specs.Claim.{absent, among, amongReadings, answers, readings, reading}
-use Rattle.row_cases.specs.Reads.{reads, sampleReads, queryReads, binaryReads, relationalReads}
+use Rattle.row_cases.specs.Reads.{reads, sampleReads, queryReads, binaryReads, binaryReadsBy, relationalReads}
+use Rattle.row_rules.specs.declared.Pass.{Pass}
+use Rattle.row_rules.specs.declared.Pass.the-variants as Pa
 use Rattle.row_rules.specs.Typed.{typing}
 use Rattle.typifier_laws.proofs.Good.{Good}
 use Rattle.typifier_laws.proofs.Ranged as Ranged
@@ -75,18 +77,18 @@ module _ (fr : List ℕ) (m : ℕ) where
       go (some t) q h ih = rw (q, follow) (record { steps = each-append (StepInRange fr m) (placed (λ p. p) (earlier n .steps)) (follow (see fr) earlier (k t) .steps) own (ih t h .steps); end = ih t h .end })
 
 -- NO READING COMES TO A DEFAULT: the reading of every row is in range
-pub no-default : (fr : List ℕ) → Good fr → (n : ℕ) → n ≤ rowCount (startsOf fr) → (m : ℕ) → m < n
-    → ReadingInRange fr m (getD (readings (see fr) typing n) m (record { steps = []; end = some absent }))
-no-default fr good =
-    in-order-all (ReadingInRange fr) (λ earlier m. follow (see fr) (amongReadings earlier) (typing m)) (record { steps = []; end = some absent }) (rowCount (startsOf fr))
-    (λ n l w all. follows fr n (amongReadings l) (λ r q. reading-later fr (r .0) n (omega arith) (amongReadings l r) (all (r .0) q)) (rule-keeps fr good n (row-there fr n w)))
+pub no-default : (pass : Pass) (fr : List ℕ) → Good fr → (n : ℕ) → n ≤ rowCount (startsOf fr) → (m : ℕ) → m < n
+    → ReadingInRange fr m (getD (readings (see fr) (typing pass) n) m (record { steps = []; end = some absent }))
+no-default pass fr good =
+    in-order-all (ReadingInRange fr) (λ earlier m. follow (see fr) (amongReadings earlier) (typing pass m)) (record { steps = []; end = some absent }) (rowCount (startsOf fr))
+    (λ n l w all. follows fr n (amongReadings l) (λ r q. reading-later fr (r .0) n (omega arith) (amongReadings l r) (all (r .0) q)) (rule-keeps pass fr good n (row-there fr n w)))
 
 -- and so of the reading that the claim on later readers speaks of
-pub reading-in-range : (fr : List ℕ) → Good fr → (n : ℕ) → n < rowCount (startsOf fr) → Each (StepInRange fr n) (reading (see fr) typing n (typing n))
-reading-in-range fr good n w =
-    let earlier = readings (see fr) typing n in
-    follows fr n (amongReadings earlier) (λ r q. reading-later fr (r .0) n (omega arith) (amongReadings earlier r) (no-default fr good n (omega arith) (r .0) q))
-    (rule-keeps fr good n (row-there fr n w)) .steps
+pub reading-in-range : (pass : Pass) (fr : List ℕ) → Good fr → (n : ℕ) → n < rowCount (startsOf fr) → Each (StepInRange fr n) (reading (see fr) (typing pass) n (typing pass n))
+reading-in-range pass fr good n w =
+    let earlier = readings (see fr) (typing pass) n in
+    follows fr n (amongReadings earlier) (λ r q. reading-later fr (r .0) n (omega arith) (amongReadings earlier r) (no-default pass fr good n (omega arith) (r .0) q))
+    (rule-keeps pass fr good n (row-there fr n w)) .steps
 
 -- OPERANDS
 
@@ -124,14 +126,18 @@ binary-earlier n Bo.LogicalOr l r g h = (g, tt)
 binary-earlier n Bo.ShiftLeft l r g h = (g, tt)
 binary-earlier n Bo.ShiftRight l r g h = (g, tt)
 
+binary-by-earlier : (pass : Pass) (n : RowNumber) (op : BinaryOperator) (l r : RowNumber) → l .0 < n .0 → r .0 < n .0 → Earlier n (binaryReadsBy pass op l r .operands)
+binary-by-earlier Pa.First n op l r g h = binary-earlier n op l r g h
+binary-by-earlier Pa.Second n op l r g h = binary-earlier n op l r g h
+
 relational-earlier : (n : RowNumber) (f : RelationalFunction) (m : RowNumber) → relationalNames n f m ≡ true → Earlier n (relationalReads f m .operands)
 relational-earlier n Rf.All m h = tt
 relational-earlier n Rf.Any m h = tt
 relational-earlier n Rf.IsNan m h = (ltb-true _ _ h, tt)
 relational-earlier n Rf.IsInf m h = (ltb-true _ _ h, tt)
 
-module _ (fr : List ℕ) (n : RowNumber) where
-  shown-earlier : (x : Shown) → ShownInRange (startsOf fr) n x → Earlier n (reads x .operands)
+module _ (pass : Pass) (fr : List ℕ) (n : RowNumber) where
+  shown-earlier : (x : Shown) → ShownInRange (startsOf fr) n x → Earlier n (reads pass x .operands)
   shown-earlier (Row.literal l) h = tt
   shown-earlier (Row.constant t) h = tt
   shown-earlier (Row.override t) h = tt
@@ -149,7 +155,7 @@ module _ (fr : List ℕ) (n : RowNumber) where
   shown-earlier (Row.imageLoad m) h = (h, tt)
   shown-earlier (Row.imageQuery m q) h = query-earlier n m q h
   shown-earlier (Row.unary m) h = (h, tt)
-  shown-earlier (Row.binary o l r) h = binary-earlier n o l r (h .0) (h .1)
+  shown-earlier (Row.binary o l r) h = binary-by-earlier pass n o l r (h .0) (h .1)
   shown-earlier (Row.select m) h = (h, tt)
   shown-earlier (Row.derivative m) h = (h, tt)
   shown-earlier (Row.relational f m) h = relational-earlier n f m h
@@ -167,14 +173,14 @@ module _ (fr : List ℕ) (n : RowNumber) where
   shown-earlier (Row.cooperativeMultiplyAdd m) h = (h, tt)
 
   -- every operand that a row of the file reads is an earlier row; that the readings are the table's is `file-reads` (Reading.antt)
-  pub operands-earlier : Good fr → isRow (startsOf fr) n ≡ true → (x : Shown) → see fr (kind n) ≡ some x → Earlier n (reads x .operands)
+  pub operands-earlier : Good fr → isRow (startsOf fr) n ≡ true → (x : Shown) → see fr (kind n) ≡ some x → Earlier n (reads pass x .operands)
   operands-earlier good here x q = shown-earlier x (rw q at (row-seen fr good n here))
 
 -- so what stands for a row that is not there is never taken: an earlier row is among the answers, and among the readings
-pub answer-there : (fr : List ℕ) (n : ℕ) (k : RowNumber) → k .0 < n → (d : Result Typed)
-    → among (answers (see fr) typing (λ m. newer) n) k ≡ getD (answers (see fr) typing (λ m. newer) n) (k .0) d
-answer-there fr n k l d = in-order-there (λ earlier m. run (see fr) (among earlier) newer (typing m)) n (k .0) l (told absent) d
+pub answer-there : (pass : Pass) (fr : List ℕ) (n : ℕ) (k : RowNumber) → k .0 < n → (d : Result Typed)
+    → among (answers (see fr) (typing pass) (λ m. newer) n) k ≡ getD (answers (see fr) (typing pass) (λ m. newer) n) (k .0) d
+answer-there pass fr n k l d = in-order-there (λ earlier m. run (see fr) (among earlier) newer (typing pass m)) n (k .0) l (told absent) d
 
-pub reading-there : (fr : List ℕ) (n : ℕ) (k : RowNumber) → k .0 < n → (d : Reading Typed)
-    → amongReadings (readings (see fr) typing n) k ≡ getD (readings (see fr) typing n) (k .0) d
-reading-there fr n k l d = in-order-there (λ earlier m. follow (see fr) (amongReadings earlier) (typing m)) n (k .0) l (record { steps = []; end = some absent }) d
+pub reading-there : (pass : Pass) (fr : List ℕ) (n : ℕ) (k : RowNumber) → k .0 < n → (d : Reading Typed)
+    → amongReadings (readings (see fr) (typing pass) n) k ≡ getD (readings (see fr) (typing pass) n) (k .0) d
+reading-there pass fr n k l d = in-order-there (λ earlier m. follow (see fr) (amongReadings earlier) (typing pass m)) n (k .0) l (record { steps = []; end = some absent }) d

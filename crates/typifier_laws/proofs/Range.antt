@@ -17,6 +17,7 @@ use Rattle.rule.specs.Answers.{TypeAnswer, number, value, malformed, Typed, Pla
 use Rattle.rule.specs.Things.{Seen, inRange, faultOf, see}
 use Rattle.rule.specs.Rule.{Rule, come, past, Answers, run}
 use Rattle.rule.specs.Claim.{absent, among, answers, ours}
+use Rattle.row_rules.specs.declared.Pass.{Pass}
 use Rattle.row_rules.specs.Typed.{typing}
 use Rattle.typifier_laws.proofs.Good.{Good}
 use Rattle.typifier_laws.proofs.Ranged.{TypeInRange, TypedInRange, PlaceInRange, InRange, Within, ends, comes, reads}
@@ -59,16 +60,16 @@ pub row-there : (fr : List ℕ) (m : ℕ) → m < rowCount (startsOf fr) → isR
 row-there fr m l = lt-ltb m (rowCount (startsOf fr)) l
 
 -- THE RANGE of the answers of the first n rows
-pub range : (fr : List ℕ) → Good fr → (n : ℕ) → n ≤ rowCount (startsOf fr) → (m : ℕ) → m < n → InRange fr m (getD (answers (see fr) typing (λ m. newer) n) m (told absent))
-range fr good =
-    in-order-all (InRange fr) (λ earlier m. run (see fr) (among earlier) newer (typing m)) (told absent) (rowCount (startsOf fr))
-    (λ n l w all. runs fr n (among l) (λ r q. answer-later fr (r .0) n (omega arith) (among l r) (all (r .0) q)) (rule-keeps fr good n (row-there fr n w)))
+pub range : (pass : Pass) (fr : List ℕ) → Good fr → (n : ℕ) → n ≤ rowCount (startsOf fr) → (m : ℕ) → m < n → InRange fr m (getD (answers (see fr) (typing pass) (λ m. newer) n) m (told absent))
+range pass fr good =
+    in-order-all (InRange fr) (λ earlier m. run (see fr) (among earlier) newer (typing pass m)) (told absent) (rowCount (startsOf fr))
+    (λ n l w all. runs fr n (among l) (λ r q. answer-later fr (r .0) n (omega arith) (among l r) (all (r .0) q)) (rule-keeps pass fr good n (row-there fr n w)))
 
 -- and so of the answer that the claim on later readers speaks of
-pub ours-in-range : (fr : List ℕ) → Good fr → (n : ℕ) → n < rowCount (startsOf fr) → InRange fr n (ours (see fr) typing n (typing n))
-ours-in-range fr good n w =
-    let earlier = answers (see fr) typing (λ m. newer) n in
-    runs fr n (among earlier) (λ r q. answer-later fr (r .0) n (omega arith) (among earlier r) (range fr good n (omega arith) (r .0) q)) (rule-keeps fr good n (row-there fr n w))
+pub ours-in-range : (pass : Pass) (fr : List ℕ) → Good fr → (n : ℕ) → n < rowCount (startsOf fr) → InRange fr n (ours (see fr) (typing pass) n (typing pass n))
+ours-in-range pass fr good n w =
+    let earlier = answers (see fr) (typing pass) (λ m. newer) n in
+    runs fr n (among earlier) (λ r q. answer-later fr (r .0) n (omega arith) (among earlier r) (range pass fr good n (omega arith) (r .0) q)) (rule-keeps pass fr good n (row-there fr n w))
 
 -- what is in range a comparison gives neither 5 nor 6
 pub in-range-sound : (s : Starts) (a : TypeAnswer) → TypeInRange s a → faultOf s a ≡ Fa.Sound

@@ -25,10 +25,12 @@ use Rattle.rule.specs.Answers.{TypeAnswer, number, Typed, given, refused, chose
 use Rattle.rule.specs.Things as Row
 use Rattle.rule.specs.Things.{Shown, Form, kind, form, texels}
 use Rattle.rule.specs.Rule.{Rule}
+use Rattle.row_rules.specs.declared.Pass.{Pass}
+use Rattle.row_rules.specs.declared.Pass.the-variants as Pa
 use Rattle.row_rules.specs.Steps.{passOn, operand, look, sameAs, byType, byBase}
 use Rattle.row_rules.specs.Variables.{literalScalar}
 use Rattle.row_rules.specs.Images.{sampled, imageSample, imageQuery}
-use Rattle.row_rules.specs.Operators.{multiply, binary, relational}
+use Rattle.row_rules.specs.Operators.{multiply, binary, binaryBy, relational}
 use Rattle.ir.specs.TypeMethods.{scalarIn, pointerBase}
 use Rattle.row_rules.specs.Results.{baseScalar}
 use Rattle.row_rules.specs.Typed.{resolve, typing}
@@ -110,6 +112,10 @@ module _ (fr : List ℕ) (good : Good fr) (here : RowNumber) where
   binary-keeps Bo.ShiftLeft l r g h = same-keeps l g
   binary-keeps Bo.ShiftRight l r g h = same-keeps l g
 
+  binary-by-keeps : (pass : Pass) (op : BinaryOperator) (l r : RowNumber) → l .0 < here .0 → r .0 < here .0 → Keeps (binaryBy pass here op l r)
+  binary-by-keeps Pa.First op l r g h = binary-keeps op l r g h
+  binary-by-keeps Pa.Second op l r g h = binary-keeps op l r g h
+
   relational-keeps : (f : RelationalFunction) (n : RowNumber) → relationalNames here f n ≡ true → Keeps (relational here f n)
   relational-keeps Rf.All n h = ends (scalar-in (startsOf fr) BOOL)
   relational-keeps Rf.Any n h = ends (scalar-in (startsOf fr) BOOL)
@@ -117,46 +123,46 @@ module _ (fr : List ℕ) (good : Good fr) (here : RowNumber) where
   relational-keeps Rf.IsInf n h = type-keeps n _ (ltb-true _ _ h) (bools-of (startsOf fr))
 
   -- the rule of what a row shows
-  resolve-keeps : (x : Shown) → ShownInRange (startsOf fr) here x → Keeps (resolve here x)
-  resolve-keeps (Row.literal l) h = ends (scalar-in (startsOf fr) (literalScalar l))
-  resolve-keeps (Row.constant t) h = ends h
-  resolve-keeps (Row.override t) h = ends h
-  resolve-keeps (Row.zeroValue t) h = ends h
-  resolve-keeps (Row.compose t parts) h = ends (h .0)
-  resolve-keeps (Row.access n) h =
+  resolve-keeps : (pass : Pass) (x : Shown) → ShownInRange (startsOf fr) here x → Keeps (resolve pass here x)
+  resolve-keeps pass (Row.literal l) h = ends (scalar-in (startsOf fr) (literalScalar l))
+  resolve-keeps pass (Row.constant t) h = ends h
+  resolve-keeps pass (Row.override t) h = ends h
+  resolve-keeps pass (Row.zeroValue t) h = ends h
+  resolve-keeps pass (Row.compose t parts) h = ends (h .0)
+  resolve-keeps pass (Row.access n) h =
       base-keeps n _ _ h (λ b p x w j. access-through (startsOf fr) b p (x .inner) (j .base)) (λ x j. access-into (startsOf fr) n (x .inner) (j .base))
-  resolve-keeps (Row.accessIndex n i) h =
+  resolve-keeps pass (Row.accessIndex n i) h =
       base-keeps n _ _ h (λ b p x w j. index-through (startsOf fr) n i b p (x .members) (x .inner) (j .base) (j .members))
       (λ x j. index-into (startsOf fr) n i (x .members) (x .inner) (j .base) (j .members))
-  resolve-keeps (Row.splat z n) h = type-keeps n _ h (splat-of (startsOf fr) z n)
-  resolve-keeps (Row.swizzle z n) h = type-keeps n _ h (swizzle-of (startsOf fr) z n)
-  resolve-keeps (Row.functionArgument i t) h = ends (argument-in (startsOf fr) i t h)
-  resolve-keeps (Row.globalVariable t p) h = ends (variable-in (startsOf fr) t p h)
-  resolve-keeps (Row.localVariable t) h = ends (pointer-in (startsOf fr) t Sp.Function h)
-  resolve-keeps (Row.load n) h = base-keeps n _ _ h (λ b p x w j. load-through (startsOf fr) b (x .inner) w) (λ x j. load-into (startsOf fr) n (x .inner) (j .base))
-  resolve-keeps (Row.imageSample n g) h = sample-keeps n g h
-  resolve-keeps (Row.imageLoad n) h = sampled-keeps n h
-  resolve-keeps (Row.imageQuery n q) h = query-keeps n q h
-  resolve-keeps (Row.unary n) h = same-keeps n h
-  resolve-keeps (Row.binary op l r) h = binary-keeps op l r (h .0) (h .1)
-  resolve-keeps (Row.select n) h = same-keeps n h
-  resolve-keeps (Row.derivative n) h = same-keeps n h
-  resolve-keeps (Row.relational f n) h = relational-keeps f n h
-  resolve-keeps (Row.cast n k w) h = type-keeps n _ h (cast-of (startsOf fr) k w)
-  resolve-keeps (Row.callResult r) h = ends (result-of (startsOf fr) r h)
-  resolve-keeps (Row.atomicResult t) h = ends h
-  resolve-keeps (Row.workGroupUniformLoadResult t) h = ends h
-  resolve-keeps Row.arrayLength h = ends (scalar-in (startsOf fr) U32)
-  resolve-keeps (Row.rayQueryVertexPositions t) h = ends (special-in (startsOf fr) t h)
-  resolve-keeps Row.rayQueryProceedResult h = ends (scalar-in (startsOf fr) BOOL)
-  resolve-keeps (Row.rayQueryGetIntersection t) h = ends (special-in (startsOf fr) t h)
-  resolve-keeps Row.subgroupBallotResult h = ends (vector-in (startsOf fr) Vs.Quad U32)
-  resolve-keeps (Row.subgroupOperationResult t) h = ends h
-  resolve-keeps (Row.cooperativeLoad c r o n) h =
+  resolve-keeps pass (Row.splat z n) h = type-keeps n _ h (splat-of (startsOf fr) z n)
+  resolve-keeps pass (Row.swizzle z n) h = type-keeps n _ h (swizzle-of (startsOf fr) z n)
+  resolve-keeps pass (Row.functionArgument i t) h = ends (argument-in (startsOf fr) i t h)
+  resolve-keeps pass (Row.globalVariable t p) h = ends (variable-in (startsOf fr) t p h)
+  resolve-keeps pass (Row.localVariable t) h = ends (pointer-in (startsOf fr) t Sp.Function h)
+  resolve-keeps pass (Row.load n) h = base-keeps n _ _ h (λ b p x w j. load-through (startsOf fr) b (x .inner) w) (λ x j. load-into (startsOf fr) n (x .inner) (j .base))
+  resolve-keeps pass (Row.imageSample n g) h = sample-keeps n g h
+  resolve-keeps pass (Row.imageLoad n) h = sampled-keeps n h
+  resolve-keeps pass (Row.imageQuery n q) h = query-keeps n q h
+  resolve-keeps pass (Row.unary n) h = same-keeps n h
+  resolve-keeps pass (Row.binary op l r) h = binary-by-keeps pass op l r (h .0) (h .1)
+  resolve-keeps pass (Row.select n) h = same-keeps n h
+  resolve-keeps pass (Row.derivative n) h = same-keeps n h
+  resolve-keeps pass (Row.relational f n) h = relational-keeps f n h
+  resolve-keeps pass (Row.cast n k w) h = type-keeps n _ h (cast-of (startsOf fr) k w)
+  resolve-keeps pass (Row.callResult r) h = ends (result-of (startsOf fr) r h)
+  resolve-keeps pass (Row.atomicResult t) h = ends h
+  resolve-keeps pass (Row.workGroupUniformLoadResult t) h = ends h
+  resolve-keeps pass Row.arrayLength h = ends (scalar-in (startsOf fr) U32)
+  resolve-keeps pass (Row.rayQueryVertexPositions t) h = ends (special-in (startsOf fr) t h)
+  resolve-keeps pass Row.rayQueryProceedResult h = ends (scalar-in (startsOf fr) BOOL)
+  resolve-keeps pass (Row.rayQueryGetIntersection t) h = ends (special-in (startsOf fr) t h)
+  resolve-keeps pass Row.subgroupBallotResult h = ends (vector-in (startsOf fr) Vs.Quad U32)
+  resolve-keeps pass (Row.subgroupOperationResult t) h = ends h
+  resolve-keeps pass (Row.cooperativeLoad c r o n) h =
       base-keeps n _ _ h (λ b p x w j. cooperative-of (startsOf fr) c r o n (scalarIn (x .inner))) (λ x j. cooperative-of (startsOf fr) c r o n (baseScalar (pointerBase (x .inner))))
-  resolve-keeps (Row.cooperativeMultiplyAdd n) h = same-keeps n h
+  resolve-keeps pass (Row.cooperativeMultiplyAdd n) h = same-keeps n h
 
 -- the rule of every row of an accepted file keeps within it
-pub rule-keeps : (fr : List ℕ) → Good fr → (m : ℕ) → isRow (startsOf fr) (record { 0 = m }) ≡ true → Within fr m (typing m)
-rule-keeps fr good m here =
-    comes (row (record { 0 = m })) (kind (record { 0 = m })) (omega arith) here (λ x q. resolve-keeps fr good (record { 0 = m }) x (rw q at (row-seen fr good (record { 0 = m }) here)))
+pub rule-keeps : (pass : Pass) (fr : List ℕ) → Good fr → (m : ℕ) → isRow (startsOf fr) (record { 0 = m }) ≡ true → Within fr m (typing pass m)
+rule-keeps pass fr good m here =
+    comes (row (record { 0 = m })) (kind (record { 0 = m })) (omega arith) here (λ x q. resolve-keeps fr good (record { 0 = m }) pass x (rw q at (row-seen fr good (record { 0 = m }) here)))
