@@ -14,6 +14,7 @@ use Rattle.rule.specs.Answers.{TypeAnswer, number, value, malformed, Typed, giv
 use Rattle.rule.specs.Things.{see}
 use Rattle.rule.specs.Rule.{Rule, run}
 use Rattle.rule.specs.Claim.{among, answers, ours}
+use Rattle.row_rules.specs.declared.Pass.{Pass}
 use Rattle.row_rules.specs.Typed.{typing}
 use Rattle.operands.specs.Past.{pastIn}
 use Rattle.compose.specs.Rows.{verdictOf}
@@ -38,18 +39,18 @@ more fr n outs places rows after p (newer composed) h = absurd h
 more fr n outs places rows after p (newer nowhere) h = absurd h
 more fr n outs places rows after p (newer (chosen f)) h = absurd h
 
-module _ (fr : List ℕ) (good : Good fr) where
+module _ (pass : Pass) (fr : List ℕ) (good : Good fr) where
   -- the answers of the first n rows stand at their places
-  pub placed-outputs : (n : ℕ) → n ≤ rowCount (startsOf fr) → Placed (outputs (see fr) n) (placesOf fr n) (answers (see fr) typing (λ m. newer) n)
+  pub placed-outputs : (n : ℕ) → n ≤ rowCount (startsOf fr) → Placed (outputs pass (see fr) n) (placesOf pass fr n) (answers (see fr) (typing pass) (λ m. newer) n)
   unfolding outputs build
   placed-outputs zero h = record { long = refl; each = λ k l. absurd (omega arith) }
   placed-outputs (suc n) h =
-      more fr n (outputs (see fr) n) (placesOf fr n) (answers (see fr) typing (λ m. newer) n) (verdictFrames n (verdictOf (see fr) n)) (placed-outputs n (omega arith))
-      (rowAnswer (see fr) n) (ours-in-range fr good n (omega arith))
+      more fr n (outputs pass (see fr) n) (placesOf pass fr n) (answers (see fr) (typing pass) (λ m. newer) n) (verdictFrames n (verdictOf pass (see fr) n)) (placed-outputs n (omega arith))
+      (rowAnswer pass (see fr) n) (ours-in-range pass fr good n (omega arith))
 
   -- so any rule run over the buffer and the places of the first n rows gives our outcome over them, whatever stands after those rows' frames
   pub run-buffer : {A : Type 0} (n : ℕ) → n ≤ rowCount (startsOf fr) → (rest : List ℕ) (rule : Rule A)
-      → run (see fr) (pastIn (framesBytes (outputs (see fr) n) ++ rest) (placesOf fr n)) newer rule ≡ ours (see fr) typing n rule
+      → run (see fr) (pastIn (framesBytes (outputs pass (see fr) n) ++ rest) (placesOf pass fr n)) newer rule ≡ ours (see fr) (typing pass) n rule
   run-buffer n h rest rule =
-      run-same (see fr) (pastIn (framesBytes (outputs (see fr) n) ++ rest) (placesOf fr n)) (among (answers (see fr) typing (λ m. newer) n))
-      (past-is (outputs (see fr) n) (placesOf fr n) (answers (see fr) typing (λ m. newer) n) rest (placed-outputs n h)) newer rule
+      run-same (see fr) (pastIn (framesBytes (outputs pass (see fr) n) ++ rest) (placesOf pass fr n)) (among (answers (see fr) (typing pass) (λ m. newer) n))
+      (past-is (outputs pass (see fr) n) (placesOf pass fr n) (answers (see fr) (typing pass) (λ m. newer) n) rest (placed-outputs n h)) newer rule

@@ -33,6 +33,7 @@ use Rattle.archive.specs.Access.{rowIn}
 use Rattle.rule.specs.Answers.{Judgement, Result}
 use Rattle.rule.specs.Things.{shown, see, seeRow}
 use Rattle.rule.specs.Rule.{Rule}
+use Rattle.row_rules.specs.declared.Pass.{Pass}
 use Rattle.typifier_laws.proofs.Good.{Good}
 use Rattle.typifier_laws.proofs.Named.{row-frame}
 use Rattle.typifier_laws.proofs.Range.{row-there}
@@ -147,15 +148,15 @@ module _ (fr : List ℕ) where
   at-most-two true = omega arith
   at-most-two false = omega arith
 
-  frames-asked : Good fr → (m : ℕ) → m < rowCount (startsOf fr) → length (rowFrames (see fr) m) ≤ asked (startsOf fr .rows + m)
-  frames-asked good m h =
+  frames-asked : (pass : Pass) → Good fr → (m : ℕ) → m < rowCount (startsOf fr) → length (rowFrames pass (see fr) m) ≤ asked (startsOf fr .rows + m)
+  frames-asked pass good m h =
       let n : RowNumber = record { 0 = m } in
       let here = row-there fr m h in
       let e : eqb (byte (frameAt fr (startsOf fr .rows + m)) 0) 4 ≡ true = eq-eqb _ _ (row-frame fr good n here .family-is) in
       go (verdictRule (see fr) m) refl e
     where
       go : (v : Option (Rule Judgement)) → verdictRule (see fr) m ≡ v → eqb (byte (frameAt fr (startsOf fr .rows + m)) 0) 4 ≡ true
-          → length (rowFrames (see fr) m) ≤ asked (startsOf fr .rows + m)
+          → length (rowFrames pass (see fr) m) ≤ asked (startsOf fr .rows + m)
       go none q e = rw (q, e) (at-most-two (eqb (byte (frameAt fr (startsOf fr .rows + m)) 1) 5))
       go (some r) q e =
           let n : RowNumber = record { 0 = m } in
@@ -164,9 +165,9 @@ module _ (fr : List ℕ) where
           rw (q, e, eq-eqb _ _ f) (omega arith)
 
   -- what the first m rows hand back is within what the frames up to them ask for
-  pub outputs-asked : Good fr → (m : ℕ) → m ≤ rowCount (startsOf fr) → length (outputs (see fr) m) ≤ sumBelow asked (startsOf fr .rows + m)
+  pub outputs-asked : (pass : Pass) → Good fr → (m : ℕ) → m ≤ rowCount (startsOf fr) → length (outputs pass (see fr) m) ≤ sumBelow asked (startsOf fr .rows + m)
   unfolding outputs sumBelow
-  outputs-asked good zero h = omega arith
-  outputs-asked good (suc m) h =
+  outputs-asked pass good zero h = omega arith
+  outputs-asked pass good (suc m) h =
       let e : startsOf fr .rows + suc m ≡ suc (startsOf fr .rows + m) = omega arith in
-      rw e (omega (arith, length-append (outputs (see fr) m) (rowFrames (see fr) m), outputs-asked good m (omega arith), frames-asked good m (omega arith)))
+      rw e (omega (arith, length-append (outputs pass (see fr) m) (rowFrames pass (see fr) m), outputs-asked pass good m (omega arith), frames-asked pass good m (omega arith)))

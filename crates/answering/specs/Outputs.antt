@@ -10,25 +10,26 @@ use Rattle.archive.specs.Starts.{startsOf, rowCount}
 use Rattle.rule.specs.Answers.{Typed, Judgement, Result, rowFrame, verdictFrame}
 use Rattle.rule.specs.Things.{Sight, see}
 use Rattle.rule.specs.Claim.{ours}
+use Rattle.row_rules.specs.declared.Pass.{Pass}
 use Rattle.row_rules.specs.Typed.{typing}
 use Rattle.compose.specs.Rows.{verdictOf}
 
 -- our answer of row n, over the answers of the rows before it
-abbrev pub rowAnswer : Sight → ℕ → Result Typed
-rowAnswer sight n = ours sight typing n (typing n)
+abbrev pub rowAnswer : Pass → Sight → ℕ → Result Typed
+rowAnswer pass sight n = ours sight (typing pass) n (typing pass n)
 
 abbrev pub verdictFrames : ℕ → Option (Result Judgement) → List Frame
 verdictFrames n (some j) = verdictFrame (record { 0 = n }) j ∷ []
 verdictFrames n none = []
 
 -- row n's answer, and its verdict where it is a compose
-abbrev pub rowFrames : Sight → ℕ → List Frame
-rowFrames sight n = rowFrame (rowAnswer sight n) ∷ verdictFrames n (verdictOf sight n)
+abbrev pub rowFrames : Pass → Sight → ℕ → List Frame
+rowFrames pass sight n = rowFrame (rowAnswer pass sight n) ∷ verdictFrames n (verdictOf pass sight n)
 
 -- those of the first n rows, in order
-unfoldable pub outputs : Sight → ℕ → List Frame
-outputs sight zero = []
-outputs sight (suc n) = outputs sight n ++ rowFrames sight n
+unfoldable pub outputs : Pass → Sight → ℕ → List Frame
+outputs pass sight zero = []
+outputs pass sight (suc n) = outputs pass sight n ++ rowFrames pass sight n
 
 -- frames as bytes, one after the other
 unfoldable pub framesBytes : List Frame → List ℕ
@@ -36,9 +37,9 @@ framesBytes [] = []
 framesBytes (f ∷ l) = bytesOf f ++ framesBytes l
 
 -- the bytes handed back of a file, whose frames these are
-abbrev pub outputBytes : List ℕ → List ℕ
-outputBytes fr = framesBytes (outputs (see fr) (rowCount (startsOf fr)))
+abbrev pub outputBytes : Pass → List ℕ → List ℕ
+outputBytes pass fr = framesBytes (outputs pass (see fr) (rowCount (startsOf fr)))
 
 -- at which of these frames the answer of each of the first n rows stands: after all that is handed back of the rows before it
-abbrev pub placesOf : List ℕ → ℕ → List ℕ
-placesOf fr n = build (λ (k : ℕ). length (outputs (see fr) k)) n
+abbrev pub placesOf : Pass → List ℕ → ℕ → List ℕ
+placesOf pass fr n = build (λ (k : ℕ). length (outputs pass (see fr) k)) n

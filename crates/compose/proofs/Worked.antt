@@ -17,6 +17,7 @@ use Rattle.archive.specs.Access.{typeIn, rowIn}
 use Rattle.rule.specs.Answers.{Result, Judgement, verdictFrame}
 use Rattle.rule.specs.Things.{listed, see}
 use Rattle.type_methods.specs.Canonical.{equalTypes, identical}
+use Rattle.row_rules.specs.declared.Pass.the-variants as Pa
 use Rattle.compose.specs.Verdict.{eachPart, vectorParts}
 use Rattle.compose.specs.Rows.{verdictOf}
 use Rattle.compose.specs.Cases.{file, wanted}
@@ -28,7 +29,7 @@ asBytes n none = none
 -- the verdicts of the rows from row n on, as many as are wanted
 abbrev from : ℕ → List (Option (List ℕ)) → List (Option (List ℕ))
 from n [] = []
-from n (w ∷ ws) = asBytes n (verdictOf (see file) n) ∷ from (suc n) ws
+from n (w ∷ ws) = asBytes n (verdictOf Pa.First (see file) n) ∷ from (suc n) ws
 
 worked : from 0 wanted ≡ wanted
 unfolding eachPart vectorParts equalTypes identical listed typeIn rowIn frameAt typeOf memberOf itemOf rowOf componentOf start startsOf lowest allBelow build sumBelow

@@ -8,6 +8,7 @@ use Rattle.rule.specs.Things.{Shown, Sight, kind}
 use Rattle.rule.specs.Things as Row
 use Rattle.rule.specs.Rule.{Rule}
 use Rattle.rule.specs.Claim.{ours}
+use Rattle.row_rules.specs.declared.Pass.{Pass}
 use Rattle.row_rules.specs.Typed.{typing}
 use Rattle.compose.specs.Verdict.{verdict}
 
@@ -56,9 +57,9 @@ abbrev pub verdictRule : Sight → ℕ → Option (Rule Judgement)
 verdictRule sight n = ofShown (sight (kind (record { 0 = n })))
 
 -- our verdict on row n, over the answers of the rows before it
-abbrev pub judged : Sight → ℕ → Option (Rule Judgement) → Option (Result Judgement)
-judged sight n (some rule) = some (ours sight typing n rule)
-judged sight n none = none
+abbrev pub judged : Pass → Sight → ℕ → Option (Rule Judgement) → Option (Result Judgement)
+judged pass sight n (some rule) = some (ours sight (typing pass) n rule)
+judged pass sight n none = none
 
-abbrev pub verdictOf : Sight → ℕ → Option (Result Judgement)
-verdictOf sight n = judged sight n (verdictRule sight n)
+abbrev pub verdictOf : Pass → Sight → ℕ → Option (Result Judgement)
+verdictOf pass sight n = judged pass sight n (verdictRule sight n)

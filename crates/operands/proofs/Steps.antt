@@ -25,6 +25,7 @@ use Rattle.operands.specs.declared.Looked.{Looked}
 use Rattle.operands.specs.declared.Looked.the-variants as Lo
 use Rattle.operands.specs.declared.Based.{Based}
 use Rattle.operands.specs.declared.Based.the-variants as Ba
+use Rattle.row_rules.specs.declared.Pass.{Pass}
 use Rattle.row_rules.specs.Steps.{operand, look, sameAs, byType, throughBase, byBase}
 use Rattle.row_rules.specs.Images.{sampledFrom, sampled}
 use Rattle.row_rules.specs.Operators.{product, multiply}
@@ -217,10 +218,10 @@ module _ (fr : List ℕ) (s : Starts) (an pl : List ℕ) where
 
   -- A ROW'S OWN KIND
 
-  pub row-run : (r : RowNumber) → ran (typed r) ≡ ruledShown fr s an pl r (seeRow fr s (rowIn fr s r))
+  pub row-run : (pass : Pass) (r : RowNumber) → ran (typed pass r) ≡ ruledShown pass fr s an pl r (seeRow fr s (rowIn fr s r))
   unfolding ruled
-  row-run r = go (seeRow fr s (rowIn fr s r)) refl
+  row-run pass r = go (seeRow fr s (rowIn fr s r)) refl
     where
-      go : (o : Option Shown) → seeRow fr s (rowIn fr s r) ≡ o → ran (typed r) ≡ ruledShown fr s an pl r o
+      go : (o : Option Shown) → seeRow fr s (rowIn fr s r) ≡ o → ran (typed pass r) ≡ ruledShown pass fr s an pl r o
       go none q = rw (q, run)
       go (some x) q = rw (q, run)

@@ -29,6 +29,7 @@ use Rattle.operands.specs.declared.Looked.{Looked}
 use Rattle.operands.specs.declared.Looked.the-variants as Lo
 use Rattle.operands.specs.declared.Based.{Based}
 use Rattle.operands.specs.declared.Based.the-variants as Ba
+use Rattle.row_rules.specs.declared.Pass.{Pass}
 use Rattle.row_rules.specs.Operators.{product}
 use Rattle.row_rules.specs.Typed.{resolve}
 use Rattle.row_rules.specs.Answered.{toResult}
@@ -46,9 +47,9 @@ unfoldable pub ruled : List ℕ → Starts → List ℕ → List ℕ → Rule Ty
 ruled fr s answers places rule = run (seeIn fr s) (pastIn answers places) newer rule
 
 -- and by the rule of row `here`, whose kind shows this, or nothing
-abbrev pub ruledShown : List ℕ → Starts → List ℕ → List ℕ → RowNumber → Option Shown → Result Typed
-ruledShown fr s answers places here (some x) = ruled fr s answers places (resolve here x)
-ruledShown fr s answers places here none = newer (row here)
+abbrev pub ruledShown : Pass → List ℕ → Starts → List ℕ → List ℕ → RowNumber → Option Shown → Result Typed
+ruledShown pass fr s answers places here (some x) = ruled fr s answers places (resolve pass here x)
+ruledShown pass fr s answers places here none = newer (row here)
 
 -- a form as it is shown
 abbrev pub formed : List ℕ → Starts → TypeInner → Form

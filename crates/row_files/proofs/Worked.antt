@@ -17,13 +17,14 @@ use Rattle.rule.specs.Answers.{Result, Typed, newer, rowFrame}
 use Rattle.archive.specs.Access.{typeIn, rowIn}
 use Rattle.rule.specs.Things.{listed, see}
 use Rattle.rule.specs.Claim.{answers}
+use Rattle.row_rules.specs.declared.Pass.the-variants as Pa
 use Rattle.row_rules.specs.Typed.{typing}
 use Rattle.row_cases.specs.Lines.{Case, fileOf, wanted}
 use Rattle.row_files.specs.Cases.{table}
 
 -- the answers of a file's first n rows, as bytes
 abbrev given : List ℕ → ℕ → List (List ℕ)
-given file n = map (λ (a : Result Typed). bytesOf (rowFrame a)) (answers (see file) typing (λ m. newer) n)
+given file n = map (λ (a : Result Typed). bytesOf (rowFrame a)) (answers (see file) (typing Pa.First) (λ m. newer) n)
 
 worked : map (λ (c : Case). given (fileOf c) (length (wanted c))) table ≡ map wanted table
 unfolding listed typeIn rowIn frameAt typeOf memberOf itemOf rowOf componentOf start startsOf lowest allBelow build sumBelow
