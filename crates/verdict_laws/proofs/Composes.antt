@@ -17,6 +17,7 @@ use Rattle.rule.specs.Things.{compose, kind, listed, shown, see, seeRow}
 use Rattle.rule.specs.Rule.{Rule}
 use Rattle.rule.specs.Claim.{ours}
 use Rattle.type_methods.proofs.Seen.{never}
+use Rattle.row_rules.specs.declared.Pass.{Pass}
 use Rattle.row_rules.specs.Typed.{typing}
 use Rattle.compose.specs.Verdict.{verdict}
 use Rattle.compose.specs.Rows.{ofShown, verdictRule, judged, verdictOf}
@@ -47,14 +48,14 @@ composes fr n rule h = go (rowIn fr (startsOf fr) (record { 0 = n })) refl h
         }
 
 -- a row that has a verdict has its rule, and the verdict is ours by it
-pub record HasRule (fr : List ℕ) (n : ℕ) (v : Result Judgement) : Type 0 where
+pub record HasRule (pass : Pass) (fr : List ℕ) (n : ℕ) (v : Result Judgement) : Type 0 where
   pub rule : Rule Judgement
   pub has : verdictRule (see fr) n ≡ some rule
-  pub ours-is : ours (see fr) typing n rule ≡ v
+  pub ours-is : ours (see fr) (typing pass) n rule ≡ v
 
-pub has-rule : (fr : List ℕ) (n : ℕ) (v : Result Judgement) → verdictOf (see fr) n ≡ some v → HasRule fr n v
-has-rule fr n v h = go (verdictRule (see fr) n) refl h
+pub has-rule : (pass : Pass) (fr : List ℕ) (n : ℕ) (v : Result Judgement) → verdictOf pass (see fr) n ≡ some v → HasRule pass fr n v
+has-rule pass fr n v h = go (verdictRule (see fr) n) refl h
   where
-    go : (o : Option (Rule Judgement)) → verdictRule (see fr) n ≡ o → judged (see fr) n o ≡ some v → HasRule fr n v
+    go : (o : Option (Rule Judgement)) → verdictRule (see fr) n ≡ o → judged pass (see fr) n o ≡ some v → HasRule pass fr n v
     go none q e = never (cc)
     go (some rule) q e = record { rule = rule; has = q; ours-is = cc }

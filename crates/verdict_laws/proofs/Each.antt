@@ -18,6 +18,7 @@ use Rattle.rule.specs.Things.{see}
 use Rattle.rule.specs.Rule.{Rule}
 use Rattle.rule.specs.Claim.{ours}
 use Rattle.type_methods.proofs.Seen.{never}
+use Rattle.row_rules.specs.declared.Pass.{Pass}
 use Rattle.row_rules.specs.Typed.{typing}
 use Rattle.typifier_laws.proofs.Good.{Good}
 use Rattle.typifier_laws.proofs.Ranged.{InRange}
@@ -44,40 +45,40 @@ answer-family fr n (newer composed) h = absurd h
 answer-family fr n (newer nowhere) h = absurd h
 answer-family fr n (newer (chosen f)) h = absurd h
 
-module _ (fr : List ℕ) (good : Good fr) where
+module _ (pass : Pass) (fr : List ℕ) (good : Good fr) where
   -- ONE ROW
-  pub one-each : (n : ℕ) → n < rowCount (startsOf fr) → OneEach fr n
+  pub one-each : (n : ℕ) → n < rowCount (startsOf fr) → OneEach pass fr n
   one-each n h = record {
-    answer = rowFrame (rowAnswer (see fr) n);
-    family = answer-family fr n (rowAnswer (see fr) n) (ours-in-range fr good n h);
+    answer = rowFrame (rowAnswer pass (see fr) n);
+    family = answer-family fr n (rowAnswer pass (see fr) n) (ours-in-range pass fr good n h);
     compose = λ e. judged (verdictRule (see fr) n) refl (ap ofShown (row-by-bytes fr good (record { 0 = n }) (row-there fr n h) .composes e));
     other = λ e. alone (verdictRule (see fr) n) refl e;
   }
     where
-      judged : {r : Rule Judgement} (o : Option (Rule Judgement)) → verdictRule (see fr) n ≡ o → verdictRule (see fr) n ≡ some r → ThenVerdict fr n (rowFrame (rowAnswer (see fr) n))
+      judged : {r : Rule Judgement} (o : Option (Rule Judgement)) → verdictRule (see fr) n ≡ o → verdictRule (see fr) n ≡ some r → ThenVerdict pass fr n (rowFrame (rowAnswer pass (see fr) n))
       judged none q e = never (cc)
       judged (some rule) q e =
-          let v = ours (see fr) typing n rule in
-          let j = verdict-numbers fr n v (rw q) in
+          let v = ours (see fr) (typing pass) n rule in
+          let j = verdict-numbers pass fr n v (rw q) in
           record { verdict = frameOf n v; family = j .laid .family; row = j .laid .row; frames = rw q }
 
-      alone : (o : Option (Rule Judgement)) → verdictRule (see fr) n ≡ o → (rowKind fr n ≡ 5 → ⊥) → rowFrames (see fr) n ≡ rowFrame (rowAnswer (see fr) n) ∷ []
+      alone : (o : Option (Rule Judgement)) → verdictRule (see fr) n ≡ o → (rowKind fr n ≡ 5 → ⊥) → rowFrames pass (see fr) n ≡ rowFrame (rowAnswer pass (see fr) n) ∷ []
       alone none q e = rw q
       alone (some rule) q e = absurd (e (compose-kind fr good n h (composes fr n rule q)))
 
   -- how many frames row n hands back
-  frames-of : (n : ℕ) → n < rowCount (startsOf fr) → length (rowFrames (see fr) n) ≡ 1 + cond (eqb (rowKind fr n) 5) 1 0
+  frames-of : (n : ℕ) → n < rowCount (startsOf fr) → length (rowFrames pass (see fr) n) ≡ 1 + cond (eqb (rowKind fr n) 5) 1 0
   frames-of n h = go (eqb (rowKind fr n) 5) refl
     where
-      go : (b : Bool) → eqb (rowKind fr n) 5 ≡ b → length (rowFrames (see fr) n) ≡ 1 + cond b 1 0
+      go : (b : Bool) → eqb (rowKind fr n) 5 ≡ b → length (rowFrames pass (see fr) n) ≡ 1 + cond b 1 0
       go true q = ap length (one-each n h .compose (eqb-true (rowKind fr n) 5 q) .frames)
       go false q = ap length (one-each n h .other (eqb-false (rowKind fr n) 5 q))
 
   -- ALL ROWS: one frame a row, and one more a compose
-  pub outputs-below : (n : ℕ) → n ≤ rowCount (startsOf fr) → length (outputs (see fr) n) ≡ n + composesBelow fr n
+  pub outputs-below : (n : ℕ) → n ≤ rowCount (startsOf fr) → length (outputs pass (see fr) n) ≡ n + composesBelow fr n
   unfolding outputs sumBelow
   outputs-below zero h = refl
-  outputs-below (suc n) h = omega (arith, length-append (outputs (see fr) n) (rowFrames (see fr) n), outputs-below n (omega arith), frames-of n (omega arith))
+  outputs-below (suc n) h = omega (arith, length-append (outputs pass (see fr) n) (rowFrames pass (see fr) n), outputs-below n (omega arith), frames-of n (omega arith))
 
-  pub one-a-row : length (outputs (see fr) (rowCount (startsOf fr))) ≡ rowCount (startsOf fr) + composeCount fr
+  pub one-a-row : length (outputs pass (see fr) (rowCount (startsOf fr))) ≡ rowCount (startsOf fr) + composeCount fr
   one-a-row = outputs-below (rowCount (startsOf fr)) (omega arith)

@@ -31,6 +31,7 @@ use Rattle.rule.proofs.Named.{listed-length}
 use Rattle.type_methods.specs.Canonical.{canonical, equalTypes, identical}
 use Rattle.type_methods.specs.Comparison.{inForm, byStruct, byIdentical, compare}
 use Rattle.type_methods.proofs.Seen.{never}
+use Rattle.row_rules.specs.declared.Pass.{Pass}
 use Rattle.row_rules.specs.Typed.{typing}
 use Rattle.typifier_laws.proofs.Good.{Good}
 use Rattle.typifier_laws.proofs.Range.{row-there}
@@ -186,13 +187,13 @@ pub record JudgedOurs (fr : List ℕ) (n : ℕ) (v : Result Judgement) : Type 0 
   pub is : OurVerdict (length (row .parts)) v
   pub laid : VerdictLaid n (length (row .parts)) v
 
-pub verdict-numbers : (fr : List ℕ) (n : ℕ) (v : Result Judgement) → verdictOf (see fr) n ≡ some v → JudgedOurs fr n v
-verdict-numbers fr n v h =
-    let r = has-rule fr n v h in
+pub verdict-numbers : (pass : Pass) (fr : List ℕ) (n : ℕ) (v : Result Judgement) → verdictOf pass (see fr) n ≡ some v → JudgedOurs fr n v
+verdict-numbers pass fr n v h =
+    let r = has-rule pass fr n v h in
     let c = composes fr n (r .rule) (r .has) in
     let o : OurVerdict (length (c .parts)) v =
-    subst (λ (x : Result Judgement). OurVerdict (length (c .parts)) x) (ap (ours (see fr) typing n) (sym (rule-is fr n (r .rule) (r .has) c)) ∙ r .ours-is)
-    (verdict-ours (see fr) (among (answers (see fr) typing (λ m. newer) n)) (c .ty) (c .parts)) in
+    subst (λ (x : Result Judgement). OurVerdict (length (c .parts)) x) (ap (ours (see fr) (typing pass) n) (sym (rule-is fr n (r .rule) (r .has) c)) ∙ r .ours-is)
+    (verdict-ours (see fr) (among (answers (see fr) (typing pass) (λ m. newer) n)) (c .ty) (c .parts)) in
     record { row = c; is = o; laid = verdict-laid n (length (c .parts)) v o }
 
 -- OF AN ACCEPTED FILE: the range of components lies within the frames of the file
@@ -219,6 +220,6 @@ module _ (fr : List ℕ) (good : Good fr) (n : ℕ) (h : n < rowCount (startsOf 
       go (suc j) f = omega (arith, f j (omega arith))
 
   -- so b4-7 of a 22 are hex ffffffff exactly where the composed type itself is newer
-  pub whole-composed : frameCount fr ≤ 1024 → (v : Result Judgement) → verdictOf (see fr) n ≡ some v → byte (frameOf n v) 1 ≡ 22
+  pub whole-composed : (pass : Pass) → frameCount fr ≤ 1024 → (v : Result Judgement) → verdictOf pass (see fr) n ≡ some v → byte (frameOf n v) 1 ≡ 22
       → (word (frameOf n v) 4 ≡ 0xffff_ffff) ↔ (v ≡ newer composed)
-  whole-composed few v e b = let j = verdict-numbers fr n v e in j .laid .whole (omega (arith, few-parts (j .row))) b
+  whole-composed pass few v e b = let j = verdict-numbers pass fr n v e in j .laid .whole (omega (arith, few-parts (j .row))) b

@@ -23,6 +23,7 @@ use Rattle.rule.specs.Claim.{reading, readings, amongReadings}
 use Rattle.type_methods.specs.Canonical.{ifPointer, canonical, equalTypes, identical}
 use Rattle.type_methods.specs.Comparison.{inForm, inForms, byStruct, byIdentical, compare}
 use Rattle.ir.specs.Scalars.{equalScalars}
+use Rattle.row_rules.specs.declared.Pass.{Pass}
 use Rattle.row_rules.specs.Typed.{typing}
 use Rattle.row_cases.specs.Reads.{unlessRefused, unlessNewer}
 use Rattle.compose.specs.Verdict.{comeTo, orPart, eachPart, counted, adds, addPart, vectorParts, columnIs, elementIs, memberIs, arrayParts, byForm, verdict}
@@ -218,11 +219,11 @@ module _ (sight : Sight) (earlier : Readings) where
       shown none = refl
 
 -- and so of a row of a file: where it has a verdict it is a compose, and the verdict's reading is that of the type and the rows it shows
-pub record VerdictReads (fr : List ℕ) (n : ℕ) (rule : Rule Judgement) : Type 0 where
+pub record VerdictReads (pass : Pass) (fr : List ℕ) (n : ℕ) (rule : Rule Judgement) : Type 0 where
   pub row : Composes fr n
-  pub reads : reading (see fr) typing n rule ≡ verdictReading (see fr) (amongReadings (readings (see fr) typing n)) (row .ty) (row .parts)
+  pub reads : reading (see fr) (typing pass) n rule ≡ verdictReading (see fr) (amongReadings (readings (see fr) (typing pass) n)) (row .ty) (row .parts)
 
-pub file-verdict-reads : (fr : List ℕ) (n : ℕ) (rule : Rule Judgement) → verdictRule (see fr) n ≡ some rule → VerdictReads fr n rule
-file-verdict-reads fr n rule h =
+pub file-verdict-reads : (pass : Pass) (fr : List ℕ) (n : ℕ) (rule : Rule Judgement) → verdictRule (see fr) n ≡ some rule → VerdictReads pass fr n rule
+file-verdict-reads pass fr n rule h =
     let c = composes fr n rule h in
-    record { row = c; reads = ap (reading (see fr) typing n) (rule-is fr n rule h c) ∙ verdict-reads-are (see fr) (amongReadings (readings (see fr) typing n)) (c .ty) (c .parts) }
+    record { row = c; reads = ap (reading (see fr) (typing pass) n) (rule-is fr n rule h c) ∙ verdict-reads-are (see fr) (amongReadings (readings (see fr) (typing pass) n)) (c .ty) (c .parts) }

@@ -9,6 +9,7 @@ use Rattle.frames.specs.declared.Frame.{Frame}
 use Rattle.frames.specs.Bytes.{byte, half, frameAt}
 use Rattle.archive.specs.Starts.{startsOf, rowCount}
 use Rattle.rule.specs.Things.{see}
+use Rattle.row_rules.specs.declared.Pass.{Pass}
 use Rattle.answering.specs.Outputs.{rowFrames}
 
 -- the families of a row's answer: a type number, a value, a refusal
@@ -22,18 +23,18 @@ abbrev pub rowKind : List ℕ → ℕ → ℕ
 rowKind fr n = byte (frameAt fr (startsOf fr .rows + n)) 1
 
 -- what row n hands back, where it is a compose: its answer, and then one verdict, which names row n
-pub record ThenVerdict (fr : List ℕ) (n : ℕ) (answer : Frame) : Type 0 where
+pub record ThenVerdict (pass : Pass) (fr : List ℕ) (n : ℕ) (answer : Frame) : Type 0 where
   pub verdict : Frame
   pub family : byte verdict 0 ≡ 11
   pub row : half verdict 2 ≡ n
-  pub frames : rowFrames (see fr) n ≡ answer ∷ verdict ∷ []
+  pub frames : rowFrames pass (see fr) n ≡ answer ∷ verdict ∷ []
 
 -- what row n hands back: one answer; after it one verdict where the row is a compose, and nothing where it is not
-pub record OneEach (fr : List ℕ) (n : ℕ) : Type 0 where
+pub record OneEach (pass : Pass) (fr : List ℕ) (n : ℕ) : Type 0 where
   pub answer : Frame
   pub family : AnswerFamily (byte answer 0)
-  pub compose : rowKind fr n ≡ 5 → ThenVerdict fr n answer
-  pub other : (rowKind fr n ≡ 5 → ⊥) → rowFrames (see fr) n ≡ answer ∷ []
+  pub compose : rowKind fr n ≡ 5 → ThenVerdict pass fr n answer
+  pub other : (rowKind fr n ≡ 5 → ⊥) → rowFrames pass (see fr) n ≡ answer ∷ []
 
 -- how many of the first n rows are composes, and how many rows of a file, by their bytes
 abbrev pub composesBelow : List ℕ → ℕ → ℕ
