@@ -24,6 +24,7 @@ use Rattle.rule.specs.Answers.{Judgement, Typed, Result, told, newer}
 use Rattle.rule.specs.Things.{Sight, seeIn, see}
 use Rattle.rule.specs.Rule.{Rule, run}
 use Rattle.rule.specs.Claim.{inOrder, absent, among, answers, ours}
+use Rattle.row_rules.specs.declared.Pass.{Pass}
 use Rattle.row_rules.specs.Typed.{typing}
 use Rattle.row_rules.specs.Answered.{toResult}
 use Rattle.operands.specs.Past.{answerIn, pastIn}
@@ -46,14 +47,14 @@ pub record GoesOn {A : Type 0} (l front : List A) : Type 0 where
 goes-on : {A : Type 0} (l front last : List A) → GoesOn l front → GoesOn (l ++ last) front
 goes-on l front last g = record { more = g .more ++ last; is = ap (λ (x : List _). x ++ last) (g .is) ∙ append-assoc front (g .more) last }
 
-pub outputs-go-on : (sight : Sight) (m n : ℕ) → m ≤ n → GoesOn (outputs sight n) (outputs sight m)
+pub outputs-go-on : (pass : Pass) (sight : Sight) (m n : ℕ) → m ≤ n → GoesOn (outputs pass sight n) (outputs pass sight m)
 unfolding outputs
-outputs-go-on sight m zero h = let e : m ≡ 0 = omega arith in rw e (record { more = []; is = refl })
-outputs-go-on sight m (suc n) h = go (decLe m n) (outputs-go-on sight m n)
+outputs-go-on pass sight m zero h = let e : m ≡ 0 = omega arith in rw e (record { more = []; is = refl })
+outputs-go-on pass sight m (suc n) h = go (decLe m n) (outputs-go-on pass sight m n)
   where
-    go : Dec (m ≤ n) → (m ≤ n → GoesOn (outputs sight n) (outputs sight m)) → GoesOn (outputs sight n ++ rowFrames sight n) (outputs sight m)
-    go (yes l) ih = goes-on (outputs sight n) (outputs sight m) (rowFrames sight n) (ih l)
-    go (no l) ih = let e : m ≡ suc n = omega arith in rw e (record { more = []; is = sym (append-nil (outputs sight n ++ rowFrames sight n)) })
+    go : Dec (m ≤ n) → (m ≤ n → GoesOn (outputs pass sight n) (outputs pass sight m)) → GoesOn (outputs pass sight n ++ rowFrames pass sight n) (outputs pass sight m)
+    go (yes l) ih = goes-on (outputs pass sight n) (outputs pass sight m) (rowFrames pass sight n) (ih l)
+    go (no l) ih = let e : m ≡ suc n = omega arith in rw e (record { more = []; is = sym (append-nil (outputs pass sight n ++ rowFrames pass sight n)) })
 
 pub build-goes-on : (f : ℕ → ℕ) (m n : ℕ) → m ≤ n → GoesOn (build f n) (build f m)
 unfolding build
@@ -77,24 +78,24 @@ in-order-at next d (suc n) m h = go (decLt m n) (in-order-at next d n m)
         (ap (λ (k : ℕ). getD (inOrder next n ++ (next (inOrder next n) n ∷ [])) k d) (sym (in-order-length next n)) ∙ getD-append-seam (inOrder next n) (next (inOrder next n) n) [] d)
 
 -- the table is long enough
-pub places-long : (fr p rest : List ℕ) (n : ℕ) → p ≡ placesOf fr n ++ rest → n ≤ length p
-places-long fr p rest n e = omega (arith, ap length e ∙ length-append (placesOf fr n) rest, length-build (λ (k : ℕ). length (outputs (see fr) k)) n)
+pub places-long : (pass : Pass) (fr p rest : List ℕ) (n : ℕ) → p ≡ placesOf pass fr n ++ rest → n ≤ length p
+places-long pass fr p rest n e = omega (arith, ap length e ∙ length-append (placesOf pass fr n) rest, length-build (λ (k : ℕ). length (outputs pass (see fr) k)) n)
 
 -- a row that is no compose
-pub no-verdict : (fr : List ℕ) (s : Starts) (row : RowNumber) (f : Frame) → s ≡ startsOf fr → isRow s row ≡ true → f ≡ frameAt fr (s .rows + row .0) → (f .b1 ≡ 5 → ⊥)
-    → noCompose ≡ verdictGiven row fr
-no-verdict fr s row f es here ef h =
+pub no-verdict : (pass : Pass) (fr : List ℕ) (s : Starts) (row : RowNumber) (f : Frame) → s ≡ startsOf fr → isRow s row ≡ true → f ≡ frameAt fr (s .rows + row .0) → (f .b1 ≡ 5 → ⊥)
+    → noCompose ≡ verdictGiven pass row fr
+no-verdict pass fr s row f es here ef h =
     let below : row .0 < rowCount (startsOf fr) = rw es at (ltb-true (row .0) (rowCount s) here) in
     let e : f ≡ frameAt fr (startsOf fr .rows + row .0) = rw es at ef in
     rw (lt-ltb (row .0) (rowCount (startsOf fr)) below, no-rule fr (row .0) below (λ b. h (ap (λ (x : Frame). x .b1) e ∙ b)))
 
 -- after all rows are answered: `last` is the answer buffer, and p the table of places
-module _ (fr an last p rest : List ℕ) (s : Starts) (ready : Ready fr (length an)) (es : s ≡ startsOf fr) (el : last ≡ answersWritten an fr)
-    (ep : p ≡ placesOf fr (rowCount s) ++ rest) (row : RowNumber) where
-  places-before : (m : ℕ) → m ≤ rowCount s → take m p ≡ placesOf fr m
+module _ (pass : Pass) (fr an last p rest : List ℕ) (s : Starts) (ready : Ready pass fr (length an)) (es : s ≡ startsOf fr) (el : last ≡ answersWritten pass an fr)
+    (ep : p ≡ placesOf pass fr (rowCount s) ++ rest) (row : RowNumber) where
+  places-before : (m : ℕ) → m ≤ rowCount s → take m p ≡ placesOf pass fr m
   places-before m h =
-      let g = build-goes-on (λ (k : ℕ). length (outputs (see fr) k)) m (rowCount s) h in
-      ap (take m) (ep ∙ ap (λ (x : List ℕ). x ++ rest) (g .is) ∙ append-assoc (placesOf fr m) (g .more) rest) ∙ take-at (placesOf fr m) (g .more ++ rest) m (length-build _ m)
+      let g = build-goes-on (λ (k : ℕ). length (outputs pass (see fr) k)) m (rowCount s) h in
+      ap (take m) (ep ∙ ap (λ (x : List ℕ). x ++ rest) (g .is) ∙ append-assoc (placesOf pass fr m) (g .more) rest) ∙ take-at (placesOf pass fr m) (g .more ++ rest) m (length-build _ m)
 
   module _ (here : isRow s row ≡ true) where
     below : row .0 < rowCount (startsOf fr)
@@ -104,14 +105,14 @@ module _ (fr an last p rest : List ℕ) (s : Starts) (ready : Ready fr (length a
     here-in = lt-ltb (row .0) (rowCount (startsOf fr)) below
 
     pub one-answer : (n : ℕ) (x : Answer) → n ≡ rowCount s → x ≡ answerIn last (take n p) row
-        → (answer (toResult x) ≡ rowGiven row fr) × (last ≡ cond (isRow (startsOf fr) row) (answersWritten an fr) an)
+        → (answer (toResult x) ≡ rowGiven pass row fr) × (last ≡ cond (isRow (startsOf fr) row) (answersWritten pass an fr) an)
     one-answer n x en ex =
         let all = rowCount (startsOf fr) in
-        let t : take n p ≡ placesOf fr all = ap (λ (k : ℕ). take k p) en ∙ places-before (rowCount s) (omega arith) ∙ ap (λ (z : Starts). placesOf fr (rowCount z)) es in
-        let e : toResult x ≡ rowAnswer (see fr) (row .0) =
-        ap toResult ex ∙ ap (λ (q : List ℕ). pastIn last q row) t ∙ ap (λ (q : List ℕ). pastIn q (placesOf fr all) row) el
-        ∙ past-is (outputs (see fr) all) (placesOf fr all) (answers (see fr) typing (λ m. newer) all) _ (placed-outputs fr (good-of fr (length an) ready) all (omega arith)) row
-        ∙ in-order-at (λ earlier m. run (see fr) (among earlier) newer (typing m)) (told absent) all (row .0) below in
+        let t : take n p ≡ placesOf pass fr all = ap (λ (k : ℕ). take k p) en ∙ places-before (rowCount s) (omega arith) ∙ ap (λ (z : Starts). placesOf pass fr (rowCount z)) es in
+        let e : toResult x ≡ rowAnswer pass (see fr) (row .0) =
+        ap toResult ex ∙ ap (λ (q : List ℕ). pastIn last q row) t ∙ ap (λ (q : List ℕ). pastIn q (placesOf pass fr all) row) el
+        ∙ past-is (outputs pass (see fr) all) (placesOf pass fr all) (answers (see fr) (typing pass) (λ m. newer) all) _ (placed-outputs pass fr (good-of pass fr (length an) ready) all (omega arith)) row
+        ∙ in-order-at (λ earlier m. run (see fr) (among earlier) newer (typing pass m)) (told absent) all (row .0) below in
         (rw (here-in, e), rw here-in el)
 
     module _ (f : Frame) (ef : f ≡ frameAt fr (s .rows + row .0)) where
@@ -121,21 +122,21 @@ module _ (fr an last p rest : List ℕ) (s : Starts) (ready : Ready fr (length a
       -- the code's test on byte 1
       pub one-verdict : f .b1 ≡ 5 → (v : Verdict)
           → toJudged v ≡ judgedBy fr s last (take (row .0) p) (Compose.verdict (record { 0 = half f 2 }) (partsIn fr s (record { 0 = word f 12 }) (half f 4)))
-          → (verdict (toJudged v) ≡ verdictGiven row fr) × (last ≡ ifJudged (answersWritten an fr) an (verdictGiven row fr))
+          → (verdict (toJudged v) ≡ verdictGiven pass row fr) × (last ≡ ifJudged (answersWritten pass an fr) an (verdictGiven pass row fr))
       unfolding judgedBy
       one-verdict h v ev =
           let all = rowCount (startsOf fr) in
           let m = row .0 in
           let rule : Frame → Starts → Rule Judgement = λ k z. Compose.verdict (record { 0 = half k 2 }) (partsIn fr z (record { 0 = word k 12 }) (half k 4)) in
           let g = frameAt fr (startsOf fr .rows + m) in
-          let o = outputs-go-on (see fr) m all (omega (arith, below)) in
-          let tail = drop (length (outputBytes fr)) an in
-          let b : last ≡ framesBytes (outputs (see fr) m) ++ (framesBytes (o .more) ++ tail) =
-          el ∙ ap (λ (l : List Frame). framesBytes l ++ tail) (o .is) ∙ ap (λ (l : List ℕ). l ++ tail) (bytes-append (outputs (see fr) m) (o .more))
-          ∙ append-assoc (framesBytes (outputs (see fr) m)) (framesBytes (o .more)) tail in
-          let t : take m p ≡ placesOf fr m = places-before m (omega (arith, below, ap rowCount es)) in
-          let j : toJudged v ≡ ours (see fr) typing m (rule g (startsOf fr)) =
-          ev ∙ rw (es, frame-is, t, b) (run-buffer fr (good-of fr (length an) ready) m (omega (arith, below)) (framesBytes (o .more) ++ tail) (rule g (startsOf fr))) in
-          let q : verdictGiven row fr ≡ verdict (toJudged v) =
+          let o = outputs-go-on pass (see fr) m all (omega (arith, below)) in
+          let tail = drop (length (outputBytes pass fr)) an in
+          let b : last ≡ framesBytes (outputs pass (see fr) m) ++ (framesBytes (o .more) ++ tail) =
+          el ∙ ap (λ (l : List Frame). framesBytes l ++ tail) (o .is) ∙ ap (λ (l : List ℕ). l ++ tail) (bytes-append (outputs pass (see fr) m) (o .more))
+          ∙ append-assoc (framesBytes (outputs pass (see fr) m)) (framesBytes (o .more)) tail in
+          let t : take m p ≡ placesOf pass fr m = places-before m (omega (arith, below, ap rowCount es)) in
+          let j : toJudged v ≡ ours (see fr) (typing pass) m (rule g (startsOf fr)) =
+          ev ∙ rw (es, frame-is, t, b) (run-buffer pass fr (good-of pass fr (length an) ready) m (omega (arith, below)) (framesBytes (o .more) ++ tail) (rule g (startsOf fr))) in
+          let q : verdictGiven pass row fr ≡ verdict (toJudged v) =
           rw (here-in, compose-rule fr m below (ap (λ (x : Frame). x .b1) (sym frame-is) ∙ h), j) in
           (sym q, rw q el)

@@ -16,6 +16,7 @@ use Rattle.frames.specs.Bytes.{bytesOf, frameCount, putFrame}
 use Rattle.frames.specs.Out.{outcomeFrame}
 use Rattle.archive.specs.Starts.{startsOf, rowCount}
 use Rattle.rule.specs.Things.{see}
+use Rattle.row_rules.specs.declared.Pass.{Pass}
 use Rattle.answering.specs.Outputs.{outputs, outputBytes}
 use Rattle.answering.proofs.Bytes.{bytes-length}
 use Rattle.reader.specs.declared.OptionUsize.the-variants as Ou
@@ -35,10 +36,10 @@ take-lines b n r h =
     ap (take (33 * r)) (g .is) ∙ take-at (textOf b r) (g .more) (33 * r) (length-build (charOf b) (33 * r))
 
 -- b are the frames lent, o the output buffer, and `last` it after r lines are written
-pub printed : (t b o last : List ℕ) (r : ℕ) → typedText t ≡ textOf b (frameCount b) → r ≡ min (length b / 16) (length o / 33) → last ≡ textOf b r ++ drop (33 * r) o
-    → (33 * r ≡ linesIn t (length o)) × (last ≡ take (33 * r) (typedText t) ++ drop (33 * r) o)
-printed t b o last r e er el =
-    let n : length (typedText t) / 33 ≡ frameCount b = ap (λ (x : List ℕ). length x / 33) e ∙ ap (λ (x : ℕ). x / 33) (length-build (charOf b) (33 * frameCount b)) ∙ omega arith in
+pub printed : (pass : Pass) (t b o last : List ℕ) (r : ℕ) → typedText pass t ≡ textOf b (frameCount b) → r ≡ min (length b / 16) (length o / 33) → last ≡ textOf b r ++ drop (33 * r) o
+    → (33 * r ≡ linesIn pass t (length o)) × (last ≡ take (33 * r) (typedText pass t) ++ drop (33 * r) o)
+printed pass t b o last r e er el =
+    let n : length (typedText pass t) / 33 ≡ frameCount b = ap (λ (x : List ℕ). length x / 33) e ∙ ap (λ (x : ℕ). x / 33) (length-build (charOf b) (33 * frameCount b)) ∙ omega arith in
     let h : r ≤ frameCount b = omega (arith, er) in (
       ap (λ (x : ℕ). 33 * x) er ∙ ap (λ (x : ℕ). 33 * min x (length o / 33)) (sym n),
       el ∙ ap (λ (x : List ℕ). x ++ drop (33 * r) o) (sym (take-lines b (frameCount b) r h) ∙ ap (take (33 * r)) (sym e)),
@@ -50,7 +51,7 @@ unfolding putFrame
 front-is an f h = rw (lt-ltb 0 (frameCount an) (omega (arith, h)))
 
 -- after a call of `type_file` with buffers of the largest sizes
-module _ {t fr an last out : List ℕ} {r : TypedFile} (h : HandsBack t fr an r last out) (ef : length fr ≡ 16384) (ea : length an ≡ 32768) where
+module _ {pass : Pass} {t fr an last out : List ℕ} {r : TypedFile} (h : HandsBack pass t fr an r last out) (ef : length fr ≡ 16384) (ea : length an ≡ 32768) where
   -- one that is refused: `put` is the answer buffer with the number's frame at its front
   module _ (put : List ℕ) (en : framesIn (r .outcome) ≡ Ou.None) (e : put ≡ putFrame out 0 (outcomeFrame (r .outcome))) where
     number-is : take 16 put ≡ bytesOf (outcomeFrame (r .outcome))
@@ -59,34 +60,34 @@ module _ {t fr an last out : List ℕ} {r : TypedFile} (h : HandsBack t fr an r 
     pub number-long : length (take 16 put) ≡ 16
     number-long = ap length number-is
 
-    pub refused-lines : typedText t ≡ textOf (take 16 put) (frameCount (take 16 put))
+    pub refused-lines : typedText pass t ≡ textOf (take 16 put) (frameCount (take 16 put))
     unfolding typedText
     refused-lines =
-        ap (overFile outcomeText outputText t) (sym (largest h ef ea)) ∙ sym (refused-over outcomeText outputText t (r .outcome) en)
+        ap (overFile outcomeText (outputText pass) t) (sym (largest h ef ea)) ∙ sym (refused-over outcomeText (outputText pass) t (r .outcome) en)
         ∙ ap (λ (x : List ℕ). textOf x (frameCount x)) (sym number-is)
 
   -- one that is accepted: all that is handed back
-  pub accepted-lines : {n : ℕ} → framesIn (r .outcome) ≡ Ou.Some n → typedText t ≡ textOf (take (16 * r .outputs) out) (frameCount (take (16 * r .outputs) out))
+  pub accepted-lines : {n : ℕ} → framesIn (r .outcome) ≡ Ou.Some n → typedText pass t ≡ textOf (take (16 * r .outputs) out) (frameCount (take (16 * r .outputs) out))
   unfolding typedText
   accepted-lines en =
-      ap (overFile outcomeText outputText t) (sym (largest h ef ea) ∙ h .outcome) ∙ sym (handed-over h en outcomeText (λ (x y : List ℕ). textOf y (frameCount y)))
+      ap (overFile outcomeText (outputText pass) t) (sym (largest h ef ea) ∙ h .outcome) ∙ sym (handed-over h en outcomeText (λ (x y : List ℕ). textOf y (frameCount y)))
 
 -- ALL OF IT FITS into 67,584 bytes, which is 2,048 lines: a file has at most 1,024 rows, and at most two frames are handed back of each
-pub few-outputs : (t : List ℕ) (f a n : ℕ) → readFile t f (Lent a) ≡ Accepted n → frameCount (outputBytes (decoded t n)) ≤ 2048
-few-outputs t f a n e =
+pub few-outputs : (pass : Pass) (t : List ℕ) (f a n : ℕ) → readFile t f (Lent a) ≡ Accepted n → frameCount (outputBytes pass (decoded t n)) ≤ 2048
+few-outputs pass t f a n e =
     let fr = decoded t n in
     let all = rowCount (startsOf fr) in
-    omega (arith, bytes-length (outputs (see fr) all), two-a-row (see fr) all, few-rows fr a (ready-of t f a n e))
+    omega (arith, bytes-length (outputs pass (see fr) all), two-a-row pass (see fr) all, few-rows pass fr a (ready-of pass t f a n e))
 
 lines-long : (b : List ℕ) (n : ℕ) → length (textOf b n) ≡ 33 * n
 lines-long b n = length-build (charOf b) (33 * n)
 
-pub text-fits : (t : List ℕ) → length (typedText t) ≤ 67584
+pub text-fits : (pass : Pass) (t : List ℕ) → length (typedText pass t) ≤ 67584
 unfolding typedText
-text-fits t = go (readFile t 16384 (Lent 32768)) refl
+text-fits pass t = go (readFile t 16384 (Lent 32768)) refl
   where
-    go : (o : Outcome) → readFile t 16384 (Lent 32768) ≡ o → length (overFile outcomeText outputText t o) ≤ 67584
-    go (Accepted n) e = let fr = decoded t n in omega (arith, lines-long (outputBytes fr) (frameCount (outputBytes fr)), few-outputs t 16384 32768 n e)
+    go : (o : Outcome) → readFile t 16384 (Lent 32768) ≡ o → length (overFile outcomeText (outputText pass) t o) ≤ 67584
+    go (Accepted n) e = let fr = decoded t n in omega (arith, lines-long (outputBytes pass fr) (frameCount (outputBytes pass fr)), few-outputs pass t 16384 32768 n e)
     go Long e = omega (arith, lines-long (bytesOf (outcomeFrame Long)) 1)
     go (Torn k) e = omega (arith, lines-long (bytesOf (outcomeFrame (Torn k))) 1)
     go Short e = omega (arith, lines-long (bytesOf (outcomeFrame Short)) 1)

@@ -22,6 +22,7 @@ use Rattle.archive.specs.Starts.{startsOf, rowCount}
 use Rattle.archive.specs.Checks.{checkFrames}
 use Rattle.archive.proofs.Ranks.{begins}
 use Rattle.rule.specs.Things.{see}
+use Rattle.row_rules.specs.declared.Pass.{Pass}
 use Rattle.typifier_laws.proofs.Good.{Good, good-when}
 use Rattle.answering.specs.Outputs.{outputs, outputBytes}
 use Rattle.answering.proofs.Bytes.{bytes-length}
@@ -60,23 +61,23 @@ module _ (t : List ℕ) (f a n : ℕ) (r : Readable t f (Lent a) n) where
       let z : 16 * k + 0 ≡ 16 * k = omega arith in
       rw (lt-ltb k (frameCount fr) (rw (count-decoded t n) h), z) (sym (answers-by-frame t n k h))
 
-  answers-fit : Good fr → length (outputBytes fr) ≤ a
+  answers-fit : (pass : Pass) → Good fr → length (outputBytes pass fr) ≤ a
   unfolding startsOf
-  answers-fit good =
+  answers-fit pass good =
       let all = rowCount (startsOf fr) in
       let within : startsOf fr .rows + all ≤ n = omega (arith, begins fr 1024 .within, begins fr 1280 .within, count-decoded t n) in
-      omega (arith, bytes-length (outputs (see fr) all), outputs-asked fr good all (omega arith), sum-grows (asked fr) (startsOf fr .rows + all) n within, sum-same (asked fr) (answerFrames t) n asked-is, r .answers, ap (sumBelow (answerFrames t)) (r .count))
+      omega (arith, bytes-length (outputs pass (see fr) all), outputs-asked fr pass good all (omega arith), sum-grows (asked fr) (startsOf fr .rows + all) n within, sum-same (asked fr) (answerFrames t) n asked-is, r .answers, ap (sumBelow (answerFrames t)) (r .count))
 
 -- an accepted text is ready to be answered
-pub ready-of : (t : List ℕ) (f a n : ℕ) → readFile t f (Lent a) ≡ Accepted n → Ready (decoded t n) a
-ready-of t f a n e =
+pub ready-of : (pass : Pass) (t : List ℕ) (f a n : ℕ) → readFile t f (Lent a) ≡ Accepted n → Ready pass (decoded t n) a
+ready-of pass t f a n e =
     let acc = accepted-when t f (Lent a) n .0 e in
     let r = acc .readable in
     let checked : checkFrames (decoded t n) ≡ Accepted (frameCount (decoded t n)) = sym (then-checked t f (Lent a) n r) ∙ e ∙ ap Accepted (sym (count-decoded t n)) in
-    (checked, few t f a n r, answers-fit t f a n r (good-when (decoded t n) (few t f a n r) .0 checked))
+    (checked, few t f a n r, answers-fit t f a n r pass (good-when (decoded t n) (few t f a n r) .0 checked))
 
 -- and so is the part of the frame buffer that is lent on: reading gave r, and left the frame buffer as `last`
-pub ready-part : (t fr last an : List ℕ) (n : ℕ) (r : Outcome) → r ≡ readFile t (length fr) (Lent (length an)) → last ≡ framesAfter t fr (Lent (length an)) → framesIn r ≡ Ou.Some n
-    → Ready (take (16 * n) last) (length an)
-ready-part t fr last an n r er el en =
-    rw (part-is t fr last (Lent (length an)) n r er el en) (ready-of t (length fr) (length an) n (read t fr last (Lent (length an)) n r er el en))
+pub ready-part : (pass : Pass) (t fr last an : List ℕ) (n : ℕ) (r : Outcome) → r ≡ readFile t (length fr) (Lent (length an)) → last ≡ framesAfter t fr (Lent (length an)) → framesIn r ≡ Ou.Some n
+    → Ready pass (take (16 * n) last) (length an)
+ready-part pass t fr last an n r er el en =
+    rw (part-is t fr last (Lent (length an)) n r er el en) (ready-of pass t (length fr) (length an) n (read t fr last (Lent (length an)) n r er el en))

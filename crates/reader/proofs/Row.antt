@@ -29,6 +29,7 @@ use Rattle.rule.specs.Answers.{Typed, Judgement, Result, newer, rowFrame, verdi
 use Rattle.rule.specs.Things.{Sight, seeRow, seeIn, see}
 use Rattle.rule.specs.Rule.{Rule, run}
 use Rattle.rule.specs.Claim.{ours}
+use Rattle.row_rules.specs.declared.Pass.{Pass}
 use Rattle.row_rules.specs.Typed.{typed, typing}
 use Rattle.operands.specs.Past.{pastIn, ruled}
 use Rattle.compose.specs.Verdict.{verdict}
@@ -53,26 +54,26 @@ verdict-framed r Vd.NewerComposed = refl
 verdict-framed r (Vd.NewerComponent i) = refl
 
 -- what is handed back grows
-pub grows : (sight : Sight) (m n : ℕ) → m ≤ n → length (outputs sight m) ≤ length (outputs sight n)
+pub grows : (pass : Pass) (sight : Sight) (m n : ℕ) → m ≤ n → length (outputs pass sight m) ≤ length (outputs pass sight n)
 unfolding outputs
-grows sight m zero h = let e : m ≡ 0 = omega arith in rw e (omega arith)
-grows sight m (suc n) h = go (decLe m n) (grows sight m n)
+grows pass sight m zero h = let e : m ≡ 0 = omega arith in rw e (omega arith)
+grows pass sight m (suc n) h = go (decLe m n) (grows pass sight m n)
   where
-    go : Dec (m ≤ n) → (m ≤ n → length (outputs sight m) ≤ length (outputs sight n)) → length (outputs sight m) ≤ length (outputs sight n ++ rowFrames sight n)
-    go (yes l) ih = omega (arith, ih l, length-append (outputs sight n) (rowFrames sight n))
+    go : Dec (m ≤ n) → (m ≤ n → length (outputs pass sight m) ≤ length (outputs pass sight n)) → length (outputs pass sight m) ≤ length (outputs pass sight n ++ rowFrames pass sight n)
+    go (yes l) ih = omega (arith, ih l, length-append (outputs pass sight n) (rowFrames pass sight n))
     go (no l) ih = let e : m ≡ suc n = omega arith in rw e (omega arith)
 
 -- at most two frames a row
-pub two-a-row : (sight : Sight) (m : ℕ) → length (outputs sight m) ≤ 2 * m
+pub two-a-row : (pass : Pass) (sight : Sight) (m : ℕ) → length (outputs pass sight m) ≤ 2 * m
 unfolding outputs
-two-a-row sight zero = omega arith
-two-a-row sight (suc m) = omega (arith, two-a-row sight m, go (verdictOf sight m), length-append (outputs sight m) (rowFrames sight m))
+two-a-row pass sight zero = omega arith
+two-a-row pass sight (suc m) = omega (arith, two-a-row pass sight m, go (verdictOf pass sight m), length-append (outputs pass sight m) (rowFrames pass sight m))
   where
     go : (v : Option (Result Judgement)) → length (verdictFrames m v) ≤ 1
     go none = omega arith
     go (some j) = omega arith
 
-module _ (fr : List ℕ) (a : ℕ) (ready : Ready fr a) where
+module _ (pass : Pass) (fr : List ℕ) (a : ℕ) (ready : Ready pass fr a) where
   pub good-of : Good fr
   good-of = good-when fr (ready .1) .0 (ready .0)
 
@@ -84,9 +85,9 @@ module _ (fr : List ℕ) (a : ℕ) (ready : Ready fr a) where
   unfolding startsOf
   row-small s es = omega (arith, ap (λ (z : Starts). z .rows) es, begins fr 1024 .within, ready .1)
 
-  pub room-for : (m : ℕ) → m ≤ rowCount (startsOf fr) → 16 * length (outputs (see fr) m) ≤ a
+  pub room-for : (m : ℕ) → m ≤ rowCount (startsOf fr) → 16 * length (outputs pass (see fr) m) ≤ a
   room-for m h =
-      omega (arith, grows (see fr) m (rowCount (startsOf fr)) h, bytes-length (outputs (see fr) (rowCount (startsOf fr))), ready .2)
+      omega (arith, grows pass (see fr) m (rowCount (startsOf fr)) h, bytes-length (outputs pass (see fr) (rowCount (startsOf fr))), ready .2)
 
 -- a row of byte 5 is a compose, and no other has a verdict
 compose-row : (f : Frame) → byte f 1 ≡ 5 → rowOf f ≡ Ro.Known (Ex.Compose (record { 0 = half f 2 }) (half f 4) (record { 0 = word f 12 }))
@@ -123,114 +124,114 @@ before l f rest =
     ∙ ap (take (16 * length l)) (append-assoc (framesBytes l) (framesBytes (f ∷ [])) rest) ∙ take-at (framesBytes l) (framesBytes (f ∷ []) ++ rest) (16 * length l) (bytes-length l)
 
 -- ONE ROW, m, over the buffer as it is before it: the frames handed back so far, and the rest
-module _ (fr an : List ℕ) (m : ℕ) (ready : Ready fr (length an)) (here : m < rowCount (startsOf fr))
-    (et : take (16 * length (outputs (see fr) m)) an ≡ framesBytes (outputs (see fr) m)) where
+module _ (pass : Pass) (fr an : List ℕ) (m : ℕ) (ready : Ready pass fr (length an)) (here : m < rowCount (startsOf fr))
+    (et : take (16 * length (outputs pass (see fr) m)) an ≡ framesBytes (outputs pass (see fr) m)) where
   abbrev outs : List Frame
-  outs = outputs (see fr) m
+  outs = outputs pass (see fr) m
 
   abbrev at : ℕ
-  at = length (outputs (see fr) m)
+  at = length (outputs pass (see fr) m)
 
   whole : an ≡ framesBytes outs ++ drop (16 * at) an
   whole = sym (take-append-drop (16 * at) an) ∙ ap (λ (l : List ℕ). l ++ drop (16 * at) an) et
 
   -- a rule that is run over those frames, whatever stands after them, gives our outcome
-  pub ours-here : {A : Type 0} (s : Starts) (b rest places : List ℕ) (rule : Rule A) → s ≡ startsOf fr → b ≡ framesBytes outs ++ rest → places ≡ placesOf fr m
-      → run (seeIn fr s) (pastIn b places) newer rule ≡ ours (see fr) typing m rule
-  ours-here s b rest places rule es eb ep = rw (es, ep, eb) (run-buffer fr (good-of fr (length an) ready) m (omega arith) rest rule)
+  pub ours-here : {A : Type 0} (s : Starts) (b rest places : List ℕ) (rule : Rule A) → s ≡ startsOf fr → b ≡ framesBytes outs ++ rest → places ≡ placesOf pass fr m
+      → run (seeIn fr s) (pastIn b places) newer rule ≡ ours (see fr) (typing pass) m rule
+  ours-here s b rest places rule es eb ep = rw (es, ep, eb) (run-buffer pass fr (good-of pass fr (length an) ready) m (omega arith) rest rule)
 
-  pub more : at + 1 ≤ length (outputs (see fr) (suc m))
+  pub more : at + 1 ≤ length (outputs pass (see fr) (suc m))
   unfolding outputs
-  more = omega (arith, length-append outs (rowFrames (see fr) m))
+  more = omega (arith, length-append outs (rowFrames pass (see fr) m))
 
-  module _ (last : List ℕ) (el : last ≡ putFrame an (length (outputs (see fr) m)) (rowFrame (rowAnswer (see fr) m))) where
+  module _ (last : List ℕ) (el : last ≡ putFrame an (length (outputs pass (see fr) m)) (rowFrame (rowAnswer pass (see fr) m))) where
     abbrev f : Frame
-    f = rowFrame (rowAnswer (see fr) m)
+    f = rowFrame (rowAnswer pass (see fr) m)
 
     pub row-put : last ≡ framesBytes (outs ++ (f ∷ [])) ++ drop (16 * length (outs ++ (f ∷ []))) an
-    row-put = el ∙ put-next outs f an an whole (omega (arith, room-for fr (length an) ready (suc m) (omega arith), more))
+    row-put = el ∙ put-next outs f an an whole (omega (arith, room-for pass fr (length an) ready (suc m) (omega arith), more))
 
     -- no compose: the row's answer is all
-    pub row-done : verdictRule (see fr) m ≡ none → (at + 1 ≡ length (outputs (see fr) (m + 1))) × (last ≡ framesBytes (outputs (see fr) (m + 1)) ++ drop (16 * (at + 1)) an)
+    pub row-done : verdictRule (see fr) m ≡ none → (at + 1 ≡ length (outputs pass (see fr) (m + 1))) × (last ≡ framesBytes (outputs pass (see fr) (m + 1)) ++ drop (16 * (at + 1)) an)
     unfolding outputs
     row-done q =
-        let e : outputs (see fr) (m + 1) ≡ outs ++ (f ∷ []) = rw add-one (ap (λ (v : Option (Rule Judgement)). outs ++ (f ∷ verdictFrames m (judged (see fr) m v))) q) in
+        let e : outputs pass (see fr) (m + 1) ≡ outs ++ (f ∷ []) = rw add-one (ap (λ (v : Option (Rule Judgement)). outs ++ (f ∷ verdictFrames m (judged pass (see fr) m v))) q) in
         let n : length (outs ++ (f ∷ [])) ≡ at + 1 = length-append outs (f ∷ []) in
         (sym (ap length e ∙ n), row-put ∙ ap (λ (k : ℕ). framesBytes (outs ++ (f ∷ [])) ++ drop (16 * k) an) n ∙ ap (λ (l : List Frame). framesBytes l ++ drop (16 * (at + 1)) an) (sym e))
 
     -- a compose: its verdict is put after it
-    pub compose-done : (rule : Rule Judgement) (v : Verdict) (end : List ℕ) → verdictRule (see fr) m ≡ some rule → toJudged v ≡ ours (see fr) typing m rule
+    pub compose-done : (rule : Rule Judgement) (v : Verdict) (end : List ℕ) → verdictRule (see fr) m ≡ some rule → toJudged v ≡ ours (see fr) (typing pass) m rule
         → end ≡ putFrame last (at + 1) (Out.verdictFrame (record { 0 = m }) v)
-        → (at + 1 + 1 ≡ length (outputs (see fr) (m + 1))) × (end ≡ framesBytes (outputs (see fr) (m + 1)) ++ drop (16 * (at + 1 + 1)) an)
+        → (at + 1 + 1 ≡ length (outputs pass (see fr) (m + 1))) × (end ≡ framesBytes (outputs pass (see fr) (m + 1)) ++ drop (16 * (at + 1 + 1)) an)
     unfolding outputs
     compose-done rule v end q ev ee =
-        let g : Frame = verdictFrame (record { 0 = m }) (ours (see fr) typing m rule) in
+        let g : Frame = verdictFrame (record { 0 = m }) (ours (see fr) (typing pass) m rule) in
         let both : outs ++ (f ∷ g ∷ []) ≡ (outs ++ (f ∷ [])) ++ (g ∷ []) = sym (append-assoc outs (f ∷ []) (g ∷ [])) in
-        let e : outputs (see fr) (m + 1) ≡ (outs ++ (f ∷ [])) ++ (g ∷ []) = rw add-one (ap (λ (x : Option (Rule Judgement)). outs ++ (f ∷ verdictFrames m (judged (see fr) m x))) q ∙ both) in
+        let e : outputs pass (see fr) (m + 1) ≡ (outs ++ (f ∷ [])) ++ (g ∷ []) = rw add-one (ap (λ (x : Option (Rule Judgement)). outs ++ (f ∷ verdictFrames m (judged pass (see fr) m x))) q ∙ both) in
         let n : length (outs ++ (f ∷ [])) ≡ at + 1 = length-append outs (f ∷ []) in
         let k : length ((outs ++ (f ∷ [])) ++ (g ∷ [])) ≡ at + 1 + 1 = length-append (outs ++ (f ∷ [])) (g ∷ []) ∙ ap (λ (x : ℕ). x + 1) n in
-        let room : 16 * length (outs ++ (f ∷ [])) + 16 ≤ length an = omega (arith, n, k, ap length e, room-for fr (length an) ready (m + 1) (omega arith)) in (
+        let room : 16 * length (outs ++ (f ∷ [])) + 16 ≤ length an = omega (arith, n, k, ap length e, room-for pass fr (length an) ready (m + 1) (omega arith)) in (
           sym (ap length e ∙ k),
           ee ∙ ap (λ (x : ℕ). putFrame last x (Out.verdictFrame (record { 0 = m }) v)) (sym n) ∙ ap (putFrame last (length (outs ++ (f ∷ [])))) (verdict-framed (record { 0 = m }) v ∙ ap (verdictFrame (record { 0 = m })) ev)
               ∙ put-next (outs ++ (f ∷ [])) g last an row-put room ∙ ap (λ (x : ℕ). framesBytes ((outs ++ (f ∷ [])) ++ (g ∷ [])) ++ drop (16 * x) an) k ∙ ap (λ (l : List Frame). framesBytes l ++ drop (16 * (at + 1 + 1)) an) (sym e),
         )
 
 -- THE SAME as the code has it: `at` is the next frame, `s` and `places` are as the definitions have them
-module _ (fr an places : List ℕ) (s : Starts) (row : RowNumber) (at : ℕ) (ready : Ready fr (length an)) (es : s ≡ startsOf fr) (below : row .0 < rowCount s)
-    (ea : at ≡ length (outputs (see fr) (row .0))) (et : take (16 * at) an ≡ framesBytes (outputs (see fr) (row .0))) (ep : places ≡ placesOf fr (row .0)) where
+module _ (pass : Pass) (fr an places : List ℕ) (s : Starts) (row : RowNumber) (at : ℕ) (ready : Ready pass fr (length an)) (es : s ≡ startsOf fr) (below : row .0 < rowCount s)
+    (ea : at ≡ length (outputs pass (see fr) (row .0))) (et : take (16 * at) an ≡ framesBytes (outputs pass (see fr) (row .0))) (ep : places ≡ placesOf pass fr (row .0)) where
   here : row .0 < rowCount (startsOf fr)
   here = rw es at below
 
-  outs-there : take (16 * length (outputs (see fr) (row .0))) an ≡ framesBytes (outputs (see fr) (row .0))
+  outs-there : take (16 * length (outputs pass (see fr) (row .0))) an ≡ framesBytes (outputs pass (see fr) (row .0))
   outs-there = rw ea at et
 
   pub small-here : at ≤ 2048
-  small-here = omega (arith, ea, two-a-row (see fr) (row .0), here, few-rows fr (length an) ready)
+  small-here = omega (arith, ea, two-a-row pass (see fr) (row .0), here, few-rows pass fr (length an) ready)
 
   -- there is room for the row's frames
   pub room-here : 16 * at + 16 ≤ length an
-  room-here = omega (arith, ea, room-for fr (length an) ready (suc (row .0)) (omega (arith, here)), more fr an (row .0) ready here outs-there)
+  room-here = omega (arith, ea, room-for pass fr (length an) ready (suc (row .0)) (omega (arith, here)), more pass fr an (row .0) ready here outs-there)
 
-  module _ (last : List ℕ) (frame : Frame) (el : last ≡ putFrame an at (rowFrame (ruled fr s an places (typed row)))) (ef : frame ≡ frameAt fr (s .rows + row .0)) where
-    answer-is : ruled fr s an places (typed row) ≡ rowAnswer (see fr) (row .0)
+  module _ (last : List ℕ) (frame : Frame) (el : last ≡ putFrame an at (rowFrame (ruled fr s an places (typed pass row)))) (ef : frame ≡ frameAt fr (s .rows + row .0)) where
+    answer-is : ruled fr s an places (typed pass row) ≡ rowAnswer pass (see fr) (row .0)
     unfolding ruled
     answer-is =
-        ours-here fr an (row .0) ready here outs-there s an (drop (16 * length (outputs (see fr) (row .0))) an) places (typed row) es
-        (whole fr an (row .0) ready here outs-there) ep
+        ours-here pass fr an (row .0) ready here outs-there s an (drop (16 * length (outputs pass (see fr) (row .0))) an) places (typed pass row) es
+        (whole pass fr an (row .0) ready here outs-there) ep
 
-    last-is : last ≡ putFrame an (length (outputs (see fr) (row .0))) (rowFrame (rowAnswer (see fr) (row .0)))
-    last-is = el ∙ ap (λ (k : ℕ). putFrame an k (rowFrame (ruled fr s an places (typed row)))) ea ∙ ap (λ (r : Result Typed). putFrame an (length (outputs (see fr) (row .0))) (rowFrame r)) answer-is
+    last-is : last ≡ putFrame an (length (outputs pass (see fr) (row .0))) (rowFrame (rowAnswer pass (see fr) (row .0)))
+    last-is = el ∙ ap (λ (k : ℕ). putFrame an k (rowFrame (ruled fr s an places (typed pass row)))) ea ∙ ap (λ (r : Result Typed). putFrame an (length (outputs pass (see fr) (row .0))) (rowFrame r)) answer-is
 
     frame-is : frame ≡ frameAt fr (startsOf fr .rows + row .0)
     frame-is = rw es at ef
 
     -- the frames before the row stay
-    kept : take (16 * at) last ≡ framesBytes (outputs (see fr) (row .0))
+    kept : take (16 * at) last ≡ framesBytes (outputs pass (see fr) (row .0))
     kept =
         ap (λ (k : ℕ). take (16 * k) last) ea
-        ∙ ap (take (16 * length (outputs (see fr) (row .0)))) (row-put fr an (row .0) ready here outs-there last last-is)
-        ∙ before (outputs (see fr) (row .0)) (rowFrame (rowAnswer (see fr) (row .0))) _
+        ∙ ap (take (16 * length (outputs pass (see fr) (row .0)))) (row-put pass fr an (row .0) ready here outs-there last last-is)
+        ∙ before (outputs pass (see fr) (row .0)) (rowFrame (rowAnswer pass (see fr) (row .0))) _
 
     pub still : 16 * at ≤ length last
-    still = omega (arith, ap length kept, bytes-length (outputs (see fr) (row .0)), ea, length-take (16 * at) last)
+    still = omega (arith, ap length kept, bytes-length (outputs pass (see fr) (row .0)), ea, length-take (16 * at) last)
 
-    pub step-row : (frame .b1 ≡ 5 → ⊥) → (at + 1 ≡ length (outputs (see fr) (row .0 + 1))) × (last ≡ framesBytes (outputs (see fr) (row .0 + 1)) ++ drop (16 * (at + 1)) an)
+    pub step-row : (frame .b1 ≡ 5 → ⊥) → (at + 1 ≡ length (outputs pass (see fr) (row .0 + 1))) × (last ≡ framesBytes (outputs pass (see fr) (row .0 + 1)) ++ drop (16 * (at + 1)) an)
     step-row h =
         rw ea
-        (row-done fr an (row .0) ready here outs-there last last-is (no-rule fr (row .0) here (λ e. h (ap (λ (x : Frame). x .b1) frame-is ∙ e))))
+        (row-done pass fr an (row .0) ready here outs-there last last-is (no-rule fr (row .0) here (λ e. h (ap (λ (x : Frame). x .b1) frame-is ∙ e))))
 
     pub step-compose : frame .b1 ≡ 5 → (v : Verdict) (end : List ℕ)
         → toJudged v ≡ judgedBy fr s (take (16 * at) last) places (verdict (record { 0 = half frame 2 }) (partsIn fr s (record { 0 = word frame 12 }) (half frame 4)))
         → end ≡ putFrame last (at + 1) (Out.verdictFrame row v)
-        → (at + 1 + 1 ≡ length (outputs (see fr) (row .0 + 1))) × (end ≡ framesBytes (outputs (see fr) (row .0 + 1)) ++ drop (16 * (at + 1 + 1)) an)
+        → (at + 1 + 1 ≡ length (outputs pass (see fr) (row .0 + 1))) × (end ≡ framesBytes (outputs pass (see fr) (row .0 + 1)) ++ drop (16 * (at + 1 + 1)) an)
     unfolding judgedBy
     step-compose h v end rv ee =
         let rule : Frame → Starts → Rule Judgement = λ f z. verdict (record { 0 = half f 2 }) (partsIn fr z (record { 0 = word f 12 }) (half f 4)) in
         let g : Frame = frameAt fr (startsOf fr .rows + row .0) in
-        let j : toJudged v ≡ ours (see fr) typing (row .0) (rule g (startsOf fr)) =
-        rv ∙ ours-here fr an (row .0) ready here outs-there s (take (16 * at) last) [] places (rule frame s) es (kept ∙ sym (append-nil (framesBytes (outputs (see fr) (row .0))))) ep ∙ rw (es, frame-is) in
+        let j : toJudged v ≡ ours (see fr) (typing pass) (row .0) (rule g (startsOf fr)) =
+        rv ∙ ours-here pass fr an (row .0) ready here outs-there s (take (16 * at) last) [] places (rule frame s) es (kept ∙ sym (append-nil (framesBytes (outputs pass (see fr) (row .0))))) ep ∙ rw (es, frame-is) in
         rw ea
-        (compose-done fr an (row .0) ready here outs-there last last-is (rule g (startsOf fr)) v end (compose-rule fr (row .0) here (ap (λ (x : Frame). x .b1) (sym frame-is) ∙ h)) j (rw ea at ee))
+        (compose-done pass fr an (row .0) ready here outs-there last last-is (rule g (startsOf fr)) v end (compose-rule fr (row .0) here (ap (λ (x : Frame). x .b1) (sym frame-is) ∙ h)) j (rw ea at ee))
 
 -- a buffer whose front is made anew is past it as it was
 pub rest-stays : (l an b : List ℕ) (i j : ℕ) → an ≡ l ++ drop i b → length l ≡ i → i ≤ j → drop j an ≡ drop j b
@@ -240,11 +241,11 @@ rest-stays l an b i j e n h =
     ∙ ap (λ (x : ℕ). drop x b) (sym k)
 
 -- what is handed back of the first m rows is the front of the buffer
-pub front : (fr an : List ℕ) (m at : ℕ) (b : List ℕ) → at ≡ length (outputs (see fr) m) → an ≡ framesBytes (outputs (see fr) m) ++ b
-    → take (16 * at) an ≡ framesBytes (outputs (see fr) m)
-front fr an m at b ea e =
-    let n : length (framesBytes (outputs (see fr) m)) ≡ 16 * at = omega (arith, bytes-length (outputs (see fr) m), ea) in
-    ap (take (16 * at)) e ∙ take-at (framesBytes (outputs (see fr) m)) b (16 * at) n
+pub front : (pass : Pass) (fr an : List ℕ) (m at : ℕ) (b : List ℕ) → at ≡ length (outputs pass (see fr) m) → an ≡ framesBytes (outputs pass (see fr) m) ++ b
+    → take (16 * at) an ≡ framesBytes (outputs pass (see fr) m)
+front pass fr an m at b ea e =
+    let n : length (framesBytes (outputs pass (see fr) m)) ≡ 16 * at = omega (arith, bytes-length (outputs pass (see fr) m), ea) in
+    ap (take (16 * at)) e ∙ take-at (framesBytes (outputs pass (see fr) m)) b (16 * at) n
 
 -- and so long as it was
 pub long-as-was : (l an b : List ℕ) (i : ℕ) → an ≡ l ++ drop i b → length l ≡ i → i ≤ length b → length an ≡ length b

@@ -22,6 +22,7 @@ use Rattle.archive.specs.Names.{isRow}
 use Rattle.archive.specs.Checks.{checkFrames}
 use Rattle.rule.specs.Answers.{Typed, Judgement, Result}
 use Rattle.rule.specs.Things.{see}
+use Rattle.row_rules.specs.declared.Pass.{Pass}
 use Rattle.row_rules.specs.Answered.{toResult}
 use Rattle.compose.specs.Rows.{verdictOf}
 use Rattle.compose.specs.Judged.{toJudged}
@@ -30,29 +31,29 @@ use Rattle.reader.specs.declared.TypedFile.{TypedFile}
 use Rattle.reader.specs.File.{overFile, readFile, framesAfter}
 
 -- the frames of an accepted file, and an answer buffer of a bytes that has room for what is handed back
-abbrev pub Ready : List ℕ → ℕ → Type 0
-Ready fr a = (checkFrames fr ≡ Accepted (frameCount fr)) × (frameCount fr ≤ 1024) × (length (outputBytes fr) ≤ a)
+abbrev pub Ready : Pass → List ℕ → ℕ → Type 0
+Ready pass fr a = (checkFrames fr ≡ Accepted (frameCount fr)) × (frameCount fr ≤ 1024) × (length (outputBytes pass fr) ≤ a)
 
 -- TYPE_ROWS, TYPE_FILE
 
 -- an answer buffer with the answers and verdicts of a file at its front, whose frames these are; its bytes past them stay
-abbrev pub answersWritten : List ℕ → List ℕ → List ℕ
-answersWritten an fr = outputBytes fr ++ drop (length (outputBytes fr)) an
+abbrev pub answersWritten : Pass → List ℕ → List ℕ → List ℕ
+answersWritten pass an fr = outputBytes pass fr ++ drop (length (outputBytes pass fr)) an
 
 -- the answer buffer `an` after `type_rows`, with a frame buffer of f bytes
-unfoldable pub answersAfter : List ℕ → ℕ → List ℕ → List ℕ
-answersAfter t f an = overFile (λ (o : Outcome). an) (λ (fr : List ℕ). answersWritten an fr) t (readFile t f (Lent (length an)))
+unfoldable pub answersAfter : Pass → List ℕ → ℕ → List ℕ → List ℕ
+answersAfter pass t f an = overFile (λ (o : Outcome). an) (λ (fr : List ℕ). answersWritten pass an fr) t (readFile t f (Lent (length an)))
 
 -- how many frames are handed back, with an answer buffer of a bytes: as many as a file's answers and verdicts; of a file that is not accepted, none
-unfoldable pub outputCount : List ℕ → ℕ → ℕ → ℕ
-outputCount t f a = overFile (λ (o : Outcome). 0) (λ (fr : List ℕ). frameCount (outputBytes fr)) t (readFile t f (Lent a))
+unfoldable pub outputCount : Pass → List ℕ → ℕ → ℕ → ℕ
+outputCount pass t f a = overFile (λ (o : Outcome). 0) (λ (fr : List ℕ). frameCount (outputBytes pass fr)) t (readFile t f (Lent a))
 
 -- what `type_file` gives, r, and leaves: fr and an are the frame buffer and the answer buffer before it, `last` and `out` after it
-pub record HandsBack (t fr an : List ℕ) (r : TypedFile) (last out : List ℕ) : Type 0 where
+pub record HandsBack (pass : Pass) (t fr an : List ℕ) (r : TypedFile) (last out : List ℕ) : Type 0 where
   pub outcome : r .outcome ≡ readFile t (length fr) (Lent (length an))
-  pub outputs : r .outputs ≡ outputCount t (length fr) (length an)
+  pub outputs : r .outputs ≡ outputCount pass t (length fr) (length an)
   pub frames : last ≡ framesAfter t fr (Lent (length an))
-  pub answers : out ≡ answersAfter t (length fr) an
+  pub answers : out ≡ answersAfter pass t (length fr) an
 
 -- ROW_TYPE
 
@@ -68,17 +69,17 @@ toGiven (Rt.Answered a) = answer (toResult a)
 toGiven Rt.Index = noRow
 toGiven (Rt.NotAccepted o) = notAccepted o
 
-abbrev pub rowGiven : RowNumber → List ℕ → RowGiven
-rowGiven n fr = cond (isRow (startsOf fr) n) (answer (rowAnswer (see fr) (n .0))) noRow
+abbrev pub rowGiven : Pass → RowNumber → List ℕ → RowGiven
+rowGiven pass n fr = cond (isRow (startsOf fr) n) (answer (rowAnswer pass (see fr) (n .0))) noRow
 
 -- with a frame buffer of f bytes and an answer buffer of a bytes
-unfoldable pub rowType : List ℕ → ℕ → ℕ → RowNumber → RowGiven
-rowType t f a n = overFile notAccepted (rowGiven n) t (readFile t f (Lent a))
+unfoldable pub rowType : Pass → List ℕ → ℕ → ℕ → RowNumber → RowGiven
+rowType pass t f a n = overFile notAccepted (rowGiven pass n) t (readFile t f (Lent a))
 
 -- the answer buffer after it: as after `type_rows`, and unchanged where the file does not have the row
-unfoldable pub answersAfterRow : List ℕ → ℕ → List ℕ → RowNumber → List ℕ
-answersAfterRow t f an n =
-    overFile (λ (o : Outcome). an) (λ (fr : List ℕ). cond (isRow (startsOf fr) n) (answersWritten an fr) an) t (readFile t f (Lent (length an)))
+unfoldable pub answersAfterRow : Pass → List ℕ → ℕ → List ℕ → RowNumber → List ℕ
+answersAfterRow pass t f an n =
+    overFile (λ (o : Outcome). an) (λ (fr : List ℕ). cond (isRow (startsOf fr) n) (answersWritten pass an fr) an) t (readFile t f (Lent (length an)))
 
 -- COMPOSE_VERDICT
 
@@ -100,11 +101,11 @@ abbrev pub orNoCompose : Option (Result Judgement) → VerdictGiven
 orNoCompose (some j) = verdict j
 orNoCompose none = noCompose
 
-abbrev pub verdictGiven : RowNumber → List ℕ → VerdictGiven
-verdictGiven n fr = cond (isRow (startsOf fr) n) (orNoCompose (verdictOf (see fr) (n .0))) noRow
+abbrev pub verdictGiven : Pass → RowNumber → List ℕ → VerdictGiven
+verdictGiven pass n fr = cond (isRow (startsOf fr) n) (orNoCompose (verdictOf pass (see fr) (n .0))) noRow
 
-unfoldable pub composeVerdict : List ℕ → ℕ → ℕ → RowNumber → VerdictGiven
-composeVerdict t f a n = overFile notAccepted (verdictGiven n) t (readFile t f (Lent a))
+unfoldable pub composeVerdict : Pass → List ℕ → ℕ → ℕ → RowNumber → VerdictGiven
+composeVerdict pass t f a n = overFile notAccepted (verdictGiven pass n) t (readFile t f (Lent a))
 
 -- the answer buffer after it: as after `type_rows` where a verdict is given, else unchanged
 abbrev pub ifJudged : List ℕ → List ℕ → VerdictGiven → List ℕ
@@ -113,9 +114,9 @@ ifJudged written an noCompose = an
 ifJudged written an noRow = an
 ifJudged written an (notAccepted o) = an
 
-unfoldable pub answersAfterVerdict : List ℕ → ℕ → List ℕ → RowNumber → List ℕ
-answersAfterVerdict t f an n =
-    overFile (λ (o : Outcome). an) (λ (fr : List ℕ). ifJudged (answersWritten an fr) an (verdictGiven n fr)) t (readFile t f (Lent (length an)))
+unfoldable pub answersAfterVerdict : Pass → List ℕ → ℕ → List ℕ → RowNumber → List ℕ
+answersAfterVerdict pass t f an n =
+    overFile (λ (o : Outcome). an) (λ (fr : List ℕ). ifJudged (answersWritten pass an fr) an (verdictGiven pass n fr)) t (readFile t f (Lent (length an)))
 
 -- AS LINES, what the typing program prints
 
@@ -124,13 +125,13 @@ abbrev pub outcomeText : Outcome → List ℕ
 outcomeText o = textOf (bytesOf (outcomeFrame o)) 1
 
 -- a line for each frame handed back; none for a file without rows
-abbrev pub outputText : List ℕ → List ℕ
-outputText fr = textOf (outputBytes fr) (frameCount (outputBytes fr))
+abbrev pub outputText : Pass → List ℕ → List ℕ
+outputText pass fr = textOf (outputBytes pass fr) (frameCount (outputBytes pass fr))
 
 -- with buffers of the largest sizes that a file asks for, 16,384 and 32,768 bytes
-unfoldable pub typedText : List ℕ → List ℕ
-typedText t = overFile outcomeText outputText t (readFile t 16384 (Lent 32768))
+unfoldable pub typedText : Pass → List ℕ → List ℕ
+typedText pass t = overFile outcomeText (outputText pass) t (readFile t 16384 (Lent 32768))
 
 -- how many of its bytes fit whole lines into an output buffer of o bytes
-abbrev pub linesIn : List ℕ → ℕ → ℕ
-linesIn t o = 33 * min (length (typedText t) / 33) (o / 33)
+abbrev pub linesIn : Pass → List ℕ → ℕ → ℕ
+linesIn pass t o = 33 * min (length (typedText pass t) / 33) (o / 33)
