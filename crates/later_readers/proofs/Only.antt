@@ -8,6 +8,7 @@ use mathlib.Core.Option.{Option, none, some}
 use Rattle.text.specs.Lines.{decoded}
 use Rattle.frames.specs.Bytes.{zeroFrame}
 use Rattle.rule.specs.Answers.{Place, alike, told}
+use Rattle.row_rules.specs.declared.Pass.{Pass}
 use Rattle.later_readers.specs.Reader.{Reader, Choice, Kept, Keeps, IsAccepted, Claim, Agree}
 use Rattle.later_readers.specs.Ours.{framesFor, answersFor, byBuffer}
 use Rattle.later_readers.proofs.Ours.{just-enough, type-rows-keeps}
@@ -20,27 +21,27 @@ one : {family : ℕ} {newerAt : Place → List ℕ} (met : Option Place) {b c th
 one none j k = j .equal refl ∙ sym (k .equal refl)
 one (some p) j k = j .place p refl ∙ sym (k .place p refl)
 
-agree : (r s : Reader) (t fr : List ℕ) → Keeps r t fr choice → Keeps s t fr choice → Agree r s t fr
-agree r s t fr j k = record {
+agree : (pass : Pass) (r s : Reader) (t fr : List ℕ) → Keeps pass r t fr choice → Keeps pass s t fr choice → Agree r s t fr
+agree pass r s t fr j k = record {
   rows = λ m h. one _ (j .rows m h) (k .rows m h);
   verdicts = λ m h rule e. one _ (j .verdicts m h rule e) (k .verdicts m h rule e);
   same = λ a b. one _ (j .same a b) (k .same a b);
 }
 
 -- what a reader keeps, every reader that agrees with it keeps
-keeps-too : (r s : Reader) (t fr : List ℕ) (c : Choice) → Agree r s t fr → Keeps s t fr c → Keeps r t fr c
-keeps-too r s t fr c g k = record {
+keeps-too : (pass : Pass) (r s : Reader) (t fr : List ℕ) (c : Choice) → Agree r s t fr → Keeps pass s t fr c → Keeps pass r t fr c
+keeps-too pass r s t fr c g k = record {
   rows = λ m h. rw (g .rows m h) (k .rows m h);
   verdicts = λ m h rule e. rw (g .verdicts m h rule e) (k .verdicts m h rule e);
   same = λ a b. rw (g .same a b) (k .same a b);
 }
 
 -- ours, with buffers of just the size
-abbrev ours : Reader
-ours = byBuffer framesFor answersFor
+abbrev ours : Pass → Reader
+ours pass = byBuffer pass framesFor answersFor
 
-pub only-ours : (r : Reader) → Claim r ↔ ((t : List ℕ) (n : ℕ) → IsAccepted t n → Agree r ours t (decoded t n))
-only-ours r = (
-  λ claim t n a. agree r ours t (decoded t n) (claim t n a choice) (type-rows-keeps framesFor answersFor just-enough t n a choice),
-  λ g t n a c. keeps-too r ours t (decoded t n) c (g t n a) (type-rows-keeps framesFor answersFor just-enough t n a c),
+pub only-ours : (pass : Pass) (r : Reader) → Claim pass r ↔ ((t : List ℕ) (n : ℕ) → IsAccepted t n → Agree r (ours pass) t (decoded t n))
+only-ours pass r = (
+  λ claim t n a. agree pass r (ours pass) t (decoded t n) (claim t n a choice) (type-rows-keeps pass framesFor answersFor just-enough t n a choice),
+  λ g t n a c. keeps-too pass r (ours pass) t (decoded t n) c (g t n a) (type-rows-keeps pass framesFor answersFor just-enough t n a c),
 )

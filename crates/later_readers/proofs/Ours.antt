@@ -26,6 +26,7 @@ use Rattle.rule.specs.Claim.{ours, reading, Right}
 use Rattle.rule.proofs.Later.{claim}
 use Rattle.type_methods.specs.Comparison.{handed, sameIn, sameType}
 use Rattle.type_methods.proofs.Seen.{never}
+use Rattle.row_rules.specs.declared.Pass.{Pass}
 use Rattle.row_rules.specs.Typed.{typing}
 use Rattle.compose.specs.Rows.{verdictRule, judged}
 use Rattle.typifier_laws.proofs.Good.{Good}
@@ -121,29 +122,29 @@ compared-says (told c) p e = never (cc)
 compared-says (newer q) p e = record { family-is = refl; number-is = refl }
 
 -- A READER THAT GIVES THE BYTES OF OUR OUTCOMES over a text whose frames these are
-record GivesOurs (r : Reader) (t fr : List ℕ) : Type 0 where
-  rows : (m : ℕ) → m < rowCount (startsOf fr) → r .row t m ≡ rowBytes (rowAnswer (see fr) m)
-  verdicts : (m : ℕ) → m < rowCount (startsOf fr) → (rule : Rule Judgement) → verdictRule (see fr) m ≡ some rule → r .verdict t m ≡ verdictBytes m (ours (see fr) typing m rule)
+record GivesOurs (pass : Pass) (r : Reader) (t fr : List ℕ) : Type 0 where
+  rows : (m : ℕ) → m < rowCount (startsOf fr) → r .row t m ≡ rowBytes (rowAnswer pass (see fr) m)
+  verdicts : (m : ℕ) → m < rowCount (startsOf fr) → (rule : Rule Judgement) → verdictRule (see fr) m ≡ some rule → r .verdict t m ≡ verdictBytes m (ours (see fr) (typing pass) m rule)
   same : (a b : Frame) → r .same t a b ≡ comparedBytes (sameType fr a b)
 
-module _ (r : Reader) (t fr : List ℕ) (good : Good fr) (is : GivesOurs r t fr) (choice : Choice) where
-  right : (m : ℕ) {A : Type 0} (c : Result A) (rule : Rule A) → Right (see fr) (reading (see fr) typing m rule) (ours (see fr) typing m rule) (theirs fr choice m c rule)
-  right m c rule = claim (see fr) typing (λ k. rowAnswerOf (choice .rows k)) m c rule
+module _ (pass : Pass) (r : Reader) (t fr : List ℕ) (good : Good fr) (is : GivesOurs pass r t fr) (choice : Choice) where
+  right : (m : ℕ) {A : Type 0} (c : Result A) (rule : Rule A) → Right (see fr) (reading (see fr) (typing pass) m rule) (ours (see fr) (typing pass) m rule) (theirs pass fr choice m c rule)
+  right m c rule = claim (see fr) (typing pass) (λ k. rowAnswerOf (choice .rows k)) m c rule
 
-  keeps : Keeps r t fr choice
+  keeps : Keeps pass r t fr choice
   unfolding sameType sameIn
   keeps = record {
     rows = λ m h.
-        let o = rowAnswer (see fr) m in
-        let i = ours-in-range fr good m h in
-        rw (is .rows m h) (kept (see fr) _ 10 rowBytes o _ (right m (rowAnswerOf (choice .rows m)) (typing m)) (row-other fr m o i) (row-says fr m o i));
+        let o = rowAnswer pass (see fr) m in
+        let i = ours-in-range pass fr good m h in
+        rw (is .rows m h) (kept (see fr) _ 10 rowBytes o _ (right m (rowAnswerOf (choice .rows m)) (typing pass m)) (row-other fr m o i) (row-says fr m o i));
     verdicts = λ m h rule e.
-        let o = ours (see fr) typing m rule in
-        let v = verdict-numbers fr m o (ap (judged (see fr) m) e) .is in
+        let o = ours (see fr) (typing pass) m rule in
+        let v = verdict-numbers pass fr m o (ap (judged pass (see fr) m) e) .is in
         rw (is .verdicts m h rule e) (kept (see fr) _ 11 (verdictBytes m) o _ (right m (chosenJudgement (choice .verdicts m)) rule) (verdict-other m _ o v) (verdict-says m _ o v));
     same = λ a b.
         let rule = handed (typeAnswerOf a) (typeAnswerOf b) in
-        let o = ours (see fr) typing 0 rule in
+        let o = ours (see fr) (typing pass) 0 rule in
         rw (is .same a b) (kept (see fr) _ 10 comparedBytes o _ (right 0 (choice .same a b) rule) (compared-other o) (compared-says o));
   }
 
@@ -152,33 +153,33 @@ at-seam : (front : List Frame) (x : Frame) (back : List Frame) (rest : List ℕ)
 at-seam front x back rest i e =
     rw e (frame-at-list (front ++ (x ∷ back)) rest (length front) (omega (arith, length-append front (x ∷ back))) ∙ getD-append-seam front x back zeroFrame)
 
-module _ (fr : List ℕ) (good : Good fr) (rest : List ℕ) (m : ℕ) (h : m < rowCount (startsOf fr)) where
-  answer-stands : frameAt (outputBytes fr ++ rest) (m + composesBelow fr m) ≡ rowFrame (rowAnswer (see fr) m)
+module _ (pass : Pass) (fr : List ℕ) (good : Good fr) (rest : List ℕ) (m : ℕ) (h : m < rowCount (startsOf fr)) where
+  answer-stands : frameAt (outputBytes pass fr ++ rest) (m + composesBelow fr m) ≡ rowFrame (rowAnswer pass (see fr) m)
   unfolding outputs
   answer-stands =
-      let g = outputs-go-on (see fr) (suc m) (rowCount (startsOf fr)) h in
-      let front = outputs (see fr) m in
-      let e = g .is ∙ append-assoc front (rowFrames (see fr) m) (g .more) in
+      let g = outputs-go-on pass (see fr) (suc m) (rowCount (startsOf fr)) h in
+      let front = outputs pass (see fr) m in
+      let e = g .is ∙ append-assoc front (rowFrames pass (see fr) m) (g .more) in
       ap (λ (l : List Frame). frameAt (framesBytes l ++ rest) (m + composesBelow fr m)) e
-      ∙ at-seam front _ _ rest (m + composesBelow fr m) (sym (outputs-below fr good m (omega arith)))
+      ∙ at-seam front _ _ rest (m + composesBelow fr m) (sym (outputs-below pass fr good m (omega arith)))
 
   verdict-stands : (rule : Rule Judgement) → verdictRule (see fr) m ≡ some rule
-      → frameAt (outputBytes fr ++ rest) (m + composesBelow fr m + 1) ≡ verdictFrame (record { 0 = m }) (ours (see fr) typing m rule)
+      → frameAt (outputBytes pass fr ++ rest) (m + composesBelow fr m + 1) ≡ verdictFrame (record { 0 = m }) (ours (see fr) (typing pass) m rule)
   unfolding outputs
   verdict-stands rule q =
-      let g = outputs-go-on (see fr) (suc m) (rowCount (startsOf fr)) h in
-      let first : List Frame = outputs (see fr) m in
-      let a : Frame = rowFrame (rowAnswer (see fr) m) in
-      let v : Frame = verdictFrame (record { 0 = m }) (ours (see fr) typing m rule) in
-      let e : outputs (see fr) (rowCount (startsOf fr)) ≡ (first ++ (a ∷ [])) ++ (v ∷ g .more) =
-      g .is ∙ append-assoc first (rowFrames (see fr) m) (g .more) ∙ ap (λ (o : Option (Rule Judgement)). first ++ (a ∷ (verdictFrames m (judged (see fr) m o) ++ g .more))) q
+      let g = outputs-go-on pass (see fr) (suc m) (rowCount (startsOf fr)) h in
+      let first : List Frame = outputs pass (see fr) m in
+      let a : Frame = rowFrame (rowAnswer pass (see fr) m) in
+      let v : Frame = verdictFrame (record { 0 = m }) (ours (see fr) (typing pass) m rule) in
+      let e : outputs pass (see fr) (rowCount (startsOf fr)) ≡ (first ++ (a ∷ [])) ++ (v ∷ g .more) =
+      g .is ∙ append-assoc first (rowFrames pass (see fr) m) (g .more) ∙ ap (λ (o : Option (Rule Judgement)). first ++ (a ∷ (verdictFrames m (judged pass (see fr) m o) ++ g .more))) q
       ∙ sym (append-assoc first (a ∷ []) (v ∷ g .more)) in
       ap (λ (l : List Frame). frameAt (framesBytes l ++ rest) (m + composesBelow fr m + 1)) e
       ∙ at-seam (first ++ (a ∷ [])) v (g .more) rest (m + composesBelow fr m + 1)
-      (omega (arith, outputs-below fr good m (omega arith), length-append first (a ∷ [])))
+      (omega (arith, outputs-below pass fr good m (omega arith), length-append first (a ∷ [])))
 
 -- AN ACCEPTED TEXT, with any buffers that suffice
-module _ (t : List ℕ) (n f : ℕ) (an : List ℕ) (accepted : IsAccepted t n) (for-frames : 16 * lineCount t ≤ f) (for-answers : answerBytes t ≤ length an) where
+module _ (pass : Pass) (t : List ℕ) (n f : ℕ) (an : List ℕ) (accepted : IsAccepted t n) (for-frames : 16 * lineCount t ≤ f) (for-answers : answerBytes t ≤ length an) where
   abbrev fr : List ℕ
   fr = decoded t n
 
@@ -196,7 +197,7 @@ module _ (t : List ℕ) (n f : ℕ) (an : List ℕ) (accepted : IsAccepted t n) 
   read-lent = read-with (Lent (length an)) for-answers
 
   good-text : Good fr
-  good-text = good-of fr (length an) (ready-of t f (length an) n read-lent)
+  good-text = good-of pass fr (length an) (ready-of pass t f (length an) n read-lent)
 
   stands-at : (m : ℕ) → standsAt t m ≡ m + composesBelow fr m
   stands-at m = ap (λ (k : ℕ). m + composesBelow (decoded t k) m) (sym (accepts .readable .count))
@@ -205,16 +206,16 @@ module _ (t : List ℕ) (n f : ℕ) (an : List ℕ) (accepted : IsAccepted t n) 
   unfolding sameTypes
   same-given a b = rw (read-with NotLent tt)
 
-  buffer-is : answersAfter t f an ≡ answersWritten an fr
+  buffer-is : answersAfter pass t f an ≡ answersWritten pass an fr
   unfolding answersAfter
   buffer-is = rw read-lent
 
-  row-given : (m : ℕ) → m < rowCount (startsOf fr) → rowGivenBytes (rowType t f (length an) (record { 0 = m })) ≡ rowBytes (rowAnswer (see fr) m)
+  row-given : (m : ℕ) → m < rowCount (startsOf fr) → rowGivenBytes (rowType pass t f (length an) (record { 0 = m })) ≡ rowBytes (rowAnswer pass (see fr) m)
   unfolding rowType
   row-given m h = rw (read-lent, row-there fr m h)
 
   verdict-given : (m : ℕ) → m < rowCount (startsOf fr) → (rule : Rule Judgement) → verdictRule (see fr) m ≡ some rule
-      → verdictGivenBytes m (composeVerdict t f (length an) (record { 0 = m })) ≡ verdictBytes m (ours (see fr) typing m rule)
+      → verdictGivenBytes m (composeVerdict pass t f (length an) (record { 0 = m })) ≡ verdictBytes m (ours (see fr) (typing pass) m rule)
   unfolding composeVerdict
   verdict-given m h rule e = rw (read-lent, row-there fr m h, e)
 
@@ -224,32 +225,32 @@ module _ (t : List ℕ) (n f : ℕ) (an : List ℕ) (accepted : IsAccepted t n) 
 pub just-enough : Suffice framesFor answersFor
 just-enough = record { for-frames = λ t. omega (arith, length-replicate {A = ℕ} (16 * lineCount t) 0); for-answers = λ t. omega (arith, length-replicate {A = ℕ} (answerBytes t) 0) }
 
-module _ (frames answers : List ℕ → List ℕ) (enough : Suffice frames answers) where
-  pub type-rows-keeps : Claim (byBuffer frames answers)
+module _ (pass : Pass) (frames answers : List ℕ → List ℕ) (enough : Suffice frames answers) where
+  pub type-rows-keeps : Claim pass (byBuffer pass frames answers)
   type-rows-keeps t n accepted =
       let f = length (frames t) in
       let hf = enough .for-frames t in
       let ha = enough .for-answers t in
       let fr = decoded t n in
-      let rest = drop (length (outputBytes fr)) (answers t) in
-      let good = good-text t n f (answers t) accepted hf ha in
-      let b = buffer-is t n f (answers t) accepted hf ha in
-      let k = stands-at t n f (answers t) accepted hf ha in
-      keeps (byBuffer frames answers) t fr good
+      let rest = drop (length (outputBytes pass fr)) (answers t) in
+      let good = good-text pass t n f (answers t) accepted hf ha in
+      let b = buffer-is pass t n f (answers t) accepted hf ha in
+      let k = stands-at pass t n f (answers t) accepted hf ha in
+      keeps pass (byBuffer pass frames answers) t fr good
       (record {
-        rows = λ m h. rw (b, k m) (ap bytesOf (answer-stands fr good rest m h));
-        verdicts = λ m h rule e. rw (b, k m) (ap bytesOf (verdict-stands fr good rest m h rule e));
-        same = same-given t n f (answers t) accepted hf ha;
+        rows = λ m h. rw (b, k m) (ap bytesOf (answer-stands pass fr good rest m h));
+        verdicts = λ m h rule e. rw (b, k m) (ap bytesOf (verdict-stands pass fr good rest m h rule e));
+        same = same-given pass t n f (answers t) accepted hf ha;
       })
 
-  pub row-type-keeps : Claim (byRow frames answers)
+  pub row-type-keeps : Claim pass (byRow pass frames answers)
   row-type-keeps t n accepted =
       let f = length (frames t) in
       let hf = enough .for-frames t in
       let ha = enough .for-answers t in
-      keeps (byRow frames answers) t (decoded t n) (good-text t n f (answers t) accepted hf ha)
+      keeps pass (byRow pass frames answers) t (decoded t n) (good-text pass t n f (answers t) accepted hf ha)
       (record {
-        rows = row-given t n f (answers t) accepted hf ha;
-        verdicts = verdict-given t n f (answers t) accepted hf ha;
-        same = same-given t n f (answers t) accepted hf ha;
+        rows = row-given pass t n f (answers t) accepted hf ha;
+        verdicts = verdict-given pass t n f (answers t) accepted hf ha;
+        same = same-given pass t n f (answers t) accepted hf ha;
       })

@@ -22,6 +22,7 @@ use Rattle.archive.specs.Checks.{indexOk, checkFrames}
 use Rattle.archive.specs.Access.{rowIn}
 use Rattle.rule.specs.Answers.{row}
 use Rattle.type_methods.proofs.Seen.{never}
+use Rattle.row_rules.specs.declared.Pass.{Pass}
 use Rattle.row_rules.specs.Typed.{typing}
 use Rattle.reader.specs.File.{readFile}
 use Rattle.later_readers.specs.Reader.{Reader, SaysNewer, meets, Keeps, IsAccepted, Claim}
@@ -44,48 +45,48 @@ holds : holdsNewer threeRows ≡ true
 unfolding lowest allBelow build digitValue digitOf byteOf charOf frameAt
 holds = refl
 
-first-met : meets fr 0 (typing 0) ≡ some (row (record { 0 = 0 }))
+first-met : (pass : Pass) → meets pass fr 0 (typing pass 0) ≡ some (row (record { 0 = 0 }))
 unfolding lowest build digitValue digitOf byteOf charOf frameAt start startsOf rowIn rowOf
-first-met = refl
+first-met pass = refl
 
-second-unmet : meets fr 1 (typing 1) ≡ none
+second-unmet : (pass : Pass) → meets pass fr 1 (typing pass 1) ≡ none
 unfolding lowest build digitValue digitOf byteOf charOf frameAt start startsOf rowIn rowOf
-second-unmet = refl
+second-unmet pass = refl
 
-third-met : meets fr 2 (typing 2) ≡ some (row (record { 0 = 0 }))
+third-met : (pass : Pass) → meets pass fr 2 (typing pass 2) ≡ some (row (record { 0 = 0 }))
 unfolding lowest build digitValue digitOf byteOf charOf frameAt start startsOf rowIn rowOf
-third-met = refl
+third-met pass = refl
 
-module _ {r : Reader} (claim : Claim r) where
-  abbrev keeps : Keeps r threeRows fr choice
+module _ {pass : Pass} {r : Reader} (claim : Claim pass r) where
+  abbrev keeps : Keeps pass r threeRows fr choice
   keeps = claim threeRows 3 accepted choice
 
   first-is : r .row threeRows 0 ≡ newerAtRow 0
-  first-is = keeps .rows 0 (omega (arith, three)) .place (row (record { 0 = 0 })) first-met
+  first-is = keeps .rows 0 (omega (arith, three)) .place (row (record { 0 = 0 })) (first-met pass)
 
   second-is-not : SaysNewer 10 (r .row threeRows 1) → ⊥
-  second-is-not w = keeps .rows 1 (omega (arith, three)) .exactly .0 w second-unmet
+  second-is-not w = keeps .rows 1 (omega (arith, three)) .exactly .0 w (second-unmet pass)
 
   third-is : r .row threeRows 2 ≡ newerAtRow 0
-  third-is = keeps .rows 2 (omega (arith, three)) .place (row (record { 0 = 0 })) third-met
+  third-is = keeps .rows 2 (omega (arith, three)) .place (row (record { 0 = 0 })) (third-met pass)
 
 says : (m : ℕ) → SaysNewer 10 (newerAtRow m)
 says m = record { family-is = refl; number-is = refl }
 
 -- THE FOUR
-pub not-all-newer : Claim allNewer → ⊥
-not-all-newer c = second-is-not c (says 1)
+pub not-all-newer : (pass : Pass) → Claim pass allNewer → ⊥
+not-all-newer pass c = second-is-not c (says 1)
 
-module _ (r : Reader) where
-  pub not-before-reading : Claim (newerBeforeReading r) → ⊥
+module _ (pass : Pass) (r : Reader) where
+  pub not-before-reading : Claim pass (newerBeforeReading r) → ⊥
   not-before-reading c = second-is-not c (rw holds (says 1))
 
-  pub not-as-another : Claim (newerAsAnother r) → ⊥
+  pub not-as-another : Claim pass (newerAsAnother r) → ⊥
   not-as-another c =
       let e : r .row threeRows 0 ≡ newerAtRow 0 = first-is c in
       second-is-not c (rw e (says 0))
 
-  pub not-at-itself : Claim (newerAtItself r) → ⊥
+  pub not-at-itself : Claim pass (newerAtItself r) → ⊥
   not-at-itself c = go (isNewer (r .row threeRows 2)) refl (third-is c)
     where
       go : (b : Bool) → isNewer (r .row threeRows 2) ≡ b → cond b (newerAtRow 2) (r .row threeRows 2) ≡ newerAtRow 0 → ⊥

@@ -8,6 +8,7 @@ use Rattle.text.specs.Lines.{lineCount, decoded}
 use Rattle.text.specs.Reading.{answerBytes}
 use Rattle.frames.specs.Bytes.{bytesOf, frameAt}
 use Rattle.frames.specs.Out.{refusedFrame, outcomeFrame}
+use Rattle.row_rules.specs.declared.Pass.{Pass}
 use Rattle.verdict_laws.specs.Each.{composesBelow}
 use Rattle.reader.specs.Types.{sameTypes}
 use Rattle.reader.specs.Typing.{answersAfter, RowGiven, answer, VerdictGiven, verdict, noCompose, rowType, composeVerdict}
@@ -33,11 +34,11 @@ abbrev pub standsAt : List ℕ → ℕ → ℕ
 standsAt t m = m + composesBelow (decoded t (lineCount t)) m
 
 -- a row's answer stands there, and a compose's verdict after it
-abbrev pub byBuffer : (frames answers : List ℕ → List ℕ) → Reader
-byBuffer frames answers =
+abbrev pub byBuffer : Pass → (frames answers : List ℕ → List ℕ) → Reader
+byBuffer pass frames answers =
     record {
-      row = λ t m. bytesOf (frameAt (answersAfter t (length (frames t)) (answers t)) (standsAt t m));
-      verdict = λ t m. bytesOf (frameAt (answersAfter t (length (frames t)) (answers t)) (standsAt t m + 1));
+      row = λ t m. bytesOf (frameAt (answersAfter pass t (length (frames t)) (answers t)) (standsAt t m));
+      verdict = λ t m. bytesOf (frameAt (answersAfter pass t (length (frames t)) (answers t)) (standsAt t m + 1));
       same = λ t a b. saidBytes (samenessSaid (sameTypes t (length (frames t)) a b));
     }
 
@@ -54,10 +55,10 @@ verdictGivenBytes m noCompose = bytesOf (refusedFrame (at 6 0))
 verdictGivenBytes m Typing.VerdictGiven.noRow = bytesOf (refusedFrame (at 6 0))
 verdictGivenBytes m (Typing.VerdictGiven.notAccepted o) = bytesOf (outcomeFrame o)
 
-abbrev pub byRow : (frames answers : List ℕ → List ℕ) → Reader
-byRow frames answers =
+abbrev pub byRow : Pass → (frames answers : List ℕ → List ℕ) → Reader
+byRow pass frames answers =
     record {
-      row = λ t m. rowGivenBytes (rowType t (length (frames t)) (length (answers t)) (record { 0 = m }));
-      verdict = λ t m. verdictGivenBytes m (composeVerdict t (length (frames t)) (length (answers t)) (record { 0 = m }));
+      row = λ t m. rowGivenBytes (rowType pass t (length (frames t)) (length (answers t)) (record { 0 = m }));
+      verdict = λ t m. verdictGivenBytes m (composeVerdict pass t (length (frames t)) (length (answers t)) (record { 0 = m }));
       same = λ t a b. saidBytes (samenessSaid (sameTypes t (length (frames t)) a b));
     }

@@ -20,6 +20,7 @@ use Rattle.rule.specs.Things.{see}
 use Rattle.rule.specs.Rule.{Rule, met}
 use Rattle.rule.specs.Claim.{later, reading}
 use Rattle.type_methods.specs.Comparison.{handed, samenessOf}
+use Rattle.row_rules.specs.declared.Pass.{Pass}
 use Rattle.row_rules.specs.Typed.{typing}
 use Rattle.compose.specs.Rows.{verdictRule}
 use Rattle.reader.specs.File.{readFile}
@@ -62,14 +63,14 @@ pub record Choice : Type 0 where
 
 -- what it gives by a rule, over its own answers of the first m rows, in a file whose frames these are: what the rule says, and its choice c for this outcome where
 -- the rule itself comes to a newer thing
-abbrev pub theirs : {A : Type 0} → List ℕ → Choice → ℕ → Result A → Rule A → Result A
-theirs fr choice m c rule = later (see fr) typing (λ k. rowAnswerOf (choice .rows k)) m c rule
+abbrev pub theirs : {A : Type 0} → Pass → List ℕ → Choice → ℕ → Result A → Rule A → Result A
+theirs pass fr choice m c rule = later (see fr) (typing pass) (λ k. rowAnswerOf (choice .rows k)) m c rule
 
 -- WHAT THE CLAIM SAYS
 
 -- the place of the newer thing that the reading of an outcome meets, none if it meets none. Row answers in a reading are the written rules', not a buffer's.
-abbrev pub meets : {A : Type 0} → List ℕ → ℕ → Rule A → Option Place
-meets fr m rule = met (see fr) (reading (see fr) typing m rule)
+abbrev pub meets : {A : Type 0} → Pass → List ℕ → ℕ → Rule A → Option Place
+meets pass fr m rule = met (see fr) (reading (see fr) (typing pass) m rule)
 
 -- of one outcome: the place that its reading meets, the reader's bytes and the later reader's; with the family of number 22 and its bytes for each place
 pub record Kept (family : ℕ) (newerAt : Place → List ℕ) (met : Option Place) (mine theirs : List ℕ) : Type 0 where
@@ -82,21 +83,21 @@ pub record Kept (family : ℕ) (newerAt : Place → List ℕ) (met : Option Plac
 
 -- of one text, whose frames these are, and one choice: every row, every compose (a row whose verdict has a rule: those of kind 5, `one-each`, verdict_laws) and every
 -- two frames handed in
-pub record Keeps (r : Reader) (t fr : List ℕ) (choice : Choice) : Type 0 where
+pub record Keeps (pass : Pass) (r : Reader) (t fr : List ℕ) (choice : Choice) : Type 0 where
   pub rows : (m : ℕ) → m < rowCount (startsOf fr)
-      → Kept 10 (λ p. rowBytes (newer p)) (meets fr m (typing m)) (r .row t m) (rowBytes (theirs fr choice m (rowAnswerOf (choice .rows m)) (typing m)))
+      → Kept 10 (λ p. rowBytes (newer p)) (meets pass fr m (typing pass m)) (r .row t m) (rowBytes (theirs pass fr choice m (rowAnswerOf (choice .rows m)) (typing pass m)))
   pub verdicts : (m : ℕ) → m < rowCount (startsOf fr) → (rule : Rule Judgement) → verdictRule (see fr) m ≡ some rule
-      → Kept 11 (λ p. verdictBytes m (newer p)) (meets fr m rule) (r .verdict t m) (verdictBytes m (theirs fr choice m (chosenJudgement (choice .verdicts m)) rule))
+      → Kept 11 (λ p. verdictBytes m (newer p)) (meets pass fr m rule) (r .verdict t m) (verdictBytes m (theirs pass fr choice m (chosenJudgement (choice .verdicts m)) rule))
   pub same : (a b : Frame) → let rule = handed (typeAnswerOf a) (typeAnswerOf b) in
-      Kept 10 (λ p. comparedBytes (newer p)) (meets fr 0 rule) (r .same t a b) (comparedBytes (theirs fr choice 0 (choice .same a b) rule))
+      Kept 10 (λ p. comparedBytes (newer p)) (meets pass fr 0 rule) (r .same t a b) (comparedBytes (theirs pass fr choice 0 (choice .same a b) rule))
 
 -- a text is accepted, with n frames, where the lent buffers are as large as it asks for
 abbrev pub IsAccepted : List ℕ → ℕ → Type 0
 IsAccepted t n = readFile t (16 * lineCount t) (Lent (answerBytes t)) ≡ Accepted n
 
 -- THE CLAIM of a reader: for every accepted text and every choice
-abbrev pub Claim : Reader → Type 0
-Claim r = (t : List ℕ) (n : ℕ) → IsAccepted t n → (choice : Choice) → Keeps r t (decoded t n) choice
+abbrev pub Claim : Pass → Reader → Type 0
+Claim pass r = (t : List ℕ) (n : ℕ) → IsAccepted t n → (choice : Choice) → Keeps pass r t (decoded t n) choice
 
 -- two readers give the same bytes for a text whose frames these are
 pub record Agree (r s : Reader) (t fr : List ℕ) : Type 0 where
