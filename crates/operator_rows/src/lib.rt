@@ -9,9 +9,10 @@ use multiply_rows::multiply;
 use operand_rows::operators::bools;
 use operand_rows::operators::logical;
 use operands::past::past;
+use row_rules::Pass;
 use row_values::scalar_type;
 ghost use mathlib.Core.Path.{_≡_};
-ghost use Rattle.row_rules.specs.Operators.{binary, relational};
+ghost use Rattle.row_rules.specs.Operators.{binary, binaryBy, relational};
 ghost use Rattle.row_rules.specs.Answered.{toResult};
 ghost use Rattle.operands.specs.Past.{ruled};
 
@@ -47,6 +48,26 @@ pub fn binary(
         BinaryOperator::InclusiveOr => past(answers, places, left),
         BinaryOperator::ShiftLeft => past(answers, places, left),
         BinaryOperator::ShiftRight => past(answers, places, left),
+    }
+}
+
+// Binary, by the pass.
+pub fn binary_by(
+    pass: Pass,
+    frames: &[u8],
+    s: Starts,
+    answers: &[u8],
+    places: &[u16],
+    here: RowNumber,
+    op: BinaryOperator,
+    left: RowNumber,
+    right: RowNumber,
+) -> Answer
+    ensures { λ r. ⌜ toResult r ≡ ruled (now (frames .entry)) s (now (answers .entry)) (now (places .entry)) (binaryBy pass here op left right) ⌝ }
+{
+    match pass {
+        Pass::First => binary(frames, s, answers, places, here, op, left, right),
+        Pass::Second => binary(frames, s, answers, places, here, op, left, right),
     }
 }
 

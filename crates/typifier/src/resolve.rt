@@ -18,10 +18,11 @@ use ir::Scalar;
 use ir::VectorSize;
 use operand_rows::operators::cast;
 use operands::past::past;
-use operator_rows::binary;
+use operator_rows::binary_by;
 use operator_rows::relational;
 use row_results::call_result;
 use row_results::special;
+use row_rules::Pass;
 use row_values::numbered;
 use row_values::scalar_type;
 use row_values::vector_type;
@@ -36,8 +37,9 @@ ghost use Rattle.row_rules.specs.Typed.{typed};
 ghost use Rattle.row_rules.specs.Answered.{toResult};
 ghost use Rattle.operands.specs.Past.{ruled, ruledShown};
 
-// The type of the row `here`, whose expression is e, in the order of the source's arms. Math is newer.
+// The type of the row `here`, whose expression is e, by the rules of a pass, in the order of the source's arms. Math is newer.
 pub fn resolve(
+    pass: Pass,
     frames: &[u8],
     s: Starts,
     answers: &[u8],
@@ -45,7 +47,7 @@ pub fn resolve(
     here: RowNumber,
     e: Expression,
 ) -> Answer
-    ensures { λ r. ⌜ toResult r ≡ ruledShown (now (frames .entry)) s (now (answers .entry)) (now (places .entry)) here (shown (now (frames .entry)) s e) ⌝ }
+    ensures { λ r. ⌜ toResult r ≡ ruledShown pass (now (frames .entry)) s (now (answers .entry)) (now (places .entry)) here (shown (now (frames .entry)) s e) ⌝ }
 {
     match e {
         Expression::Access { base } => access(frames, s, answers, places, here, base),
@@ -101,7 +103,8 @@ pub fn resolve(
             query,
         ),
         Expression::Unary { expr } => past(answers, places, expr),
-        Expression::Binary { op, left, right } => binary(
+        Expression::Binary { op, left, right } => binary_by(
+            pass,
             frames,
             s,
             answers,
@@ -158,11 +161,18 @@ pub fn resolve(
 }
 
 // The type of a row, by its frame and the answers so far; an unknown kind is newer.
-pub fn type_row(frames: &[u8], s: Starts, answers: &[u8], places: &[u16], row: RowNumber) -> Answer
-    ensures { λ r. ⌜ toResult r ≡ ruled (now (frames .entry)) s (now (answers .entry)) (now (places .entry)) (typed row) ⌝ }
+pub fn type_row(
+    pass: Pass,
+    frames: &[u8],
+    s: Starts,
+    answers: &[u8],
+    places: &[u16],
+    row: RowNumber,
+) -> Answer
+    ensures { λ r. ⌜ toResult r ≡ ruled (now (frames .entry)) s (now (answers .entry)) (now (places .entry)) (typed pass row) ⌝ }
 {
     match row_at(frames, s, row) {
-        RowForm::Known(e) => resolve(frames, s, answers, places, row, e),
+        RowForm::Known(e) => resolve(pass, frames, s, answers, places, row, e),
         RowForm::Unknown => Answer::Newer { row },
     }
 }

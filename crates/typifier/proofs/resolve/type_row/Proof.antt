@@ -10,4 +10,4 @@ use Rattle.typifier.proofs.resolve.type_row.Tie as tie
 pub type-row-spec : {M : Type 1} → statement M
 type-row-spec =
     tie.close
-    (tie.spec (λ c κs. tt) (λ c. c .match .keys1) (λ c κs. tt) (λ c. c .match .keys2) (λ c. let g = c .before .before .before .before .before .before .before .before .args in c .resolve .ensures ∙ sym (row-run (g .frames .now) (g .s) (g .answers .now) (g .places .now) (g .row) ∙ ap (λ (o : RowForm). ruledShown (g .frames .now) (g .s) (g .answers .now) (g .places .now) (g .row) (seeRow (g .frames .now) (g .s) o)) (sym (c .before .before .before .before .row-at .ensures) ∙ c .before .before .e .given .1))) (λ c. let g = c .before .before .before .before .before .before .args in sym (row-run (g .frames .now) (g .s) (g .answers .now) (g .places .now) (g .row) ∙ ap (λ (o : RowForm). ruledShown (g .frames .now) (g .s) (g .answers .now) (g .places .now) (g .row) (seeRow (g .frames .now) (g .s) o)) (sym (c .before .before .row-at .ensures) ∙ c .enum-told .given .1))))
+    (tie.spec (λ c κs. tt) (λ c. c .match .keys1) (λ c κs. tt) (λ c. c .match .keys2) (λ c. let g = c .before .before .before .before .before .before .before .before .args in c .resolve .ensures ∙ sym (row-run (g .frames .now) (g .s) (g .answers .now) (g .places .now) (g .pass) (g .row) ∙ ap (λ (o : RowForm). ruledShown (g .pass) (g .frames .now) (g .s) (g .answers .now) (g .places .now) (g .row) (seeRow (g .frames .now) (g .s) o)) (sym (c .before .before .before .before .row-at .ensures) ∙ c .before .before .e .given .1))) (λ c. let g = c .before .before .before .before .before .before .args in sym (row-run (g .frames .now) (g .s) (g .answers .now) (g .places .now) (g .pass) (g .row) ∙ ap (λ (o : RowForm). ruledShown (g .pass) (g .frames .now) (g .s) (g .answers .now) (g .places .now) (g .row) (seeRow (g .frames .now) (g .s) o)) (sym (c .before .before .row-at .ensures) ∙ c .enum-told .given .1))))
