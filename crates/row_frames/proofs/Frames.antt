@@ -30,6 +30,7 @@ use Rattle.rule.specs.Answers.{TypeAnswer, resolved, given, refused, told, rowF
 use Rattle.rule.specs.Things.{valueFault, formIn, seeRow}
 use Rattle.type_methods.specs.Canonical.{ifPointer}
 use Rattle.type_methods.proofs.Seen.{never}
+use Rattle.row_rules.specs.declared.Pass.{Pass}
 use Rattle.row_rules.specs.Access.{bounded}
 use Rattle.row_rules.specs.Operators.{product, multiply}
 use Rattle.row_rules.specs.Variables.{variable}
@@ -131,10 +132,10 @@ pub item-at : (f : Frame) (k : ℕ) → byte f 1 ≡ k → itemOf f ≡ itemAs (
 unfolding itemOf
 item-at f k e = ap (λ (x : ℕ). itemAs (itemKindOf x) f) e
 
-pub row-at : (fr : List ℕ) (s : Starts) (an pl : List ℕ) (here : RowNumber) (f : Frame) (k : ℕ) → byte f 1 ≡ k
-    → ruledShown fr s an pl here (seeRow fr s (rowAs (rowKindOf k) f)) ≡ ruledShown fr s an pl here (seeRow fr s (rowOf f))
+pub row-at : (pass : Pass) (fr : List ℕ) (s : Starts) (an pl : List ℕ) (here : RowNumber) (f : Frame) (k : ℕ) → byte f 1 ≡ k
+    → ruledShown pass fr s an pl here (seeRow fr s (rowAs (rowKindOf k) f)) ≡ ruledShown pass fr s an pl here (seeRow fr s (rowOf f))
 unfolding rowOf
-row-at fr s an pl here f k e = sym (ap (λ (x : ℕ). ruledShown fr s an pl here (seeRow fr s (rowAs (rowKindOf x) f))) e)
+row-at pass fr s an pl here f k e = sym (ap (λ (x : ℕ). ruledShown pass fr s an pl here (seeRow fr s (rowAs (rowKindOf x) f))) e)
 
 -- a pointer to a global variable, by its space
 pub at-space : (t : TypeNumber) (b c k : ℕ) → b ≡ k → typeFrame 9 (Ti.Pointer t (spaceOf k c)) ≡ rowFrame (told (variable t (spaceOf k c)))
@@ -142,7 +143,7 @@ pub at-space : (t : TypeNumber) (b c k : ℕ) → b ≡ k → typeFrame 9 (Ti.Po
 at-space t b c k e p = ap (λ (x : ℕ). typeFrame 9 (Ti.Pointer t (spaceOf x c))) e ∙ p ∙ sym (ap (λ (x : ℕ). rowFrame (told (variable t (spaceOf x c)))) e)
 
 -- row `here`, whose frame is f, by the rule of its kind
-pub row-here : (fr : List ℕ) (s : Starts) (an pl : List ℕ) (here : RowNumber) (f : Frame) → isRow s here ≡ true → f ≡ frameAt fr (s .rows + here .0)
-    → ruledShown fr s an pl here (seeRow fr s (rowOf f)) ≡ ruled fr s an pl (typed here)
+pub row-here : (pass : Pass) (fr : List ℕ) (s : Starts) (an pl : List ℕ) (here : RowNumber) (f : Frame) → isRow s here ≡ true → f ≡ frameAt fr (s .rows + here .0)
+    → ruledShown pass fr s an pl here (seeRow fr s (rowOf f)) ≡ ruled fr s an pl (typed pass here)
 unfolding rowIn
-row-here fr s an pl here f h e = sym (row-run fr s an pl here ∙ rw (h, e))
+row-here pass fr s an pl here f h e = sym (row-run fr s an pl pass here ∙ rw (h, e))

@@ -35,6 +35,7 @@ use ir::TypeNumber;
 use ir::VectorSize;
 use out::write::answer_frame;
 use out::write::refusal_frame;
+use row_rules::Pass;
 use row_variables::literal_scalar;
 use type_frames::pointer_frame;
 use type_frames::scalar_frame;
@@ -47,7 +48,7 @@ ghost use Rattle.archive.specs.Access.{itemIn};
 ghost use Rattle.rule.specs.Answers.{number, given, told, rowFrame};
 ghost use Rattle.rule.specs.Things.{itemType, itemSpace, itemResult, maybeItem, seeRow};
 ghost use Rattle.row_rules.specs.Variables.{argument, variable};
-ghost use Rattle.row_rules.specs.Operators.{binary, relational};
+ghost use Rattle.row_rules.specs.Operators.{binary, binaryBy, relational};
 ghost use Rattle.row_rules.specs.Images.{imageQuery};
 ghost use Rattle.row_rules.specs.Results.{resultOf};
 ghost use Rattle.row_rules.specs.Typed.{typed};
@@ -201,8 +202,29 @@ fn binary(
     }
 }
 
+// By the pass. A Binary row of the second pass is left to its rule.
+fn binary_by(
+    pass: Pass,
+    frames: &[u8],
+    s: Starts,
+    answers: &[u8],
+    places: &[u16],
+    here: RowNumber,
+    op: u8,
+    left: RowNumber,
+    right: RowNumber,
+) -> Frame
+    ensures { λ r. ⌜ Quick r (ruled (now (frames .entry)) s (now (answers .entry)) (now (places .entry)) (binaryBy pass here (binaryOperatorOf op) left right)) ⌝ }
+{
+    match pass {
+        Pass::First => binary(frames, s, answers, places, here, op, left, right),
+        Pass::Second => no_frame(),
+    }
+}
+
 // By the row's frame.
 fn by_kind(
+    pass: Pass,
     frames: &[u8],
     s: Starts,
     answers: &[u8],
@@ -210,7 +232,7 @@ fn by_kind(
     here: RowNumber,
     row: Frame,
 ) -> Frame
-    ensures { λ r. ⌜ Quick r (ruledShown (now (frames .entry)) s (now (answers .entry)) (now (places .entry)) here (seeRow (now (frames .entry)) s (rowOf row))) ⌝ }
+    ensures { λ r. ⌜ Quick r (ruledShown pass (now (frames .entry)) s (now (answers .entry)) (now (places .entry)) here (seeRow (now (frames .entry)) s (rowOf row))) ⌝ }
 {
     let n = row.named();
     let kind = row.b1;
@@ -246,7 +268,8 @@ fn by_kind(
         17 => same_as(answers, places, RowNumber(n)),
         18 => {
             let right = row.second();
-            binary(
+            binary_by(
+                pass,
                 frames,
                 s,
                 answers,
@@ -293,19 +316,27 @@ fn by_kind(
 }
 
 // The answer of a row, where frames suffice.
-fn quick(frames: &[u8], s: Starts, answers: &[u8], places: &[u16], here: RowNumber) -> Frame
-    ensures { λ r. ⌜ Quick r (ruled (now (frames .entry)) s (now (answers .entry)) (now (places .entry)) (typed here)) ⌝ }
+fn quick(
+    pass: Pass,
+    frames: &[u8],
+    s: Starts,
+    answers: &[u8],
+    places: &[u16],
+    here: RowNumber,
+) -> Frame
+    ensures { λ r. ⌜ Quick r (ruled (now (frames .entry)) s (now (answers .entry)) (now (places .entry)) (typed pass here)) ⌝ }
 {
     if is_row(s, here) {
         let row = frame_after(frames, s.rows, here.0 as usize);
-        by_kind(frames, s, answers, places, here, row)
+        by_kind(pass, frames, s, answers, places, here, row)
     } else {
         no_frame()
     }
 }
 
-// Writes the answer of row `here`, by the answers so far, as frame `at` of the answer buffer.
+// Writes the answer of row `here`, by the rules of a pass and the answers so far, as frame `at` of the answer buffer.
 pub fn put_row(
+    pass: Pass,
     frames: &[u8],
     s: Starts,
     answers: &mut [u8],
@@ -313,11 +344,11 @@ pub fn put_row(
     here: RowNumber,
     at: usize,
 )
-    ensures { λ _. ⌜ now (answers .exit) ≡ putFrame (now (answers .entry)) at (rowFrame (ruled (now (frames .entry)) s (now (answers .entry)) (now (places .entry)) (typed here))) ⌝ }
+    ensures { λ _. ⌜ now (answers .exit) ≡ putFrame (now (answers .entry)) at (rowFrame (ruled (now (frames .entry)) s (now (answers .entry)) (now (places .entry)) (typed pass here))) ⌝ }
 {
-    let f = quick(frames, s, answers, places, here);
+    let f = quick(pass, frames, s, answers, places, here);
     if f.b0 == 0 {
-        let a = type_row(frames, s, answers, places, here);
+        let a = type_row(pass, frames, s, answers, places, here);
         put_frame(answers, at, answer_frame(a));
     } else {
         put_frame(answers, at, f);

@@ -17,5 +17,5 @@ quick-spec =
     (λ c κs. tt)
     (λ c κs. tt)
     (λ c κs. tt)
-    (λ c h. let a = c .before .before .before .before .before .before .before .before .args in c .by-kind .ensures h ∙ ap rowFrame (row-here (a .frames .now) (a .s) (a .answers .now) (a .places .now) (a .here) (c .before .frame-after .result) (sym (c .before .before .before .before .is-row .ensures) ∙ c .before .before .before .if1 .taken) (c .before .frame-after .ensures)))
+    (λ c h. let a = c .before .before .before .before .before .before .before .before .args in c .by-kind .ensures h ∙ ap rowFrame (row-here (a .pass) (a .frames .now) (a .s) (a .answers .now) (a .places .now) (a .here) (c .before .frame-after .result) (sym (c .before .before .before .before .is-row .ensures) ∙ c .before .before .before .if1 .taken) (c .before .frame-after .ensures)))
     (λ c h. absurd (h (ap (λ (x : Frame). byte x 0) (c .no-frame .ensures)))))
