@@ -19,6 +19,7 @@ use reader::TypedFile;
 use reader::frames_in;
 use reader::read_with;
 use row_frames::row::put_row;
+use row_rules::Pass;
 use text::AnswerRoom;
 use verdicts::judge;
 ghost use mathlib.Core.Path.{_≡_};
@@ -36,6 +37,7 @@ ghost use Rattle.reader.specs.Typing.{Ready, answersWritten, answersAfter, Hand
 
 // Writes a row's answer as frame `at`, and after it the verdict if the row is a compose; gives the frame after them.
 fn answer_row(
+    pass: Pass,
     frames: &[u8],
     s: Starts,
     answers: &mut [u8],
@@ -43,10 +45,10 @@ fn answer_row(
     row: RowNumber,
     at: usize,
 ) -> usize
-    requires { ⌜ Ready (now frames) (length (now answers)) × (s ≡ startsOf (now frames)) × (row .0 < rowCount s) × (at ≡ length (outputs (see (now frames)) (row .0))) × (take (16 * at) (now answers) ≡ framesBytes (outputs (see (now frames)) (row .0))) × (now places ≡ placesOf (now frames) (row .0)) ⌝ }
-    ensures { λ r. ⌜ (r ≡ length (outputs (see (now (frames .entry))) (row .0 + 1))) × (now (answers .exit) ≡ framesBytes (outputs (see (now (frames .entry))) (row .0 + 1)) ++ drop (16 * r) (now (answers .entry))) ⌝ }
+    requires { ⌜ Ready pass (now frames) (length (now answers)) × (s ≡ startsOf (now frames)) × (row .0 < rowCount s) × (at ≡ length (outputs pass (see (now frames)) (row .0))) × (take (16 * at) (now answers) ≡ framesBytes (outputs pass (see (now frames)) (row .0))) × (now places ≡ placesOf pass (now frames) (row .0)) ⌝ }
+    ensures { λ r. ⌜ (r ≡ length (outputs pass (see (now (frames .entry))) (row .0 + 1))) × (now (answers .exit) ≡ framesBytes (outputs pass (see (now (frames .entry))) (row .0 + 1)) ++ drop (16 * r) (now (answers .entry))) ⌝ }
 {
-    put_row(frames, s, answers, places, row, at);
+    put_row(pass, frames, s, answers, places, row, at);
     let after = at + 1;
     let f = frame_at(frames, s.rows + (row.0 as usize));
     if f.b1 == 5 {
@@ -78,15 +80,21 @@ fn row_count(s: Starts) -> usize
 }
 
 // Every row in order; gives how many frames are written. `places` takes at which of them each row's answer stands.
-fn answer_rows(frames: &[u8], s: Starts, answers: &mut [u8], places: &mut [u16]) -> usize
-    requires { ⌜ Ready (now frames) (length (now answers)) × (s ≡ startsOf (now frames)) × (rowCount s ≤ length (now places)) ⌝ }
-    ensures { λ r. ⌜ (r ≡ length (outputs (see (now (frames .entry))) (rowCount s))) × (now (answers .exit) ≡ answersWritten (now (answers .entry)) (now (frames .entry))) × (now (places .exit) ≡ placesOf (now (frames .entry)) (rowCount s) ++ drop (rowCount s) (now (places .entry))) ⌝ }
+fn answer_rows(
+    pass: Pass,
+    frames: &[u8],
+    s: Starts,
+    answers: &mut [u8],
+    places: &mut [u16],
+) -> usize
+    requires { ⌜ Ready pass (now frames) (length (now answers)) × (s ≡ startsOf (now frames)) × (rowCount s ≤ length (now places)) ⌝ }
+    ensures { λ r. ⌜ (r ≡ length (outputs pass (see (now (frames .entry))) (rowCount s))) × (now (answers .exit) ≡ answersWritten pass (now (answers .entry)) (now (frames .entry))) × (now (places .exit) ≡ placesOf pass (now (frames .entry)) (rowCount s) ++ drop (rowCount s) (now (places .entry))) ⌝ }
 {
     let n = row_count(s);
     let mut m = 0;
     let mut at = 0;
     while m < n {
-        let next = answer_row(frames, s, answers, &places[..m], RowNumber(m as u16), at);
+        let next = answer_row(pass, frames, s, answers, &places[..m], RowNumber(m as u16), at);
         places[m] = at as u16;
         at = next;
         m += 1;
@@ -95,24 +103,24 @@ fn answer_rows(frames: &[u8], s: Starts, answers: &mut [u8], places: &mut [u16])
 }
 
 // Answers every row, and gives how many frames are written.
-fn answer_all(frames: &[u8], answers: &mut [u8]) -> usize
-    requires { ⌜ Ready (now frames) (length (now answers)) ⌝ }
-    ensures { λ r. ⌜ (16 * r ≡ length (outputBytes (now (frames .entry)))) × (now (answers .exit) ≡ answersWritten (now (answers .entry)) (now (frames .entry))) ⌝ }
+fn answer_all(pass: Pass, frames: &[u8], answers: &mut [u8]) -> usize
+    requires { ⌜ Ready pass (now frames) (length (now answers)) ⌝ }
+    ensures { λ r. ⌜ (16 * r ≡ length (outputBytes pass (now (frames .entry)))) × (now (answers .exit) ≡ answersWritten pass (now (answers .entry)) (now (frames .entry))) ⌝ }
 {
     let mut places = [0u16; 1024];
     let s = find_starts(frames);
-    answer_rows(frames, s, answers, &mut places)
+    answer_rows(pass, frames, s, answers, &mut places)
 }
 
 // One row's answer, after all are written.
-fn answer_one(frames: &[u8], answers: &mut [u8], row: RowNumber) -> RowType
-    requires { ⌜ Ready (now frames) (length (now answers)) ⌝ }
-    ensures { λ r. ⌜ (toGiven r ≡ rowGiven row (now (frames .entry))) × (now (answers .exit) ≡ cond (isRow (startsOf (now (frames .entry))) row) (answersWritten (now (answers .entry)) (now (frames .entry))) (now (answers .entry))) ⌝ }
+fn answer_one(pass: Pass, frames: &[u8], answers: &mut [u8], row: RowNumber) -> RowType
+    requires { ⌜ Ready pass (now frames) (length (now answers)) ⌝ }
+    ensures { λ r. ⌜ (toGiven r ≡ rowGiven pass row (now (frames .entry))) × (now (answers .exit) ≡ cond (isRow (startsOf (now (frames .entry))) row) (answersWritten pass (now (answers .entry)) (now (frames .entry))) (now (answers .entry))) ⌝ }
 {
     let s = find_starts(frames);
     if is_row(s, row) {
         let mut places = [0u16; 1024];
-        answer_rows(frames, s, answers, &mut places);
+        answer_rows(pass, frames, s, answers, &mut places);
         let n = row_count(s);
         RowType::Answered(past(answers, &places[..n], row))
     } else {
@@ -121,9 +129,9 @@ fn answer_one(frames: &[u8], answers: &mut [u8], row: RowNumber) -> RowType
 }
 
 // One compose's verdict, after all answers and verdicts are written.
-fn judge_one(frames: &[u8], answers: &mut [u8], row: RowNumber) -> ComposeVerdict
-    requires { ⌜ Ready (now frames) (length (now answers)) ⌝ }
-    ensures { λ r. ⌜ (toVerdict r ≡ verdictGiven row (now (frames .entry))) × (now (answers .exit) ≡ ifJudged (answersWritten (now (answers .entry)) (now (frames .entry))) (now (answers .entry)) (verdictGiven row (now (frames .entry)))) ⌝ }
+fn judge_one(pass: Pass, frames: &[u8], answers: &mut [u8], row: RowNumber) -> ComposeVerdict
+    requires { ⌜ Ready pass (now frames) (length (now answers)) ⌝ }
+    ensures { λ r. ⌜ (toVerdict r ≡ verdictGiven pass row (now (frames .entry))) × (now (answers .exit) ≡ ifJudged (answersWritten pass (now (answers .entry)) (now (frames .entry))) (now (answers .entry)) (verdictGiven pass row (now (frames .entry)))) ⌝ }
 {
     let s = find_starts(frames);
     if is_row(s, row) {
@@ -131,7 +139,7 @@ fn judge_one(frames: &[u8], answers: &mut [u8], row: RowNumber) -> ComposeVerdic
         let f = frame_at(frames, s.rows + m);
         if f.b1 == 5 {
             let mut places = [0u16; 1024];
-            answer_rows(frames, s, answers, &mut places);
+            answer_rows(pass, frames, s, answers, &mut places);
             ComposeVerdict::Judged(judge(
                 frames,
                 s,
@@ -149,10 +157,10 @@ fn judge_one(frames: &[u8], answers: &mut [u8], row: RowNumber) -> ComposeVerdic
     }
 }
 
-// Types every row of a file and judges every compose. The frame buffer is as `read_file` leaves it; of an accepted file the answers and verdicts, 16 bytes each, stand
+// Types every row of a file by the rules of a pass, and judges every compose over those answers. The frame buffer is as `read_file` leaves it; of an accepted file the answers and verdicts, 16 bytes each, stand
 // at the front of the answer buffer, and its bytes past them stay. Of a file that is not accepted nothing is handed back.
-pub fn type_file(text: &[u8], frames: &mut [u8], answers: &mut [u8]) -> TypedFile
-    ensures { λ r. ⌜ HandsBack (now (text .entry)) (now (frames .entry)) (now (answers .entry)) r (now (frames .exit)) (now (answers .exit)) ⌝ }
+pub fn type_file(pass: Pass, text: &[u8], frames: &mut [u8], answers: &mut [u8]) -> TypedFile
+    ensures { λ r. ⌜ HandsBack pass (now (text .entry)) (now (frames .entry)) (now (answers .entry)) r (now (frames .exit)) (now (answers .exit)) ⌝ }
 {
     let read = read_with(text, frames, AnswerRoom::Lent(answers.len()));
     match frames_in(read) {
@@ -162,7 +170,7 @@ pub fn type_file(text: &[u8], frames: &mut [u8], answers: &mut [u8]) -> TypedFil
         },
         OptionUsize::Some(n) => {
             let m = 16 * n;
-            let k = answer_all(&frames[..m], answers);
+            let k = answer_all(pass, &frames[..m], answers);
             TypedFile {
                 outcome: read,
                 outputs: k,
@@ -172,42 +180,43 @@ pub fn type_file(text: &[u8], frames: &mut [u8], answers: &mut [u8]) -> TypedFil
 }
 
 // The same, where the outcome is enough: how many frames are handed back is known from the file.
-pub fn type_rows(text: &[u8], frames: &mut [u8], answers: &mut [u8]) -> Outcome
-    ensures { λ r. ⌜ (r ≡ readFile (now (text .entry)) (length (now (frames .entry))) (Lent (length (now (answers .entry))))) × (now (frames .exit) ≡ framesAfter (now (text .entry)) (now (frames .entry)) (Lent (length (now (answers .entry))))) × (now (answers .exit) ≡ answersAfter (now (text .entry)) (length (now (frames .entry))) (now (answers .entry))) ⌝ }
+pub fn type_rows(pass: Pass, text: &[u8], frames: &mut [u8], answers: &mut [u8]) -> Outcome
+    ensures { λ r. ⌜ (r ≡ readFile (now (text .entry)) (length (now (frames .entry))) (Lent (length (now (answers .entry))))) × (now (frames .exit) ≡ framesAfter (now (text .entry)) (now (frames .entry)) (Lent (length (now (answers .entry))))) × (now (answers .exit) ≡ answersAfter pass (now (text .entry)) (length (now (frames .entry))) (now (answers .entry))) ⌝ }
 {
-    let typed = type_file(text, frames, answers);
+    let typed = type_file(pass, text, frames, answers);
     typed.outcome
 }
 
 // The answer of one row, with the buffers as `type_rows` leaves them. The answer buffer is unchanged where the file does not have the row.
-pub fn row_type(text: &[u8], frames: &mut [u8], answers: &mut [u8], row: RowNumber) -> RowType
-    ensures { λ r. ⌜ (toGiven r ≡ rowType (now (text .entry)) (length (now (frames .entry))) (length (now (answers .entry))) row) × (now (frames .exit) ≡ framesAfter (now (text .entry)) (now (frames .entry)) (Lent (length (now (answers .entry))))) × (now (answers .exit) ≡ answersAfterRow (now (text .entry)) (length (now (frames .entry))) (now (answers .entry)) row) ⌝ }
+pub fn row_type(pass: Pass, text: &[u8], frames: &mut [u8], answers: &mut [u8], row: RowNumber) -> RowType
+    ensures { λ r. ⌜ (toGiven r ≡ rowType pass (now (text .entry)) (length (now (frames .entry))) (length (now (answers .entry))) row) × (now (frames .exit) ≡ framesAfter (now (text .entry)) (now (frames .entry)) (Lent (length (now (answers .entry))))) × (now (answers .exit) ≡ answersAfterRow pass (now (text .entry)) (length (now (frames .entry))) (now (answers .entry)) row) ⌝ }
 {
     let read = read_with(text, frames, AnswerRoom::Lent(answers.len()));
     match frames_in(read) {
         OptionUsize::None => RowType::NotAccepted(read),
         OptionUsize::Some(n) => {
             let m = 16 * n;
-            answer_one(&frames[..m], answers, row)
+            answer_one(pass, &frames[..m], answers, row)
         }
     }
 }
 
 // The verdict on one compose, with the buffers as `type_rows` leaves them. The answer buffer is unchanged where the file has no such row, or the row is no compose.
 pub fn compose_verdict(
+    pass: Pass,
     text: &[u8],
     frames: &mut [u8],
     answers: &mut [u8],
     row: RowNumber,
 ) -> ComposeVerdict
-    ensures { λ r. ⌜ (toVerdict r ≡ composeVerdict (now (text .entry)) (length (now (frames .entry))) (length (now (answers .entry))) row) × (now (frames .exit) ≡ framesAfter (now (text .entry)) (now (frames .entry)) (Lent (length (now (answers .entry))))) × (now (answers .exit) ≡ answersAfterVerdict (now (text .entry)) (length (now (frames .entry))) (now (answers .entry)) row) ⌝ }
+    ensures { λ r. ⌜ (toVerdict r ≡ composeVerdict pass (now (text .entry)) (length (now (frames .entry))) (length (now (answers .entry))) row) × (now (frames .exit) ≡ framesAfter (now (text .entry)) (now (frames .entry)) (Lent (length (now (answers .entry))))) × (now (answers .exit) ≡ answersAfterVerdict pass (now (text .entry)) (length (now (frames .entry))) (now (answers .entry)) row) ⌝ }
 {
     let read = read_with(text, frames, AnswerRoom::Lent(answers.len()));
     match frames_in(read) {
         OptionUsize::None => ComposeVerdict::NotAccepted(read),
         OptionUsize::Some(n) => {
             let m = 16 * n;
-            judge_one(&frames[..m], answers, row)
+            judge_one(pass, &frames[..m], answers, row)
         }
     }
 }

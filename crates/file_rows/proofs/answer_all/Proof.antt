@@ -16,4 +16,4 @@ use Rattle.file_rows.proofs.answer_all.Tie as tie
 pub answer-all-spec : {M : Type 1} → statement M
 answer-all-spec =
     tie.close
-    (tie.spec (λ c κs. search needs) (λ c. search needs) (λ c κs. (c .before .before .before .before .before .pre, c .before .before .find-starts .ensures, rw (c .before .before .find-starts .ensures) (few-rows (c .before .before .before .before .before .args .frames .now) (length (c .before .before .before .before .before .args .answers .now)) (c .before .before .before .before .before .pre)))) (λ c. search needs) (λ c. (omega (arith, c .before .before .before .answer-rows .ensures .0, bytes-length (outputs (see (c .before .before .before .before .before .before .before .before .before .args .frames .now)) (rowCount (startsOf (c .before .before .before .before .before .before .before .before .before .args .frames .now)))), ap (λ (z : Starts). length (outputs (see (c .before .before .before .before .before .before .before .before .before .args .frames .now)) (rowCount z))) (c .before .before .before .before .before .before .find-starts .ensures)), c .before .before .before .answer-rows .ensures .1)))
+    (tie.spec (λ c κs. search needs) (λ c. search needs) (λ c κs. (c .before .before .before .before .before .pre, c .before .before .find-starts .ensures, rw (c .before .before .find-starts .ensures) (few-rows (c .before .before .before .before .before .args .pass) (c .before .before .before .before .before .args .frames .now) (length (c .before .before .before .before .before .args .answers .now)) (c .before .before .before .before .before .pre)))) (λ c. search needs) (λ c. (omega (arith, c .before .before .before .answer-rows .ensures .0, bytes-length (outputs (c .before .before .before .before .before .before .before .before .before .args .pass) (see (c .before .before .before .before .before .before .before .before .before .args .frames .now)) (rowCount (startsOf (c .before .before .before .before .before .before .before .before .before .args .frames .now)))), ap (λ (z : Starts). length (outputs (c .before .before .before .before .before .before .before .before .before .args .pass) (see (c .before .before .before .before .before .before .before .before .before .args .frames .now)) (rowCount z))) (c .before .before .before .before .before .before .find-starts .ensures)), c .before .before .before .answer-rows .ensures .1)))
