@@ -22,6 +22,7 @@ use Rattle.archive.specs.Access.{typeIn, rowIn}
 use Rattle.rule.specs.Things.{listed}
 use Rattle.type_methods.specs.Canonical.{equalTypes, identical, canonicalTypeIn, pointerBaseIn}
 use Rattle.type_methods.specs.Comparison.{sameIn, sameType}
+use Rattle.row_rules.specs.declared.Pass.the-variants.{First}
 use Rattle.compose.specs.Verdict.{eachPart, vectorParts}
 use Rattle.answering.specs.Outputs.{outputs, framesBytes}
 use Rattle.reader.specs.File.{readFile, framesAfter}
@@ -36,12 +37,12 @@ Output = Answered × List ℕ
 
 -- what is answered, by `reader`'s definitions, which the contracts of the public functions cite
 abbrev answered : Case → Asked → Answered
-answered c print = printed (typedText (c .text))
-answered c (types an) = typesAre (readFile (c .text) (length (c .lent)) (Lent (length an))) (answersAfter (c .text) (length (c .lent)) an)
+answered c print = printed (typedText First (c .text))
+answered c (types an) = typesAre (readFile (c .text) (length (c .lent)) (Lent (length an))) (answersAfter First (c .text) (length (c .lent)) an)
 answered c (row n an) =
-    rowIs (rowType (c .text) (length (c .lent)) (length an) (record { 0 = n })) (answersAfterRow (c .text) (length (c .lent)) an (record { 0 = n }))
+    rowIs (rowType First (c .text) (length (c .lent)) (length an) (record { 0 = n })) (answersAfterRow First (c .text) (length (c .lent)) an (record { 0 = n }))
 answered c (verdict n an) =
-    verdictIs (composeVerdict (c .text) (length (c .lent)) (length an) (record { 0 = n })) (answersAfterVerdict (c .text) (length (c .lent)) an (record { 0 = n }))
+    verdictIs (composeVerdict First (c .text) (length (c .lent)) (length an) (record { 0 = n })) (answersAfterVerdict First (c .text) (length (c .lent)) an (record { 0 = n }))
 answered c read = outcome (readFile (c .text) (length (c .lent)) NotLent)
 answered c (same l r) = sameness (sameTypes (c .text) (length (c .lent)) l r)
 answered c (canonical n) = canonicalIs (canonicalType (c .text) (length (c .lent)) (record { 0 = n }))

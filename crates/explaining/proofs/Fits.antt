@@ -11,6 +11,7 @@ use Rattle.text.specs.declared.AnswerRoom.the-variants.{Lent}
 use Rattle.text.specs.Lines.{decoded}
 use Rattle.frames.specs.Bytes.{frameAt, frameCount}
 use Rattle.frames.specs.Out.{outcomeFrame}
+use Rattle.row_rules.specs.declared.Pass.the-variants.{First}
 use Rattle.answering.specs.Outputs.{outputBytes}
 use Rattle.reader.specs.File.{overFile, readFile}
 use Rattle.reader.proofs.Printed.{few-outputs}
@@ -35,8 +36,8 @@ explained-fits t = go (readFile t 16384 (Lent 32768)) refl
     go : (o : Outcome) → readFile t 16384 (Lent 32768) ≡ o → length (allOf (overFile faultLines fileLines t o)) ≤ 290816
     go (Accepted n) e =
         let fr = decoded t n in
-        let an = outputBytes fr in
-        omega (arith, joined-long (lineAt fr an) (frameCount an) (λ k. line-long fr (rowAt an k) (frameAt an k)), few-outputs t 16384 32768 n e)
+        let an = outputBytes First fr in
+        omega (arith, joined-long (lineAt fr an) (frameCount an) (λ k. line-long fr (rowAt an k) (frameAt an k)), few-outputs First t 16384 32768 n e)
     go Long e = fault-fits Long
     go (Torn k) e = fault-fits (Torn k)
     go Short e = fault-fits Short

@@ -11,6 +11,7 @@ use Rattle.text.specs.declared.AnswerRoom.the-variants.{Lent}
 use Rattle.frames.specs.declared.Frame.{Frame}
 use Rattle.frames.specs.Bytes.{frameCount, frameAt}
 use Rattle.frames.specs.Out.{outcomeFrame}
+use Rattle.row_rules.specs.declared.Pass.the-variants.{First}
 use Rattle.answering.specs.Outputs.{outputBytes}
 use Rattle.reader.specs.File.{overFile, readFile}
 use Rattle.spelling.specs.Answers.{lineOf, faultOf}
@@ -65,7 +66,7 @@ answerLines fr an = record { count = frameCount an; line = lineAt fr an }
 
 -- those of an accepted file, whose frames these are
 abbrev pub fileLines : List ℕ → Lines
-fileLines fr = answerLines fr (outputBytes fr)
+fileLines fr = answerLines fr (outputBytes First fr)
 
 -- that of a file that is not accepted
 abbrev pub faultLines : Outcome → Lines

@@ -7,6 +7,7 @@ use frames::frame_count;
 use out::write::outcome_frame;
 use reader::OptionUsize;
 use reader::frames_in;
+use row_rules::Pass;
 use spelling::answers::put_fault;
 use spelling::answers::put_line;
 use words::copy;
@@ -74,7 +75,7 @@ fn explain_with(
     requires { ⌜ (length (now frames) ≡ 16384) × (length (now answers) ≡ 32768) × (length (now line) ≡ 1056) ⌝ }
     ensures { λ r. ⌜ Shown (linesOf (now (text .entry))) (now (out .entry)) r (now (out .exit)) ⌝ }
 {
-    let typed = type_file(text, frames, answers);
+    let typed = type_file(Pass::First, text, frames, answers);
     let read = typed.outcome;
     match frames_in(read) {
         OptionUsize::None => explain_fault(read, line, out),

@@ -28,6 +28,7 @@ use Rattle.archive.specs.Names.{isRow, isType}
 use Rattle.archive.specs.Access.{typeIn}
 use Rattle.archive.proofs.Owners.{starts-small}
 use Rattle.rule.specs.Things.{see}
+use Rattle.row_rules.specs.declared.Pass.{Pass}
 use Rattle.compose.specs.Rows.{verdictOf}
 use Rattle.type_methods.specs.Canonical.{baseOfForm, pointerBaseIn, canonicalOfForm, canonicalTypeIn}
 use Rattle.answering.specs.Outputs.{rowAnswer}
@@ -102,30 +103,30 @@ no-type : (fr : List ℕ) (m : ℕ) → frameCount fr ≤ 1024 → 65535 ≤ m �
 no-type fr m h l = le-ltb m (typeCount (startsOf fr)) (omega (arith, starts-small fr 1024 h .0))
 
 -- a row or a type of a number from 65,535 on is one that the file does not have
-module _ (t : List ℕ) (f a : ℕ) where
-  pub row-stray : (m : ℕ) → 65535 ≤ m → rowType t f a (record { 0 = m }) ≡ overFile RowGiven.notAccepted (λ (x : List ℕ). RowGiven.noRow) t (readFile t f (Lent a))
+module _ (pass : Pass) (t : List ℕ) (f a : ℕ) where
+  pub row-stray : (m : ℕ) → 65535 ≤ m → rowType pass t f a (record { 0 = m }) ≡ overFile RowGiven.notAccepted (λ (x : List ℕ). RowGiven.noRow) t (readFile t f (Lent a))
   unfolding rowType
   row-stray m l =
-      over-same RowGiven.notAccepted (rowGiven (record { 0 = m })) (λ (x : List ℕ). RowGiven.noRow) t (readFile t f (Lent a))
-      (λ n e. ap (λ (b : Bool). cond b (RowGiven.answer (rowAnswer (see (decoded t n)) m)) RowGiven.noRow) (no-row (decoded t n) m (few t f (Lent a) n e) l))
+      over-same RowGiven.notAccepted (rowGiven pass (record { 0 = m })) (λ (x : List ℕ). RowGiven.noRow) t (readFile t f (Lent a))
+      (λ n e. ap (λ (b : Bool). cond b (RowGiven.answer (rowAnswer pass (see (decoded t n)) m)) RowGiven.noRow) (no-row (decoded t n) m (few t f (Lent a) n e) l))
 
-  pub row-clamped : (n k : ℕ) → k ≡ min n 65535 → rowType t f a (record { 0 = k }) ≡ rowType t f a (record { 0 = n })
-  row-clamped = clamped-is (λ (m : ℕ). rowType t f a (record { 0 = m })) _ row-stray
+  pub row-clamped : (n k : ℕ) → k ≡ min n 65535 → rowType pass t f a (record { 0 = k }) ≡ rowType pass t f a (record { 0 = n })
+  row-clamped = clamped-is (λ (m : ℕ). rowType pass t f a (record { 0 = m })) _ row-stray
 
-  given-stray : (m n : ℕ) → 65535 ≤ m → readFile t f (Lent a) ≡ Accepted n → verdictGiven (record { 0 = m }) (decoded t n) ≡ VerdictGiven.noRow
-  given-stray m n l e = ap (λ (b : Bool). cond b (orNoCompose (verdictOf (see (decoded t n)) m)) VerdictGiven.noRow) (no-row (decoded t n) m (few t f (Lent a) n e) l)
+  given-stray : (m n : ℕ) → 65535 ≤ m → readFile t f (Lent a) ≡ Accepted n → verdictGiven pass (record { 0 = m }) (decoded t n) ≡ VerdictGiven.noRow
+  given-stray m n l e = ap (λ (b : Bool). cond b (orNoCompose (verdictOf pass (see (decoded t n)) m)) VerdictGiven.noRow) (no-row (decoded t n) m (few t f (Lent a) n e) l)
 
-  pub verdict-stray : (m : ℕ) → 65535 ≤ m → composeVerdict t f a (record { 0 = m }) ≡ overFile VerdictGiven.notAccepted (λ (x : List ℕ). VerdictGiven.noRow) t (readFile t f (Lent a))
+  pub verdict-stray : (m : ℕ) → 65535 ≤ m → composeVerdict pass t f a (record { 0 = m }) ≡ overFile VerdictGiven.notAccepted (λ (x : List ℕ). VerdictGiven.noRow) t (readFile t f (Lent a))
   unfolding composeVerdict
   verdict-stray m l =
-      over-same VerdictGiven.notAccepted (verdictGiven (record { 0 = m })) (λ (x : List ℕ). VerdictGiven.noRow) t (readFile t f (Lent a)) (λ n e. given-stray m n l e)
+      over-same VerdictGiven.notAccepted (verdictGiven pass (record { 0 = m })) (λ (x : List ℕ). VerdictGiven.noRow) t (readFile t f (Lent a)) (λ n e. given-stray m n l e)
 
-  pub verdict-clamped : (n k : ℕ) → k ≡ min n 65535 → composeVerdict t f a (record { 0 = k }) ≡ composeVerdict t f a (record { 0 = n })
-  verdict-clamped = clamped-is (λ (m : ℕ). composeVerdict t f a (record { 0 = m })) _ verdict-stray
+  pub verdict-clamped : (n k : ℕ) → k ≡ min n 65535 → composeVerdict pass t f a (record { 0 = k }) ≡ composeVerdict pass t f a (record { 0 = n })
+  verdict-clamped = clamped-is (λ (m : ℕ). composeVerdict pass t f a (record { 0 = m })) _ verdict-stray
 
   -- no verdict is given of such a row, so its number stands in no frame
   frame-stray : (m : ℕ) → 65535 ≤ m
-      → verdictGivenFrame (record { 0 = m }) (composeVerdict t f a (record { 0 = m }))
+      → verdictGivenFrame (record { 0 = m }) (composeVerdict pass t f a (record { 0 = m }))
       ≡ verdictGivenFrame (record { 0 = 0 }) (overFile VerdictGiven.notAccepted (λ (x : List ℕ). VerdictGiven.noRow) t (readFile t f (Lent a)))
   frame-stray m l = ap (verdictGivenFrame (record { 0 = m })) (verdict-stray m l) ∙ go (readFile t f (Lent a))
     where
@@ -141,27 +142,27 @@ module _ (t : List ℕ) (f a : ℕ) where
       go (Index k) = refl
 
   pub frame-clamped : (n k : ℕ) → k ≡ min n 65535
-      → verdictGivenFrame (record { 0 = k }) (composeVerdict t f a (record { 0 = k })) ≡ verdictGivenFrame (record { 0 = n }) (composeVerdict t f a (record { 0 = n }))
-  frame-clamped = clamped-is (λ (m : ℕ). verdictGivenFrame (record { 0 = m }) (composeVerdict t f a (record { 0 = m }))) _ frame-stray
+      → verdictGivenFrame (record { 0 = k }) (composeVerdict pass t f a (record { 0 = k })) ≡ verdictGivenFrame (record { 0 = n }) (composeVerdict pass t f a (record { 0 = n }))
+  frame-clamped = clamped-is (λ (m : ℕ). verdictGivenFrame (record { 0 = m }) (composeVerdict pass t f a (record { 0 = m }))) _ frame-stray
 
-module _ (t : List ℕ) (f : ℕ) (an : List ℕ) where
-  answers-stray : (m : ℕ) → 65535 ≤ m → answersAfterRow t f an (record { 0 = m }) ≡ overFile (λ (o : Outcome). an) (λ (x : List ℕ). an) t (readFile t f (Lent (length an)))
+module _ (pass : Pass) (t : List ℕ) (f : ℕ) (an : List ℕ) where
+  answers-stray : (m : ℕ) → 65535 ≤ m → answersAfterRow pass t f an (record { 0 = m }) ≡ overFile (λ (o : Outcome). an) (λ (x : List ℕ). an) t (readFile t f (Lent (length an)))
   unfolding answersAfterRow
   answers-stray m l =
-      over-same (λ (o : Outcome). an) (λ (x : List ℕ). cond (isRow (startsOf x) (record { 0 = m })) (answersWritten an x) an) (λ (x : List ℕ). an) t (readFile t f (Lent (length an)))
-      (λ n e. ap (λ (b : Bool). cond b (answersWritten an (decoded t n)) an) (no-row (decoded t n) m (few t f (Lent (length an)) n e) l))
+      over-same (λ (o : Outcome). an) (λ (x : List ℕ). cond (isRow (startsOf x) (record { 0 = m })) (answersWritten pass an x) an) (λ (x : List ℕ). an) t (readFile t f (Lent (length an)))
+      (λ n e. ap (λ (b : Bool). cond b (answersWritten pass an (decoded t n)) an) (no-row (decoded t n) m (few t f (Lent (length an)) n e) l))
 
-  pub answers-clamped : (n k : ℕ) → k ≡ min n 65535 → answersAfterRow t f an (record { 0 = k }) ≡ answersAfterRow t f an (record { 0 = n })
-  answers-clamped = clamped-is (λ (m : ℕ). answersAfterRow t f an (record { 0 = m })) _ answers-stray
+  pub answers-clamped : (n k : ℕ) → k ≡ min n 65535 → answersAfterRow pass t f an (record { 0 = k }) ≡ answersAfterRow pass t f an (record { 0 = n })
+  answers-clamped = clamped-is (λ (m : ℕ). answersAfterRow pass t f an (record { 0 = m })) _ answers-stray
 
-  judged-stray : (m : ℕ) → 65535 ≤ m → answersAfterVerdict t f an (record { 0 = m }) ≡ overFile (λ (o : Outcome). an) (λ (x : List ℕ). an) t (readFile t f (Lent (length an)))
+  judged-stray : (m : ℕ) → 65535 ≤ m → answersAfterVerdict pass t f an (record { 0 = m }) ≡ overFile (λ (o : Outcome). an) (λ (x : List ℕ). an) t (readFile t f (Lent (length an)))
   unfolding answersAfterVerdict
   judged-stray m l =
-      over-same (λ (o : Outcome). an) (λ (x : List ℕ). ifJudged (answersWritten an x) an (verdictGiven (record { 0 = m }) x)) (λ (x : List ℕ). an) t (readFile t f (Lent (length an)))
-      (λ n e. ap (ifJudged (answersWritten an (decoded t n)) an) (given-stray t f (length an) m n l e))
+      over-same (λ (o : Outcome). an) (λ (x : List ℕ). ifJudged (answersWritten pass an x) an (verdictGiven pass (record { 0 = m }) x)) (λ (x : List ℕ). an) t (readFile t f (Lent (length an)))
+      (λ n e. ap (ifJudged (answersWritten pass an (decoded t n)) an) (given-stray pass t f (length an) m n l e))
 
-  pub judged-clamped : (n k : ℕ) → k ≡ min n 65535 → answersAfterVerdict t f an (record { 0 = k }) ≡ answersAfterVerdict t f an (record { 0 = n })
-  judged-clamped = clamped-is (λ (m : ℕ). answersAfterVerdict t f an (record { 0 = m })) _ judged-stray
+  pub judged-clamped : (n k : ℕ) → k ≡ min n 65535 → answersAfterVerdict pass t f an (record { 0 = k }) ≡ answersAfterVerdict pass t f an (record { 0 = n })
+  judged-clamped = clamped-is (λ (m : ℕ). answersAfterVerdict pass t f an (record { 0 = m })) _ judged-stray
 
 module _ (t : List ℕ) (f : ℕ) where
   pub canonical-stray : (m : ℕ) → 65535 ≤ m → canonicalType t f (record { 0 = m }) ≡ overFile Ct.NotAccepted (λ (x : List ℕ). Ct.Index) t (readFile t f NotLent)

@@ -8,12 +8,14 @@ use file_rows::compose_verdict;
 use file_rows::row_type;
 use file_rows::type_rows;
 use ir::RowNumber;
+use row_rules::Pass;
 ghost use mathlib.Core.Path.{_≡_};
 ghost use lib.ListN.{length};
 ghost use Rattle.text.specs.declared.AnswerRoom.the-variants.{Lent};
 ghost use Rattle.frames.specs.Bytes.{putFrame};
 ghost use Rattle.frames.specs.Out.{outcomeFrame};
 ghost use Rattle.reader.specs.File.{readFile, framesAfter};
+ghost use Rattle.row_rules.specs.declared.Pass.the-variants.{First};
 ghost use Rattle.reader.specs.Typing.{answersAfter, rowType, answersAfterRow, composeVerdict, answersAfterVerdict};
 ghost use Rattle.exported.specs.Exported.{noRoom, byRoom, outcomeNumber, rowNumber, rowGivenFrame, verdictNumber, verdictGivenFrame};
 
@@ -25,12 +27,12 @@ pub extern "C" fn gelmusko_type_rows(
     answers: &mut [u8],
     out: &mut [u8],
 ) -> u32
-    ensures { λ r. ⌜ (r ≡ byRoom (now (out .entry)) (noRoom (now (text .entry))) (outcomeNumber (readFile (now (text .entry)) (length (now (frames .entry))) (Lent (length (now (answers .entry))))))) × (now (frames .exit) ≡ byRoom (now (out .entry)) (now (frames .entry)) (framesAfter (now (text .entry)) (now (frames .entry)) (Lent (length (now (answers .entry)))))) × (now (answers .exit) ≡ byRoom (now (out .entry)) (now (answers .entry)) (answersAfter (now (text .entry)) (length (now (frames .entry))) (now (answers .entry)))) × (now (out .exit) ≡ putFrame (now (out .entry)) 0 (outcomeFrame (readFile (now (text .entry)) (length (now (frames .entry))) (Lent (length (now (answers .entry))))))) ⌝ }
+    ensures { λ r. ⌜ (r ≡ byRoom (now (out .entry)) (noRoom (now (text .entry))) (outcomeNumber (readFile (now (text .entry)) (length (now (frames .entry))) (Lent (length (now (answers .entry))))))) × (now (frames .exit) ≡ byRoom (now (out .entry)) (now (frames .entry)) (framesAfter (now (text .entry)) (now (frames .entry)) (Lent (length (now (answers .entry)))))) × (now (answers .exit) ≡ byRoom (now (out .entry)) (now (answers .entry)) (answersAfter First (now (text .entry)) (length (now (frames .entry))) (now (answers .entry)))) × (now (out .exit) ≡ putFrame (now (out .entry)) 0 (outcomeFrame (readFile (now (text .entry)) (length (now (frames .entry))) (Lent (length (now (answers .entry))))))) ⌝ }
 {
     if out.len() < 16 {
         return no_room(text);
     }
-    let read = type_rows(text, frames, answers);
+    let read = type_rows(Pass::First, text, frames, answers);
     put_outcome(out, read)
 }
 
@@ -43,12 +45,12 @@ pub extern "C" fn gelmusko_row_type(
     row: u32,
     out: &mut [u8],
 ) -> u32
-    ensures { λ r. ⌜ (r ≡ byRoom (now (out .entry)) (noRoom (now (text .entry))) (rowNumber (rowType (now (text .entry)) (length (now (frames .entry))) (length (now (answers .entry))) (record { 0 = row })))) × (now (frames .exit) ≡ byRoom (now (out .entry)) (now (frames .entry)) (framesAfter (now (text .entry)) (now (frames .entry)) (Lent (length (now (answers .entry)))))) × (now (answers .exit) ≡ byRoom (now (out .entry)) (now (answers .entry)) (answersAfterRow (now (text .entry)) (length (now (frames .entry))) (now (answers .entry)) (record { 0 = row }))) × (now (out .exit) ≡ putFrame (now (out .entry)) 0 (rowGivenFrame (rowType (now (text .entry)) (length (now (frames .entry))) (length (now (answers .entry))) (record { 0 = row })))) ⌝ }
+    ensures { λ r. ⌜ (r ≡ byRoom (now (out .entry)) (noRoom (now (text .entry))) (rowNumber (rowType First (now (text .entry)) (length (now (frames .entry))) (length (now (answers .entry))) (record { 0 = row })))) × (now (frames .exit) ≡ byRoom (now (out .entry)) (now (frames .entry)) (framesAfter (now (text .entry)) (now (frames .entry)) (Lent (length (now (answers .entry)))))) × (now (answers .exit) ≡ byRoom (now (out .entry)) (now (answers .entry)) (answersAfterRow First (now (text .entry)) (length (now (frames .entry))) (now (answers .entry)) (record { 0 = row }))) × (now (out .exit) ≡ putFrame (now (out .entry)) 0 (rowGivenFrame (rowType First (now (text .entry)) (length (now (frames .entry))) (length (now (answers .entry))) (record { 0 = row })))) ⌝ }
 {
     if out.len() < 16 {
         return no_room(text);
     }
-    let given = row_type(text, frames, answers, RowNumber(clamped(row)));
+    let given = row_type(Pass::First, text, frames, answers, RowNumber(clamped(row)));
     put_row(out, given)
 }
 
@@ -61,12 +63,12 @@ pub extern "C" fn gelmusko_compose_verdict(
     row: u32,
     out: &mut [u8],
 ) -> u32
-    ensures { λ r. ⌜ (r ≡ byRoom (now (out .entry)) (noRoom (now (text .entry))) (verdictNumber (composeVerdict (now (text .entry)) (length (now (frames .entry))) (length (now (answers .entry))) (record { 0 = row })))) × (now (frames .exit) ≡ byRoom (now (out .entry)) (now (frames .entry)) (framesAfter (now (text .entry)) (now (frames .entry)) (Lent (length (now (answers .entry)))))) × (now (answers .exit) ≡ byRoom (now (out .entry)) (now (answers .entry)) (answersAfterVerdict (now (text .entry)) (length (now (frames .entry))) (now (answers .entry)) (record { 0 = row }))) × (now (out .exit) ≡ putFrame (now (out .entry)) 0 (verdictGivenFrame (record { 0 = row }) (composeVerdict (now (text .entry)) (length (now (frames .entry))) (length (now (answers .entry))) (record { 0 = row })))) ⌝ }
+    ensures { λ r. ⌜ (r ≡ byRoom (now (out .entry)) (noRoom (now (text .entry))) (verdictNumber (composeVerdict First (now (text .entry)) (length (now (frames .entry))) (length (now (answers .entry))) (record { 0 = row })))) × (now (frames .exit) ≡ byRoom (now (out .entry)) (now (frames .entry)) (framesAfter (now (text .entry)) (now (frames .entry)) (Lent (length (now (answers .entry)))))) × (now (answers .exit) ≡ byRoom (now (out .entry)) (now (answers .entry)) (answersAfterVerdict First (now (text .entry)) (length (now (frames .entry))) (now (answers .entry)) (record { 0 = row }))) × (now (out .exit) ≡ putFrame (now (out .entry)) 0 (verdictGivenFrame (record { 0 = row }) (composeVerdict First (now (text .entry)) (length (now (frames .entry))) (length (now (answers .entry))) (record { 0 = row })))) ⌝ }
 {
     if out.len() < 16 {
         return no_room(text);
     }
     let n = clamped(row);
-    let given = compose_verdict(text, frames, answers, RowNumber(n));
+    let given = compose_verdict(Pass::First, text, frames, answers, RowNumber(n));
     put_verdict(out, RowNumber(n), given)
 }

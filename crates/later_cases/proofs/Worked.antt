@@ -27,6 +27,7 @@ use Rattle.rule.specs.Things.{listed, see}
 use Rattle.rule.specs.Rule.{Rule}
 use Rattle.type_methods.specs.Canonical.{equalTypes, identical}
 use Rattle.type_methods.specs.Comparison.{handed, sameIn, sameType}
+use Rattle.row_rules.specs.declared.Pass.the-variants.{First}
 use Rattle.row_rules.specs.Typed.{typing}
 use Rattle.compose.specs.Verdict.{eachPart, vectorParts}
 use Rattle.compose.specs.Rows.{verdictRule}
@@ -41,21 +42,21 @@ use Rattle.later_cases.specs.Worked.{text, choice, Asked, row, verdict, 
 -- THE LATER READER'S, over a file whose frames these are; a row that is no compose has no verdict
 
 abbrev laterVerdict : List ℕ → ℕ → Option (Rule Judgement) → List ℕ
-laterVerdict fr m (some rule) = verdictBytes m (theirs fr choice m (chosenJudgement (choice .verdicts m)) rule)
+laterVerdict fr m (some rule) = verdictBytes m (theirs First fr choice m (chosenJudgement (choice .verdicts m)) rule)
 laterVerdict fr m none = []
 
 abbrev byLater : List ℕ → Asked → List ℕ
-byLater fr (row m) = rowBytes (theirs fr choice m (rowAnswerOf (choice .rows m)) (typing m))
+byLater fr (row m) = rowBytes (theirs First fr choice m (rowAnswerOf (choice .rows m)) (typing First m))
 byLater fr (verdict m) = laterVerdict fr m (verdictRule (see fr) m)
 
 -- WHAT A READING MEETS
 
 abbrev metByVerdict : List ℕ → ℕ → Option (Rule Judgement) → Option Place
-metByVerdict fr m (some rule) = meets fr m rule
+metByVerdict fr m (some rule) = meets First fr m rule
 metByVerdict fr m none = none
 
 abbrev metBy : List ℕ → Asked → Option Place
-metBy fr (row m) = meets fr m (typing m)
+metBy fr (row m) = meets First fr m (typing First m)
 metBy fr (verdict m) = metByVerdict fr m (verdictRule (see fr) m)
 
 -- OF TWO FRAMES, a whole line: ours by `sameTypes`, which the contract of `same_type` cites
@@ -65,8 +66,8 @@ compared fr q =
     record {
       asked = q;
       ours = saidBytes (samenessSaid (sameTypes text (length (framesFor text)) (q .left) (q .right)));
-      theirs = comparedBytes (theirs fr choice 0 (choice .same (q .left) (q .right)) rule);
-      meets = meets fr 0 rule;
+      theirs = comparedBytes (theirs First fr choice 0 (choice .same (q .left) (q .right)) rule);
+      meets = meets First fr 0 rule;
     }
 
 -- ALL OF IT: reading the text; the answer buffer, by `answersAfter`, which the contract of `type_rows` cites; the later reader's answers; what their readings meet;
@@ -77,7 +78,7 @@ Whole = Outcome × List ℕ × List (List ℕ) × List (Option Place) × List (L
 abbrev computed : List ℕ → Whole
 computed fr = (
   readFile text (16 * lineCount text) (Lent (answerBytes text)),
-  answersAfter text (length (framesFor text)) (answersFor text),
+  answersAfter First text (length (framesFor text)) (answersFor text),
   map (λ (l : Line Asked). byLater fr (l .asked)) answers,
   map (λ (l : Line Asked). metBy fr (l .asked)) answers,
   map (λ (l : Line Two). compared fr (l .asked)) comparisons,

@@ -3,6 +3,7 @@ use mathlib.Core.Path.{sym, ap, _∙_}
 use native.Mathlib.Omega.{arith}
 use lib.Seq.{length-take-le}
 use borrow.Author.Needs.{needs}
+use Rattle.row_rules.specs.declared.Pass.the-variants.{First}
 use Rattle.frames.specs.Bytes.{putFrame}
 use Rattle.reader.proofs.Typed.{outputs-within, outputs-fit}
 use Rattle.reader.proofs.Printed.{printed, number-long, refused-lines, accepted-lines}
@@ -31,8 +32,8 @@ type-lines-spec =
     (λ c. search needs)
     (λ c. search needs)
     (λ c. search needs)
-    (λ c. printed (c .before .before .before .before .before .before .before .before .before .before .before .before .before .before .before .before .before .before .before .before .before .before .before .before .args .text .now) _ (c .before .before .before .before .before .before .before .before .before .before .before .before .before .before .before .before .before .before .before .before .before .before .before .before .args .out .now) (c .before .before .write-text .last .1 .0) (c .before .before .write-text .result) (refused-lines (c .before .before .before .before .before .before .before .before .before .before .before .before .before .before .before .before .before .type-file .ensures) (c .before .before .before .before .before .before .before .before .before .before .before .before .before .before .before .before .before .before .before .before .before .before .before .before .pre .0) (c .before .before .before .before .before .before .before .before .before .before .before .before .before .before .before .before .before .before .before .before .before .before .before .before .pre .1) (c .before .before .before .before .before .before .before .put-frame .last .0) (sym (c .before .before .before .before .before .before .before .before .before .before .before .before .frames-in .ensures) ∙ c .before .before .before .before .before .before .before .before .before .before .enum-told .given .1) (c .before .before .before .before .before .before .before .put-frame .ensures ∙ ap (putFrame (c .before .before .before .before .before .before .before .before .before .before .before .before .before .before .before .before .before .type-file .last .1 .1 .1 .0) 0) (c .before .before .before .before .before .before .before .before .outcome-frame .ensures))) (c .before .before .write-text .ensures .0) (c .before .before .write-text .ensures .1))
+    (λ c. printed First (c .before .before .before .before .before .before .before .before .before .before .before .before .before .before .before .before .before .before .before .before .before .before .before .before .args .text .now) _ (c .before .before .before .before .before .before .before .before .before .before .before .before .before .before .before .before .before .before .before .before .before .before .before .before .args .out .now) (c .before .before .write-text .last .1 .0) (c .before .before .write-text .result) (refused-lines (c .before .before .before .before .before .before .before .before .before .before .before .before .before .before .before .before .before .type-file .ensures) (c .before .before .before .before .before .before .before .before .before .before .before .before .before .before .before .before .before .before .before .before .before .before .before .before .pre .0) (c .before .before .before .before .before .before .before .before .before .before .before .before .before .before .before .before .before .before .before .before .before .before .before .before .pre .1) (c .before .before .before .before .before .before .before .put-frame .last .0) (sym (c .before .before .before .before .before .before .before .before .before .before .before .before .frames-in .ensures) ∙ c .before .before .before .before .before .before .before .before .before .before .enum-told .given .1) (c .before .before .before .before .before .before .before .put-frame .ensures ∙ ap (putFrame (c .before .before .before .before .before .before .before .before .before .before .before .before .before .before .before .before .before .type-file .last .1 .1 .1 .0) 0) (c .before .before .before .before .before .before .before .before .outcome-frame .ensures))) (c .before .before .write-text .ensures .0) (c .before .before .write-text .ensures .1))
     (λ c. search needs)
     (λ c. search needs)
     (λ c. search needs)
-    (λ c. printed (c .before .before .before .before .before .before .before .before .before .before .before .before .before .before .before .before .before .before .before .before .args .text .now) _ (c .before .before .before .before .before .before .before .before .before .before .before .before .before .before .before .before .before .before .before .before .args .out .now) (c .before .before .write-text2 .last .1 .0) (c .before .before .write-text2 .result) (accepted-lines (c .before .before .before .before .before .before .before .before .before .before .before .before .before .type-file .ensures) (c .before .before .before .before .before .before .before .before .before .before .before .before .before .before .before .before .before .before .before .before .pre .0) (c .before .before .before .before .before .before .before .before .before .before .before .before .before .before .before .before .before .before .before .before .pre .1) (sym (c .before .before .before .before .before .before .before .before .frames-in .ensures) ∙ c .before .before .before .before .before .before .enum-told2 .given .1)) (c .before .before .write-text2 .ensures .0) (c .before .before .write-text2 .ensures .1)))
+    (λ c. printed First (c .before .before .before .before .before .before .before .before .before .before .before .before .before .before .before .before .before .before .before .before .args .text .now) _ (c .before .before .before .before .before .before .before .before .before .before .before .before .before .before .before .before .before .before .before .before .args .out .now) (c .before .before .write-text2 .last .1 .0) (c .before .before .write-text2 .result) (accepted-lines (c .before .before .before .before .before .before .before .before .before .before .before .before .before .type-file .ensures) (c .before .before .before .before .before .before .before .before .before .before .before .before .before .before .before .before .before .before .before .before .pre .0) (c .before .before .before .before .before .before .before .before .before .before .before .before .before .before .before .before .before .before .before .before .pre .1) (sym (c .before .before .before .before .before .before .before .before .frames-in .ensures) ∙ c .before .before .before .before .before .before .enum-told2 .given .1)) (c .before .before .write-text2 .ensures .0) (c .before .before .write-text2 .ensures .1)))
