@@ -35,7 +35,7 @@ at n p = record { number = n; place = p; index = 0; indexed = false }
 -- what reading a file gives: numbers 1 to 6, and 0 for a file that is accepted
 abbrev pub outcomeValues : Outcome → Refused
 outcomeValues (O.Accepted n) = at 0 0
-outcomeValues O.Long = at 1 1024
+outcomeValues (O.Long m) = at 1 m
 outcomeValues (O.Torn k) = at 2 k
 outcomeValues O.Short = at 3 0
 outcomeValues (O.Order k) = at 4 k

@@ -7,7 +7,7 @@ use ir::TypeResolution;
 // What reading a file gives. A place is the number of a line or of a frame, from 0.
 pub enum Outcome {
     Accepted { frames: usize },
-    Long,
+    Long { limit: u16 },
     Torn { line: u16 },
     Short,
     Order { frame: u16 },

@@ -31,5 +31,5 @@ unless refused Nothing rest = rest
 unfoldable pub checkFrames : List ℕ → Outcome
 checkFrames fr =
     let n = frameCount fr in
-    cond (ltb 1024 n) Long
+    cond (ltb 1024 n) (Long 1024)
     (unless Order (lowest (orderOk fr) n) (unless Field (lowest (fieldOk fr) n) (unless Index (lowest (indexOk fr) n) (Accepted n))))

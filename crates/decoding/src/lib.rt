@@ -13,7 +13,7 @@ ghost use Rattle.scan.specs.Lowest.{lowest};
 ghost use Rattle.scan.specs.Lists.{build, sumBelow};
 ghost use Rattle.text.specs.Hex.{isDigit, digitValue};
 ghost use Rattle.text.specs.Lines.{lineOk, lineCount, frameByte, decoded};
-ghost use Rattle.text.specs.Reading.{answerFrames, tooShort, readText, framesRead};
+ghost use Rattle.text.specs.Reading.{answerFrames, tooShort, mostFrames, readText, framesRead};
 
 // Tested without a branch, since every character of a file passes here.
 fn is_digit(c: u8) -> bool
@@ -145,12 +145,23 @@ fn decode(text: &[u8], frames: &mut [u8], n: usize)
     }
 }
 
-// Checks 1 to 3, and where they pass the frames, at the front of the frame buffer. Numbers 1 to 3 change no buffer.
-pub fn read_text(text: &[u8], frames: &mut [u8], room: AnswerRoom) -> Outcome
-    ensures { λ r. ⌜ (r ≡ readText (now (text .entry)) (length (now (frames .entry))) room) × (now (frames .exit) ≡ framesRead r (now (text .entry)) (now (frames .entry))) ⌝ }
+// The limit of frames that holds.
+fn most(limit: u32) -> usize
+    ensures { λ r. ⌜ (r ≡ mostFrames limit) × (r ≤ 1024) ⌝ }
 {
-    if 33792 < text.len() {
-        return Outcome::Long;
+    if limit == 0 {
+        return 1024;
+    }
+    if 1024 < limit { 1024 } else { limit as usize }
+}
+
+// Checks 1 to 3, and where they pass the frames, at the front of the frame buffer. Numbers 1 to 3 change no buffer.
+pub fn read_text(limit: u32, text: &[u8], frames: &mut [u8], room: AnswerRoom) -> Outcome
+    ensures { λ r. ⌜ (r ≡ readText limit (now (text .entry)) (length (now (frames .entry))) room) × (now (frames .exit) ≡ framesRead r (now (text .entry)) (now (frames .entry))) ⌝ }
+{
+    let m = most(limit);
+    if 33 * m < text.len() {
+        return Outcome::Long { limit: m as u16 };
     }
     let torn = first_torn(text);
     match torn {

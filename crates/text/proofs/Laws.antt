@@ -1,27 +1,27 @@
 -- What each outcome of reading a text says of the text and the buffers, both ways, by the tests of the definition in their
 -- order; and what reading leaves where it accepts. Assumes nothing.
 use mathlib.Core.Path.{_≡_, refl, sym, ap, _∙_}
-use mathlib.Core.Bool.{Bool, true, false, cond, _||_, or-true}
+use mathlib.Core.Bool.{Bool, true, false, cond, _&&_, _||_, or-true}
 use mathlib.Core.List.{List, _++_}
 use mathlib.Core.Logic.{_⊎_, inl, inr, ⊎-elim, _↔_}
 use Prim.Native.Nat.{ℕ, _+_, _*_, _/_, _%_, _≤_, _<_}
 use native.Mathlib.Nat.{lt-of-not-le}
 use native.Mathlib.Omega.{arith}
-use lib.Dec.{ltb, eqb}
+use lib.Dec.{leb, ltb, eqb}
 use lib.ListN.{length, take, drop, getD, length-append, List·getD-eq-default}
 use lib.Seq.{take-at, drop-at}
-use borrow.Author.Tests.{ltb-true, ltb-false, lt-ltb, le-ltb}
+use borrow.Author.Tests.{leb-true, ltb-true, ltb-false, lt-ltb, le-ltb, le-leb, lt-leb}
 use Rattle.scan.specs.Lowest.{lowest}
 use Rattle.scan.specs.declared.Found.{Found}
 use Rattle.scan.specs.declared.Found.the-variants.{At, Nothing}
-use Rattle.scan.proofs.Laws.{by-test, LowestAt, found-at, at-found, none-all, lowest-all}
+use Rattle.scan.proofs.Laws.{and-second, by-test, LowestAt, found-at, at-found, none-all, lowest-all}
 use Rattle.scan.proofs.Fill.{length-build, getD-build}
 use Rattle.answers.specs.declared.Outcome.{Outcome}
 use Rattle.answers.specs.declared.Outcome.the-variants.{Accepted, Long, Torn, Short, Order, Field, Index}
 use Rattle.text.specs.declared.AnswerRoom.{AnswerRoom}
 use Rattle.text.specs.declared.AnswerRoom.the-variants.{NotLent, Lent}
 use Rattle.text.specs.Lines.{lineOk, lineCount, frameByte, byteOf, decoded}
-use Rattle.text.specs.Reading.{answerFrames, answerBytes, roomBelow, tooShort, afterTorn, readText, framesRead}
+use Rattle.text.specs.Reading.{answerFrames, answerBytes, roomBelow, tooShort, afterTorn, mostFrames, readText, framesRead}
 use Rattle.text.proofs.Line.{or-cases, length-whole, byte-small}
 use Rattle.text.proofs.Turn.{byte-of-line}
 
@@ -44,22 +44,40 @@ RoomLacks (Lent a) bytes = a < bytes
 abbrev pub Bytes : List ℕ → Type 0
 Bytes l = (i : ℕ) → getD l i 0 < 256
 
+-- the limit that holds is 1,024 or less
+pub most-small : (limit : ℕ) → mostFrames limit ≤ 1024
+unfolding mostFrames
+most-small limit = by-test (λ m. m ≤ 1024) (leb 1 limit && leb limit 1024) (λ e. leb-true _ _ (and-second (leb 1 limit) _ e)) (λ e. omega arith)
+
+-- which it is: the limit handed in from 1 to 1,024, and 1,024 for 0 and for any higher one
+pub most-given : (limit : ℕ) → 1 ≤ limit → limit ≤ 1024 → mostFrames limit ≡ limit
+unfolding mostFrames
+most-given limit a b = rw (le-leb 1 limit a, le-leb limit 1024 b)
+
+pub most-none : (limit : ℕ) → limit ≡ 0 → mostFrames limit ≡ 1024
+unfolding mostFrames
+most-none limit e = rw e
+
+pub most-over : (limit : ℕ) → 1024 < limit → mostFrames limit ≡ 1024
+unfolding mostFrames
+most-over limit h = rw (le-leb 1 limit (omega arith), lt-leb limit 1024 h)
+
 -- a text that is accepted, with the frame buffer's length, the answer buffer's, and its number of frames
-pub record Readable (t : List ℕ) (f : ℕ) (room : AnswerRoom) (n : ℕ) : Type 0 where
-  pub within : length t ≤ 33792
+pub record Readable (limit : ℕ) (t : List ℕ) (f : ℕ) (room : AnswerRoom) (n : ℕ) : Type 0 where
+  pub within : length t ≤ 33 * mostFrames limit
   pub whole : Whole t
   pub count : n ≡ lineCount t
   pub frames : 16 * n ≤ f
   pub answers : RoomFor room (answerBytes t)
 
 -- a text whose lowest torn line is k
-pub record TornAt (t : List ℕ) (k : ℕ) : Type 0 where
-  pub within : length t ≤ 33792
+pub record TornAt (limit : ℕ) (t : List ℕ) (k : ℕ) : Type 0 where
+  pub within : length t ≤ 33 * mostFrames limit
   pub line : LowestAt (lineOk t) (lineCount t) k
 
 -- a text of whole lines, with a buffer that is too small for it
-pub record TooSmall (t : List ℕ) (f : ℕ) (room : AnswerRoom) : Type 0 where
-  pub within : length t ≤ 33792
+pub record TooSmall (limit : ℕ) (t : List ℕ) (f : ℕ) (room : AnswerRoom) : Type 0 where
+  pub within : length t ≤ 33 * mostFrames limit
   pub whole : Whole t
   pub lacks : (f < 16 * lineCount t) ⊎ RoomLacks room (answerBytes t)
 
@@ -97,58 +115,65 @@ module _ (t : List ℕ) (f : ℕ) (room : AnswerRoom) where
     ⊎-elim (λ a. rw (lt-ltb f (16 * lineCount t) a)) (λ b. rw (room-lacks room (answerBytes t) .1 b) (or-true (ltb f (16 * lineCount t)))),
   )
 
-  -- ---- each outcome, both ways
+-- ---- each outcome, both ways
+module _ (limit : ℕ) (t : List ℕ) (f : ℕ) (room : AnswerRoom) where
   -- what holds in each of the four cases holds of what reading gives
-  pub by-read : (P : Outcome → Type 0) → (33792 < length t → P Long) → ((k : ℕ) → TornAt t k → P (Torn k))
-      → (TooSmall t f room → P Short) → (Readable t f room (lineCount t) → P (Accepted (lineCount t))) → P (readText t f room)
+  pub by-read : (P : Outcome → Type 0) → (33 * mostFrames limit < length t → P (Long (mostFrames limit))) → ((k : ℕ) → TornAt limit t k → P (Torn k))
+      → (TooSmall limit t f room → P Short) → (Readable limit t f room (lineCount t) → P (Accepted (lineCount t))) → P (readText limit t f room)
   unfolding readText
   by-read P long torn short accepted =
-      by-test P (ltb 33792 (length t)) (λ e. long (ltb-true _ _ e)) (λ e. go (ltb-false _ _ e) (lowest (lineOk t) (lineCount t)) refl)
+      by-test P (ltb (33 * mostFrames limit) (length t)) (λ e. long (ltb-true _ _ e)) (λ e. go (ltb-false _ _ e) (lowest (lineOk t) (lineCount t)) refl)
     where
-      go : length t ≤ 33792 → (o : Found) → lowest (lineOk t) (lineCount t) ≡ o → P (afterTorn o (cond (tooShort t f room) Short (Accepted (lineCount t))))
+      go : length t ≤ 33 * mostFrames limit → (o : Found) → lowest (lineOk t) (lineCount t) ≡ o → P (afterTorn o (cond (tooShort t f room) Short (Accepted (lineCount t))))
       go l (At k) e = torn k (record { within = l; line = found-at (lineOk t) (lineCount t) k e })
       go l Nothing e =
           let w : Whole t = λ k. none-all (lineOk t) (lineCount t) k e in
-          by-test P (tooShort t f room) (λ s. short (record { within = l; whole = w; lacks = one-lacks .0 s }))
-          (λ s. accepted (record { within = l; whole = w; count = refl; frames = frames-fit s; answers = answers-fit s }))
+          by-test P (tooShort t f room) (λ s. short (record { within = l; whole = w; lacks = one-lacks t f room .0 s }))
+          (λ s. accepted (record { within = l; whole = w; count = refl; frames = frames-fit t f room s; answers = answers-fit t f room s }))
 
   -- two outcomes that differ are not equal
   never : {X : Type 0} → _≡_ {A = ℕ} 0 1 → X
   never z = absurd (omega arith)
 
-  -- number 1 is given exactly for a text of more than 33,792 bytes
-  pub long-when : (readText t f room ≡ Long) ↔ (33792 < length t)
+  -- number 1 is given exactly for a text of more bytes than the limit's lines have, and names the limit
+  pub long-when : (readText limit t f room ≡ Long (mostFrames limit)) ↔ (33 * mostFrames limit < length t)
   unfolding readText
   long-when = (
-    by-read (λ r. r ≡ Long → 33792 < length t) (λ l e. l) (λ k r e. never (cc)) (λ r e. never (cc)) (λ r e. never (cc)),
-    λ l. rw (lt-ltb 33792 (length t) l),
+    by-read (λ r. r ≡ Long (mostFrames limit) → 33 * mostFrames limit < length t) (λ l e. l) (λ k r e. never (cc)) (λ r e. never (cc)) (λ r e. never (cc)),
+    λ l. rw (lt-ltb (33 * mostFrames limit) (length t) l),
   )
 
   -- number 2 is given exactly for a text that is not too long and has a torn line, with the lowest
-  pub torn-when : (k : ℕ) → (readText t f room ≡ Torn k) ↔ TornAt t k
+  pub torn-when : (k : ℕ) → (readText limit t f room ≡ Torn k) ↔ TornAt limit t k
   unfolding readText
   torn-when k = (
-    by-read (λ r. r ≡ Torn k → TornAt t k) (λ l e. never (cc)) (λ j r e. let q : j ≡ k = cc in rw q at r) (λ r e. never (cc)) (λ r e. never (cc)),
-    λ r. rw (le-ltb 33792 (length t) (r .within), at-found (lineOk t) (lineCount t) k (r .line)),
+    by-read (λ r. r ≡ Torn k → TornAt limit t k) (λ l e. never (cc)) (λ j r e. let q : j ≡ k = cc in rw q at r) (λ r e. never (cc)) (λ r e. never (cc)),
+    λ r. rw (le-ltb (33 * mostFrames limit) (length t) (r .within), at-found (lineOk t) (lineCount t) k (r .line)),
   )
 
   -- number 3 is given exactly for a text of whole lines, not too long, with a buffer that is too small
-  pub short-when : (readText t f room ≡ Short) ↔ TooSmall t f room
+  pub short-when : (readText limit t f room ≡ Short) ↔ TooSmall limit t f room
   unfolding readText
   short-when = (
-    by-read (λ r. r ≡ Short → TooSmall t f room) (λ l e. never (cc)) (λ k r e. never (cc)) (λ r e. r) (λ r e. never (cc)),
-    λ r. rw (le-ltb 33792 (length t) (r .within), lowest-all (lineOk t) (lineCount t) (r .whole), one-lacks .1 (r .lacks)),
+    by-read (λ r. r ≡ Short → TooSmall limit t f room) (λ l e. never (cc)) (λ k r e. never (cc)) (λ r e. r) (λ r e. never (cc)),
+    λ r. rw (le-ltb (33 * mostFrames limit) (length t) (r .within), lowest-all (lineOk t) (lineCount t) (r .whole), one-lacks t f room .1 (r .lacks)),
   )
 
   -- a text is accepted exactly where none of the three is given, and n is its number of lines
-  pub accepted-when : (n : ℕ) → (readText t f room ≡ Accepted n) ↔ Readable t f room n
+  pub accepted-when : (n : ℕ) → (readText limit t f room ≡ Accepted n) ↔ Readable limit t f room n
   unfolding readText
   accepted-when n = (
-    by-read (λ r. r ≡ Accepted n → Readable t f room n) (λ l e. never (cc)) (λ k r e. never (cc)) (λ r e. never (cc))
+    by-read (λ r. r ≡ Accepted n → Readable limit t f room n) (λ l e. never (cc)) (λ k r e. never (cc)) (λ r e. never (cc))
         (λ r e. let q : lineCount t ≡ n = cc in rw q at r),
     λ r. let a : 16 * lineCount t ≤ f = rw (← r .count) (r .frames) in
-        rw (le-ltb 33792 (length t) (r .within), lowest-all (lineOk t) (lineCount t) (r .whole), both-fit a (r .answers), ← r .count),
+        rw (le-ltb (33 * mostFrames limit) (length t) (r .within), lowest-all (lineOk t) (lineCount t) (r .whole), both-fit t f room a (r .answers), ← r .count),
   )
+
+-- a text within two limits reads alike at either
+pub alike-within : (limit other : ℕ) (t : List ℕ) (f : ℕ) (room : AnswerRoom) → length t ≤ 33 * mostFrames limit → length t ≤ 33 * mostFrames other
+    → readText limit t f room ≡ readText other t f room
+unfolding readText
+alike-within limit other t f room a b = rw (le-ltb (33 * mostFrames limit) (length t) a, le-ltb (33 * mostFrames other) (length t) b)
 
 -- ---- a text that is accepted, and its frames
 -- n frames are 16 n bytes
@@ -159,14 +184,17 @@ length-decoded t n = length-build (byteOf t) (16 * n)
 pub decoded-at : (t : List ℕ) (n k j : ℕ) → k < n → j < 16 → getD (decoded t n) (16 * k + j) 0 ≡ frameByte t k j
 decoded-at t n k j l m = getD-build (byteOf t) (16 * n) (16 * k + j) (omega arith) ∙ sym (byte-of-line t k j m)
 
-module _ {t : List ℕ} {f : ℕ} {room : AnswerRoom} {n : ℕ} (r : Readable t f room n) where
+module _ {limit : ℕ} {t : List ℕ} {f : ℕ} {room : AnswerRoom} {n : ℕ} (r : Readable limit t f room n) where
   -- it is n lines of 33 bytes
   pub length-read : length t ≡ 33 * n
   length-read = rw (r .count) (length-whole t (lowest-all (lineOk t) (lineCount t) (r .whole)))
 
-  -- it has at most 1,024 frames
+  -- it has at most as many frames as the limit, and so at most 1,024
+  pub count-within : n ≤ mostFrames limit
+  count-within = omega (arith, length-read, r .within)
+
   pub count-small : n ≤ 1024
-  count-small = omega (arith, length-read, r .within)
+  count-small = omega (arith, count-within, most-small limit)
 
   -- each of its n lines is whole
   pub whole-line : (k : ℕ) → k < n → lineOk t k ≡ true
@@ -193,7 +221,7 @@ answers-by-frame t n k l =
 -- it is as it was unless the text was accepted
 pub unchanged : (t fr : List ℕ) (r : Outcome) → ((n : ℕ) → r ≡ Accepted n → ⊥) → framesRead r t fr ≡ fr
 unchanged t fr (Accepted n) h = absurd (h n refl)
-unchanged t fr Long h = refl
+unchanged t fr (Long m) h = refl
 unchanged t fr (Torn k) h = refl
 unchanged t fr Short h = refl
 unchanged t fr (Order k) h = refl

@@ -17,7 +17,7 @@ use Rattle.text.specs.declared.AnswerRoom.{AnswerRoom}
 use Rattle.text.specs.declared.AnswerRoom.the-variants.{NotLent}
 use Rattle.text.specs.Hex.{isDigit, digitValue, digitOf}
 use Rattle.text.specs.Lines.{charAt, lineOk, lineCount, frameByte, decoded, digitAt, lineChar, charOf, textOf}
-use Rattle.text.specs.Reading.{readText}
+use Rattle.text.specs.Reading.{mostFrames, readText}
 use Rattle.text.proofs.Line.{digit-cases, value-small, line-digit, line-feed, line-whole}
 use Rattle.text.proofs.Turn.{char-of-line, high-digit, low-digit, line-end}
 use Rattle.text.proofs.Laws.{Bytes, Readable, accepted-when, length-decoded, decoded-at, length-read, whole-line}
@@ -99,13 +99,13 @@ module _ (fr : List ℕ) (n : ℕ) (bytes : Bytes fr) where
       rw e at d)
 
   -- and are accepted where they fit
-  pub read-written : (f : ℕ) → n ≤ 1024 → 16 * n ≤ f → readText (textOf fr n) f NotLent ≡ Accepted n
-  read-written f m fits =
-      accepted-when (textOf fr n) f NotLent n .1
+  pub read-written : (limit f : ℕ) → n ≤ mostFrames limit → 16 * n ≤ f → readText limit (textOf fr n) f NotLent ≡ Accepted n
+  read-written limit f m fits =
+      accepted-when limit (textOf fr n) f NotLent n .1
       (record { within = omega (arith, length-text fr n); whole = λ k l. text-whole k (omega (arith, count-text fr n)); count = sym (count-text fr n); frames = fits; answers = tt })
 
 -- ---- a text, read and written
-module _ {t : List ℕ} {f : ℕ} {room : AnswerRoom} {n : ℕ} (r : Readable t f room n) where
+module _ {limit : ℕ} {t : List ℕ} {f : ℕ} {room : AnswerRoom} {n : ℕ} (r : Readable limit t f room n) where
   -- a line comes back, digit by digit
   digit-back : (k j : ℕ) → k < n → j < 32 → digitAt (getD (decoded t n) (16 * k + j / 2) 0) j ≡ charAt t k j
   digit-back k j l m =

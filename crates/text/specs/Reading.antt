@@ -1,8 +1,8 @@
 -- Document 01, "Numbers handed back", numbers 1 to 3: what reading a text gives, and the frame buffer after it.
 use Prim.Native.Nat.{ℕ, _*_}
-use mathlib.Core.Bool.{Bool, false, cond, _||_}
+use mathlib.Core.Bool.{Bool, false, cond, _&&_, _||_}
 use mathlib.Core.List.{List, _++_}
-use lib.Dec.{ltb, eqb}
+use lib.Dec.{leb, ltb, eqb}
 use lib.ListN.{length, drop}
 use Rattle.scan.specs.Lowest.{lowest}
 use Rattle.scan.specs.Lists.{sumBelow}
@@ -36,16 +36,20 @@ abbrev pub afterTorn : Found → Outcome → Outcome
 afterTorn (At k) r = Torn k
 afterTorn Nothing r = r
 
+-- the limit that holds, of frames: 1 to 1,024, any other counting as 1,024 (document 02, request 7)
+unfoldable pub mostFrames : ℕ → ℕ
+mostFrames limit = cond (leb 1 limit && leb limit 1024) limit 1024
+
 -- what reading a text gives: numbers 1 to 3 in their order, else its number of frames
-unfoldable pub readText : List ℕ → ℕ → AnswerRoom → Outcome
-readText t f room =
-    cond (ltb 33792 (length t)) Long
+unfoldable pub readText : ℕ → List ℕ → ℕ → AnswerRoom → Outcome
+readText limit t f room =
+    cond (ltb (33 * mostFrames limit) (length t)) (Long (mostFrames limit))
     (afterTorn (lowest (lineOk t) (lineCount t)) (cond (tooShort t f room) Short (Accepted (lineCount t))))
 
 -- the frame buffer after a reading: the frames at its front where the text was accepted, else as it was
 abbrev pub framesRead : Outcome → List ℕ → List ℕ → List ℕ
 framesRead (Accepted n) t fr = decoded t n ++ drop (16 * n) fr
-framesRead Long t fr = fr
+framesRead (Long m) t fr = fr
 framesRead (Torn k) t fr = fr
 framesRead Short t fr = fr
 framesRead (Order k) t fr = fr
