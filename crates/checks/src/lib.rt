@@ -264,7 +264,7 @@ pub fn check_frames(frames: &[u8]) -> Outcome
     ensures { λ r. ⌜ r ≡ checkFrames (now (frames .entry)) ⌝ }
 {
     if 1024 < frame_count(frames) {
-        return Outcome::Long;
+        return Outcome::Long { limit: 1024 };
     }
     match first_disorder(frames) {
         Found::At(k) => Outcome::Order { frame: k as u16 },

@@ -22,7 +22,7 @@ use Rattle.reader.specs.Typing.{RowGiven, VerdictGiven}
 -- numbers 1 and 2 stay, all else is 3
 abbrev pub shortNumber : Outcome → ℕ
 shortNumber (O.Accepted n) = 3
-shortNumber O.Long = 1
+shortNumber (O.Long m) = 1
 shortNumber (O.Torn k) = 2
 shortNumber O.Short = 3
 shortNumber (O.Order k) = 3
@@ -30,8 +30,8 @@ shortNumber (O.Field k) = 3
 shortNumber (O.Index k) = 3
 
 -- what is returned then; the same for any other frame buffer and answer buffer: `any-room` (gelmusko/proofs/Laws.antt)
-unfoldable pub noRoom : List ℕ → ℕ
-noRoom t = shortNumber (readText t 0 NotLent)
+unfoldable pub noRoom : ℕ → List ℕ → ℕ
+noRoom limit t = shortNumber (readText limit t 0 NotLent)
 
 -- what holds of an out-slice that is too small, else what holds of one that has room
 abbrev pub byRoom : {A : Type 0} → List ℕ → A → A → A

@@ -48,7 +48,7 @@ fn short_number(o: Outcome) -> u32
 {
     match o {
         Outcome::Accepted { frames: _ } => 3,
-        Outcome::Long => 1,
+        Outcome::Long { limit: _ } => 1,
         Outcome::Torn { line: _ } => 2,
         Outcome::Short => 3,
         Outcome::Order { frame: _ } => 3,
@@ -58,11 +58,11 @@ fn short_number(o: Outcome) -> u32
 }
 
 // What is returned where the out-slice is too small: numbers 1 and 2 are the text's whatever is lent, so nothing is lent here.
-pub fn no_room(text: &[u8]) -> u32
-    ensures { λ r. ⌜ r ≡ noRoom (now (text .entry)) ⌝ }
+pub fn no_room(limit: u32, text: &[u8]) -> u32
+    ensures { λ r. ⌜ r ≡ noRoom limit (now (text .entry)) ⌝ }
 {
     let mut none = [0u8; 0];
-    let read = read_text(text, &mut none, AnswerRoom::NotLent);
+    let read = read_text(limit, text, &mut none, AnswerRoom::NotLent);
     short_number(read)
 }
 
@@ -72,7 +72,7 @@ fn outcome_number(o: Outcome) -> u32
 {
     match o {
         Outcome::Accepted { frames: _ } => 0,
-        Outcome::Long => 1,
+        Outcome::Long { limit: _ } => 1,
         Outcome::Torn { line: _ } => 2,
         Outcome::Short => 3,
         Outcome::Order { frame: _ } => 4,

@@ -69,7 +69,7 @@ pub fn outcome_frame(o: Outcome) -> Frame
 {
     match o {
         Outcome::Accepted { frames: _ } => refused(0, 0, 0, false),
-        Outcome::Long => refused(1, 1024, 0, false),
+        Outcome::Long { limit } => refused(1, limit, 0, false),
         Outcome::Torn { line } => refused(2, line, 0, false),
         Outcome::Short => refused(3, 0, 0, false),
         Outcome::Order { frame } => refused(4, frame, 0, false),

@@ -47,7 +47,7 @@ unfolding sumBelow
 sum-same f g zero h = refl
 sum-same f g (suc n) h = rw (sum-same f g n (λ k l. h k (omega arith)), h n (omega arith))
 
-module _ (t : List ℕ) (f a n : ℕ) (r : Readable t f (Lent a) n) where
+module _ (limit : ℕ) (t : List ℕ) (f a n : ℕ) (r : Readable limit t f (Lent a) n) where
   abbrev fr : List ℕ
   fr = decoded t n
 
@@ -69,15 +69,15 @@ module _ (t : List ℕ) (f a n : ℕ) (r : Readable t f (Lent a) n) where
       omega (arith, bytes-length (outputs pass (see fr) all), outputs-asked fr pass good all (omega arith), sum-grows (asked fr) (startsOf fr .rows + all) n within, sum-same (asked fr) (answerFrames t) n asked-is, r .answers, ap (sumBelow (answerFrames t)) (r .count))
 
 -- an accepted text is ready to be answered
-pub ready-of : (pass : Pass) (t : List ℕ) (f a n : ℕ) → readFile t f (Lent a) ≡ Accepted n → Ready pass (decoded t n) a
-ready-of pass t f a n e =
-    let acc = accepted-when t f (Lent a) n .0 e in
+pub ready-of : (pass : Pass) (limit : ℕ) (t : List ℕ) (f a n : ℕ) → readFile limit t f (Lent a) ≡ Accepted n → Ready pass (decoded t n) a
+ready-of pass limit t f a n e =
+    let acc = accepted-when limit t f (Lent a) n .0 e in
     let r = acc .readable in
-    let checked : checkFrames (decoded t n) ≡ Accepted (frameCount (decoded t n)) = sym (then-checked t f (Lent a) n r) ∙ e ∙ ap Accepted (sym (count-decoded t n)) in
-    (checked, few t f a n r, answers-fit t f a n r pass (good-when (decoded t n) (few t f a n r) .0 checked))
+    let checked : checkFrames (decoded t n) ≡ Accepted (frameCount (decoded t n)) = sym (then-checked limit t f (Lent a) n r) ∙ e ∙ ap Accepted (sym (count-decoded t n)) in
+    (checked, few limit t f a n r, answers-fit limit t f a n r pass (good-when (decoded t n) (few limit t f a n r) .0 checked))
 
 -- and so is the part of the frame buffer that is lent on: reading gave r, and left the frame buffer as `last`
-pub ready-part : (pass : Pass) (t fr last an : List ℕ) (n : ℕ) (r : Outcome) → r ≡ readFile t (length fr) (Lent (length an)) → last ≡ framesAfter t fr (Lent (length an)) → framesIn r ≡ Ou.Some n
+pub ready-part : (pass : Pass) (limit : ℕ) (t fr last an : List ℕ) (n : ℕ) (r : Outcome) → r ≡ readFile limit t (length fr) (Lent (length an)) → last ≡ framesAfter limit t fr (Lent (length an)) → framesIn r ≡ Ou.Some n
     → Ready pass (take (16 * n) last) (length an)
-ready-part pass t fr last an n r er el en =
-    rw (part-is t fr last (Lent (length an)) n r er el en) (ready-of pass t (length fr) (length an) n (read t fr last (Lent (length an)) n r er el en))
+ready-part pass limit t fr last an n r er el en =
+    rw (part-is limit t fr last (Lent (length an)) n r er el en) (ready-of pass limit t (length fr) (length an) n (read limit t fr last (Lent (length an)) n r er el en))

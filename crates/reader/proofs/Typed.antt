@@ -25,7 +25,7 @@ use Rattle.reader.proofs.Ready.{ready-part}
 pub whole-frames : (pass : Pass) (fr : List ℕ) → 16 * frameCount (outputBytes pass fr) ≡ length (outputBytes pass fr)
 whole-frames pass fr = omega (arith, bytes-length (outputs pass (see fr) (rowCount (startsOf fr))))
 
-module _ {pass : Pass} {t fr an last out : List ℕ} {r : TypedFile} (h : HandsBack pass t fr an r last out) where
+module _ {pass : Pass} {limit : ℕ} {t fr an last out : List ℕ} {r : TypedFile} (h : HandsBack pass limit t fr an r last out) where
   abbrev kept : Outcome → List ℕ
   kept o = an
 
@@ -39,8 +39,8 @@ module _ {pass : Pass} {t fr an last out : List ℕ} {r : TypedFile} (h : HandsB
     abbrev x : List ℕ
     x = take (16 * n) last
 
-    over : {A : Type 0} (f : Outcome → A) (g : List ℕ → A) → g x ≡ overFile f g t (readFile t (length fr) (Lent (length an)))
-    over f g = over-part t fr last (Lent (length an)) n (r .outcome) (h .outcome) (h .frames) en f g
+    over : {A : Type 0} (f : Outcome → A) (g : List ℕ → A) → g x ≡ overFile f g t (readFile limit t (length fr) (Lent (length an)))
+    over f g = over-part limit t fr last (Lent (length an)) n (r .outcome) (h .outcome) (h .frames) en f g
 
     outputs-are : 16 * r .outputs ≡ length (outputBytes pass x)
     unfolding outputCount
@@ -52,7 +52,7 @@ module _ {pass : Pass} {t fr an last out : List ℕ} {r : TypedFile} (h : HandsB
 
     -- its frames are a part of the frame buffer
     pub frames-within : 16 * n ≤ length last
-    frames-within = part-fits t fr last (Lent (length an)) n (r .outcome) (h .outcome) (h .frames) en
+    frames-within = part-fits limit t fr last (Lent (length an)) n (r .outcome) (h .outcome) (h .frames) en
 
     -- what is handed back stands at the front of the answer buffer
     pub outputs-there : take (16 * r .outputs) out ≡ outputBytes pass x
@@ -63,13 +63,13 @@ module _ {pass : Pass} {t fr an last out : List ℕ} {r : TypedFile} (h : HandsB
 
     -- and there was room for it
     pub outputs-fit : 16 * r .outputs ≤ length an
-    outputs-fit = omega (arith, outputs-are, ready-part pass t fr last an n (r .outcome) (h .outcome) (h .frames) en .2)
+    outputs-fit = omega (arith, outputs-are, ready-part pass limit t fr last an n (r .outcome) (h .outcome) (h .frames) en .2)
 
     -- what is asked of both parts is asked of the text
     pub handed-over : {A : Type 0} (f : Outcome → A) (g : List ℕ → List ℕ → A)
-        → g x (take (16 * r .outputs) out) ≡ overFile f (λ (y : List ℕ). g y (outputBytes pass y)) t (readFile t (length fr) (Lent (length an)))
+        → g x (take (16 * r .outputs) out) ≡ overFile f (λ (y : List ℕ). g y (outputBytes pass y)) t (readFile limit t (length fr) (Lent (length an)))
     handed-over f g = ap (g x) outputs-there ∙ over f (λ (y : List ℕ). g y (outputBytes pass y))
 
   -- read with buffers of the largest sizes that a file asks for
-  pub largest : length fr ≡ 16384 → length an ≡ 32768 → r .outcome ≡ readFile t 16384 (Lent 32768)
-  largest ef ea = h .outcome ∙ ap (λ (m : ℕ). readFile t m (Lent (length an))) ef ∙ ap (λ (m : ℕ). readFile t 16384 (Lent m)) ea
+  pub largest : length fr ≡ 16384 → length an ≡ 32768 → r .outcome ≡ readFile limit t 16384 (Lent 32768)
+  largest ef ea = h .outcome ∙ ap (λ (m : ℕ). readFile limit t m (Lent (length an))) ef ∙ ap (λ (m : ℕ). readFile limit t 16384 (Lent m)) ea

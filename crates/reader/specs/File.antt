@@ -14,7 +14,7 @@ use Rattle.archive.specs.Checks.{checkFrames}
 -- what follows on the frames of a text that was accepted; every other outcome is handed on
 abbrev pub overFile : {A : Type 0} → (Outcome → A) → (List ℕ → A) → List ℕ → Outcome → A
 overFile refused given t (Accepted n) = given (decoded t n)
-overFile refused given t Long = refused Long
+overFile refused given t (Long m) = refused (Long m)
 overFile refused given t (Torn k) = refused (Torn k)
 overFile refused given t Short = refused Short
 overFile refused given t (Order k) = refused (Order k)
@@ -25,18 +25,18 @@ overFile refused given t (Index k) = refused (Index k)
 abbrev pub thenFrames : List ℕ → Outcome → Outcome
 thenFrames t o = overFile (λ (r : Outcome). r) checkFrames t o
 
--- what reading a text gives, with a frame buffer of f bytes, and an answer buffer where one is lent
-unfoldable pub readFile : List ℕ → ℕ → AnswerRoom → Outcome
-readFile t f room = thenFrames t (readText t f room)
+-- what reading a text gives within a limit of frames, with a frame buffer of f bytes, and an answer buffer where one is lent
+unfoldable pub readFile : ℕ → List ℕ → ℕ → AnswerRoom → Outcome
+readFile limit t f room = thenFrames t (readText limit t f room)
 
 -- the frame buffer after it: as it was after numbers 1 to 3, else the frames at its front, also after numbers 4 to 6
-unfoldable pub framesAfter : List ℕ → List ℕ → AnswerRoom → List ℕ
-framesAfter t fr room = framesRead (readText t (length fr) room) t fr
+unfoldable pub framesAfter : ℕ → List ℕ → List ℕ → AnswerRoom → List ℕ
+framesAfter limit t fr room = framesRead (readText limit t (length fr) room) t fr
 
 -- how many frames an outcome says were accepted
 abbrev pub framesIn : Outcome → OptionUsize
 framesIn (Accepted n) = Ou.Some n
-framesIn Long = Ou.None
+framesIn (Long m) = Ou.None
 framesIn (Torn k) = Ou.None
 framesIn Short = Ou.None
 framesIn (Order k) = Ou.None

@@ -10,5 +10,5 @@ use Rattle.type_methods.specs.Comparison.{samenessOf, sameType}
 use Rattle.reader.specs.File.{overFile, readFile}
 
 -- what comparing two frames gives: yes, no, 22, 5 or 6
-unfoldable pub sameTypes : List ℕ → ℕ → Frame → Frame → Sameness
-sameTypes t f l r = overFile Sa.NotAccepted (λ (fr : List ℕ). samenessOf (sameType fr l r)) t (readFile t f NotLent)
+unfoldable pub sameTypes : ℕ → List ℕ → ℕ → Frame → Frame → Sameness
+sameTypes limit t f l r = overFile Sa.NotAccepted (λ (fr : List ℕ). samenessOf (sameType fr l r)) t (readFile limit t f NotLent)

@@ -41,19 +41,19 @@ abbrev pub answersWritten : Pass → List ℕ → List ℕ → List ℕ
 answersWritten pass an fr = outputBytes pass fr ++ drop (length (outputBytes pass fr)) an
 
 -- the answer buffer `an` after `type_rows`, with a frame buffer of f bytes
-unfoldable pub answersAfter : Pass → List ℕ → ℕ → List ℕ → List ℕ
-answersAfter pass t f an = overFile (λ (o : Outcome). an) (λ (fr : List ℕ). answersWritten pass an fr) t (readFile t f (Lent (length an)))
+unfoldable pub answersAfter : Pass → ℕ → List ℕ → ℕ → List ℕ → List ℕ
+answersAfter pass limit t f an = overFile (λ (o : Outcome). an) (λ (fr : List ℕ). answersWritten pass an fr) t (readFile limit t f (Lent (length an)))
 
 -- how many frames are handed back, with an answer buffer of a bytes: as many as a file's answers and verdicts; of a file that is not accepted, none
-unfoldable pub outputCount : Pass → List ℕ → ℕ → ℕ → ℕ
-outputCount pass t f a = overFile (λ (o : Outcome). 0) (λ (fr : List ℕ). frameCount (outputBytes pass fr)) t (readFile t f (Lent a))
+unfoldable pub outputCount : Pass → ℕ → List ℕ → ℕ → ℕ → ℕ
+outputCount pass limit t f a = overFile (λ (o : Outcome). 0) (λ (fr : List ℕ). frameCount (outputBytes pass fr)) t (readFile limit t f (Lent a))
 
 -- what `type_file` gives, r, and leaves: fr and an are the frame buffer and the answer buffer before it, `last` and `out` after it
-pub record HandsBack (pass : Pass) (t fr an : List ℕ) (r : TypedFile) (last out : List ℕ) : Type 0 where
-  pub outcome : r .outcome ≡ readFile t (length fr) (Lent (length an))
-  pub outputs : r .outputs ≡ outputCount pass t (length fr) (length an)
-  pub frames : last ≡ framesAfter t fr (Lent (length an))
-  pub answers : out ≡ answersAfter pass t (length fr) an
+pub record HandsBack (pass : Pass) (limit : ℕ) (t fr an : List ℕ) (r : TypedFile) (last out : List ℕ) : Type 0 where
+  pub outcome : r .outcome ≡ readFile limit t (length fr) (Lent (length an))
+  pub outputs : r .outputs ≡ outputCount pass limit t (length fr) (length an)
+  pub frames : last ≡ framesAfter limit t fr (Lent (length an))
+  pub answers : out ≡ answersAfter pass limit t (length fr) an
 
 -- ROW_TYPE
 
@@ -73,13 +73,13 @@ abbrev pub rowGiven : Pass → RowNumber → List ℕ → RowGiven
 rowGiven pass n fr = cond (isRow (startsOf fr) n) (answer (rowAnswer pass (see fr) (n .0))) noRow
 
 -- with a frame buffer of f bytes and an answer buffer of a bytes
-unfoldable pub rowType : Pass → List ℕ → ℕ → ℕ → RowNumber → RowGiven
-rowType pass t f a n = overFile notAccepted (rowGiven pass n) t (readFile t f (Lent a))
+unfoldable pub rowType : Pass → ℕ → List ℕ → ℕ → ℕ → RowNumber → RowGiven
+rowType pass limit t f a n = overFile notAccepted (rowGiven pass n) t (readFile limit t f (Lent a))
 
 -- the answer buffer after it: as after `type_rows`, and unchanged where the file does not have the row
-unfoldable pub answersAfterRow : Pass → List ℕ → ℕ → List ℕ → RowNumber → List ℕ
-answersAfterRow pass t f an n =
-    overFile (λ (o : Outcome). an) (λ (fr : List ℕ). cond (isRow (startsOf fr) n) (answersWritten pass an fr) an) t (readFile t f (Lent (length an)))
+unfoldable pub answersAfterRow : Pass → ℕ → List ℕ → ℕ → List ℕ → RowNumber → List ℕ
+answersAfterRow pass limit t f an n =
+    overFile (λ (o : Outcome). an) (λ (fr : List ℕ). cond (isRow (startsOf fr) n) (answersWritten pass an fr) an) t (readFile limit t f (Lent (length an)))
 
 -- COMPOSE_VERDICT
 
@@ -104,8 +104,8 @@ orNoCompose none = noCompose
 abbrev pub verdictGiven : Pass → RowNumber → List ℕ → VerdictGiven
 verdictGiven pass n fr = cond (isRow (startsOf fr) n) (orNoCompose (verdictOf pass (see fr) (n .0))) noRow
 
-unfoldable pub composeVerdict : Pass → List ℕ → ℕ → ℕ → RowNumber → VerdictGiven
-composeVerdict pass t f a n = overFile notAccepted (verdictGiven pass n) t (readFile t f (Lent a))
+unfoldable pub composeVerdict : Pass → ℕ → List ℕ → ℕ → ℕ → RowNumber → VerdictGiven
+composeVerdict pass limit t f a n = overFile notAccepted (verdictGiven pass n) t (readFile limit t f (Lent a))
 
 -- the answer buffer after it: as after `type_rows` where a verdict is given, else unchanged
 abbrev pub ifJudged : List ℕ → List ℕ → VerdictGiven → List ℕ
@@ -114,9 +114,9 @@ ifJudged written an noCompose = an
 ifJudged written an noRow = an
 ifJudged written an (notAccepted o) = an
 
-unfoldable pub answersAfterVerdict : Pass → List ℕ → ℕ → List ℕ → RowNumber → List ℕ
-answersAfterVerdict pass t f an n =
-    overFile (λ (o : Outcome). an) (λ (fr : List ℕ). ifJudged (answersWritten pass an fr) an (verdictGiven pass n fr)) t (readFile t f (Lent (length an)))
+unfoldable pub answersAfterVerdict : Pass → ℕ → List ℕ → ℕ → List ℕ → RowNumber → List ℕ
+answersAfterVerdict pass limit t f an n =
+    overFile (λ (o : Outcome). an) (λ (fr : List ℕ). ifJudged (answersWritten pass an fr) an (verdictGiven pass n fr)) t (readFile limit t f (Lent (length an)))
 
 -- AS LINES, what the typing program prints
 
@@ -129,9 +129,9 @@ abbrev pub outputText : Pass → List ℕ → List ℕ
 outputText pass fr = textOf (outputBytes pass fr) (frameCount (outputBytes pass fr))
 
 -- with buffers of the largest sizes that a file asks for, 16,384 and 32,768 bytes
-unfoldable pub typedText : Pass → List ℕ → List ℕ
-typedText pass t = overFile outcomeText (outputText pass) t (readFile t 16384 (Lent 32768))
+unfoldable pub typedText : Pass → ℕ → List ℕ → List ℕ
+typedText pass limit t = overFile outcomeText (outputText pass) t (readFile limit t 16384 (Lent 32768))
 
 -- how many of its bytes fit whole lines into an output buffer of o bytes
-abbrev pub linesIn : Pass → List ℕ → ℕ → ℕ
-linesIn pass t o = 33 * min (length (typedText pass t) / 33) (o / 33)
+abbrev pub linesIn : Pass → ℕ → List ℕ → ℕ → ℕ
+linesIn pass limit t o = 33 * min (length (typedText pass limit t) / 33) (o / 33)

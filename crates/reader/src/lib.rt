@@ -29,7 +29,7 @@ pub fn frames_in(o: Outcome) -> OptionUsize
 {
     match o {
         Outcome::Accepted { frames: n } => OptionUsize::Some(n),
-        Outcome::Long => OptionUsize::None,
+        Outcome::Long { limit: _ } => OptionUsize::None,
         Outcome::Torn { line: _ } => OptionUsize::None,
         Outcome::Short => OptionUsize::None,
         Outcome::Order { frame: _ } => OptionUsize::None,
@@ -38,12 +38,12 @@ pub fn frames_in(o: Outcome) -> OptionUsize
     }
 }
 
-// Checks 1 to 6, with the length of the answer buffer where one is lent. Numbers 1 to 3 change no buffer; otherwise the frames stand
+// Checks 1 to 6 within a limit of frames, 1 to 1,024, any other counting as 1,024, with the length of the answer buffer where one is lent. Numbers 1 to 3 change no buffer; otherwise the frames stand
 // at the front of the frame buffer, and its bytes past them stay.
-pub fn read_with(text: &[u8], frames: &mut [u8], room: AnswerRoom) -> Outcome
-    ensures { λ r. ⌜ (r ≡ readFile (now (text .entry)) (length (now (frames .entry))) room) × (now (frames .exit) ≡ framesAfter (now (text .entry)) (now (frames .entry)) room) ⌝ }
+pub fn read_with(limit: u32, text: &[u8], frames: &mut [u8], room: AnswerRoom) -> Outcome
+    ensures { λ r. ⌜ (r ≡ readFile limit (now (text .entry)) (length (now (frames .entry))) room) × (now (frames .exit) ≡ framesAfter limit (now (text .entry)) (now (frames .entry)) room) ⌝ }
 {
-    let read = read_text(text, frames, room);
+    let read = read_text(limit, text, frames, room);
     match frames_in(read) {
         OptionUsize::None => read,
         OptionUsize::Some(n) => {
@@ -54,17 +54,23 @@ pub fn read_with(text: &[u8], frames: &mut [u8], room: AnswerRoom) -> Outcome
 }
 
 // Whether a file is accepted, or the number and place of its fault.
-pub fn read_file(text: &[u8], frames: &mut [u8]) -> Outcome
-    ensures { λ r. ⌜ (r ≡ readFile (now (text .entry)) (length (now (frames .entry))) NotLent) × (now (frames .exit) ≡ framesAfter (now (text .entry)) (now (frames .entry)) NotLent) ⌝ }
+pub fn read_file(limit: u32, text: &[u8], frames: &mut [u8]) -> Outcome
+    ensures { λ r. ⌜ (r ≡ readFile limit (now (text .entry)) (length (now (frames .entry))) NotLent) × (now (frames .exit) ≡ framesAfter limit (now (text .entry)) (now (frames .entry)) NotLent) ⌝ }
 {
-    read_with(text, frames, AnswerRoom::NotLent)
+    read_with(limit, text, frames, AnswerRoom::NotLent)
 }
 
 // Whether two answers of a file, as frames of family 8 or 9, are the same type. The frame buffer is as `read_file` leaves it.
-pub fn same_type(text: &[u8], frames: &mut [u8], left: Frame, right: Frame) -> Sameness
-    ensures { λ r. ⌜ (r ≡ sameTypes (now (text .entry)) (length (now (frames .entry))) left right) × (now (frames .exit) ≡ framesAfter (now (text .entry)) (now (frames .entry)) NotLent) ⌝ }
+pub fn same_type(
+    limit: u32,
+    text: &[u8],
+    frames: &mut [u8],
+    left: Frame,
+    right: Frame,
+) -> Sameness
+    ensures { λ r. ⌜ (r ≡ sameTypes limit (now (text .entry)) (length (now (frames .entry))) left right) × (now (frames .exit) ≡ framesAfter limit (now (text .entry)) (now (frames .entry)) NotLent) ⌝ }
 {
-    let read = read_file(text, frames);
+    let read = read_file(limit, text, frames);
     match frames_in(read) {
         OptionUsize::None => Sameness::NotAccepted(read),
         OptionUsize::Some(n) => {

@@ -26,7 +26,7 @@ fn length(sizes: &[u8; 12], at: usize) -> usize
 fn number(outcome: Outcome) -> u64 {
     match outcome {
         Outcome::Accepted { frames: _ } => 0,
-        Outcome::Long => 1,
+        Outcome::Long { limit: _ } => 1,
         Outcome::Torn { line: _ } => 2,
         Outcome::Short => 3,
         Outcome::Order { frame: _ } => 4,
@@ -39,7 +39,7 @@ fn number(outcome: Outcome) -> u64 {
 fn place(outcome: Outcome) -> u64 {
     match outcome {
         Outcome::Accepted { frames } => frames as u64,
-        Outcome::Long => 1024,
+        Outcome::Long { limit } => limit as u64,
         Outcome::Torn { line } => line as u64,
         Outcome::Short => 0,
         Outcome::Order { frame } => frame as u64,
@@ -104,7 +104,7 @@ fn print_buffer(text: &[u8], frames: &[u8]) {
 
 // Reads a text over a lent buffer, and prints what that gives.
 fn replay(text: &[u8], frames: &mut [u8]) {
-    let outcome = read_file(text, frames);
+    let outcome = read_file(1024, text, frames);
     io::print_decimal(STDOUT_FILENO, number(outcome));
     io::write_all(STDOUT_FILENO, b" ");
     io::print_decimal(STDOUT_FILENO, place(outcome));

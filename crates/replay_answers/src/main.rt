@@ -31,7 +31,7 @@ fn length(line: &[u8; 59], at: usize) -> usize
 fn number(outcome: Outcome) -> u64 {
     match outcome {
         Outcome::Accepted { frames: _ } => 0,
-        Outcome::Long => 1,
+        Outcome::Long { limit: _ } => 1,
         Outcome::Torn { line: _ } => 2,
         Outcome::Short => 3,
         Outcome::Order { frame: _ } => 4,
@@ -74,13 +74,13 @@ fn print_pair(text: &[u8], asked: &[u8], k: usize)
     let mut frames = [0u8; 16384];
     let left = frame_at(asked, 2 * k);
     let right = frame_at(asked, 2 * k + 1);
-    print_sameness(same_type(text, &mut frames, left, right));
+    print_sameness(same_type(1024, text, &mut frames, left, right));
 }
 
 // Reads the lines of the pairs, and compares each pair.
 fn print_pairs(text: &[u8], lines: &[u8]) {
     let mut asked = [0u8; 16384];
-    read_text(lines, &mut asked, AnswerRoom::NotLent);
+    read_text(1024, lines, &mut asked, AnswerRoom::NotLent);
     let many = lines.len() / 66;
     if 512 < many {
         return;

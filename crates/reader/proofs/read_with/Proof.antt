@@ -14,7 +14,7 @@ use Rattle.reader.proofs.read_with.Statement.{statement}
 use Rattle.reader.proofs.read_with.Tie as tie
 
 -- the frames lie within the buffer that they were written to
-fits : (c : tie.After-known-told) → 16 * c .before .n .given .0 .0 ≤ length (c .before .before .before .before .before .before .read-text .last .1 .0)
+fits : (c : tie.After-known-told) → 16 * c .before .n .given .0 .0 ≤ length (c .before .before .before .before .before .before .read-text .last .1 .1 .0)
 fits c =
     let r = c .before .before .before .before .before .before .read-text in
     room (c .before .before .before .before .before .before .before .before .before .before .args .text .now) (c .before .before .before .before .before .before .before .before .before .before .args .frames .now) _ _ (r .result) (r .ensures .1)
