@@ -37,11 +37,11 @@ keeps-too pass r s t fr c g k = record {
 }
 
 -- ours, with buffers of just the size
-abbrev ours : Pass → Reader
-ours pass = byBuffer pass framesFor answersFor
+abbrev ours : Pass → ℕ → Reader
+ours pass limit = byBuffer pass limit framesFor answersFor
 
-pub only-ours : (pass : Pass) (r : Reader) → Claim pass r ↔ ((t : List ℕ) (n : ℕ) → IsAccepted t n → Agree r (ours pass) t (decoded t n))
-only-ours pass r = (
-  λ claim t n a. agree pass r (ours pass) t (decoded t n) (claim t n a choice) (type-rows-keeps pass framesFor answersFor just-enough t n a choice),
-  λ g t n a c. keeps-too pass r (ours pass) t (decoded t n) c (g t n a) (type-rows-keeps pass framesFor answersFor just-enough t n a c),
+pub only-ours : (pass : Pass) (limit : ℕ) (r : Reader) → Claim pass limit r ↔ ((t : List ℕ) (n : ℕ) → IsAccepted limit t n → Agree r (ours pass limit) t (decoded t n))
+only-ours pass limit r = (
+  λ claim t n a. agree pass r (ours pass limit) t (decoded t n) (claim t n a choice) (type-rows-keeps pass limit framesFor answersFor just-enough t n a choice),
+  λ g t n a c. keeps-too pass r (ours pass limit) t (decoded t n) c (g t n a) (type-rows-keeps pass limit framesFor answersFor just-enough t n a c),
 )

@@ -179,43 +179,43 @@ module _ (pass : Pass) (fr : List ℕ) (good : Good fr) (rest : List ℕ) (m : �
       (omega (arith, outputs-below pass fr good m (omega arith), length-append first (a ∷ [])))
 
 -- AN ACCEPTED TEXT, with any buffers that suffice
-module _ (pass : Pass) (t : List ℕ) (n f : ℕ) (an : List ℕ) (accepted : IsAccepted t n) (for-frames : 16 * lineCount t ≤ f) (for-answers : answerBytes t ≤ length an) where
+module _ (pass : Pass) (limit : ℕ) (t : List ℕ) (n f : ℕ) (an : List ℕ) (accepted : IsAccepted limit t n) (for-frames : 16 * lineCount t ≤ f) (for-answers : answerBytes t ≤ length an) where
   abbrev fr : List ℕ
   fr = decoded t n
 
-  accepts : Accepts t (16 * lineCount t) (Lent (answerBytes t)) n
-  accepts = accepted-when t (16 * lineCount t) (Lent (answerBytes t)) n .0 accepted
+  accepts : Accepts limit t (16 * lineCount t) (Lent (answerBytes t)) n
+  accepts = accepted-when limit t (16 * lineCount t) (Lent (answerBytes t)) n .0 accepted
 
-  read-with : (room : AnswerRoom) → RoomFor room (answerBytes t) → readFile t f room ≡ Accepted n
+  read-with : (room : AnswerRoom) → RoomFor room (answerBytes t) → readFile limit t f room ≡ Accepted n
   read-with room w =
       let k = accepts in
       let r = k .readable in
-      accepted-when t f room n .1
+      accepted-when limit t f room n .1
       (record { readable = record { within = r .within; whole = r .whole; count = r .count; frames = omega arith; answers = w }; order = k .order; fields = k .fields; index = k .index })
 
-  read-lent : readFile t f (Lent (length an)) ≡ Accepted n
+  read-lent : readFile limit t f (Lent (length an)) ≡ Accepted n
   read-lent = read-with (Lent (length an)) for-answers
 
   good-text : Good fr
-  good-text = good-of pass fr (length an) (ready-of pass t f (length an) n read-lent)
+  good-text = good-of pass fr (length an) (ready-of pass limit t f (length an) n read-lent)
 
   stands-at : (m : ℕ) → standsAt t m ≡ m + composesBelow fr m
   stands-at m = ap (λ (k : ℕ). m + composesBelow (decoded t k) m) (sym (accepts .readable .count))
 
-  same-given : (a b : Frame) → saidBytes (samenessSaid (sameTypes t f a b)) ≡ comparedBytes (sameType fr a b)
+  same-given : (a b : Frame) → saidBytes (samenessSaid (sameTypes limit t f a b)) ≡ comparedBytes (sameType fr a b)
   unfolding sameTypes
   same-given a b = rw (read-with NotLent tt)
 
-  buffer-is : answersAfter pass t f an ≡ answersWritten pass an fr
+  buffer-is : answersAfter pass limit t f an ≡ answersWritten pass an fr
   unfolding answersAfter
   buffer-is = rw read-lent
 
-  row-given : (m : ℕ) → m < rowCount (startsOf fr) → rowGivenBytes (rowType pass t f (length an) (record { 0 = m })) ≡ rowBytes (rowAnswer pass (see fr) m)
+  row-given : (m : ℕ) → m < rowCount (startsOf fr) → rowGivenBytes (rowType pass limit t f (length an) (record { 0 = m })) ≡ rowBytes (rowAnswer pass (see fr) m)
   unfolding rowType
   row-given m h = rw (read-lent, row-there fr m h)
 
   verdict-given : (m : ℕ) → m < rowCount (startsOf fr) → (rule : Rule Judgement) → verdictRule (see fr) m ≡ some rule
-      → verdictGivenBytes m (composeVerdict pass t f (length an) (record { 0 = m })) ≡ verdictBytes m (ours (see fr) (typing pass) m rule)
+      → verdictGivenBytes m (composeVerdict pass limit t f (length an) (record { 0 = m })) ≡ verdictBytes m (ours (see fr) (typing pass) m rule)
   unfolding composeVerdict
   verdict-given m h rule e = rw (read-lent, row-there fr m h, e)
 
@@ -225,32 +225,32 @@ module _ (pass : Pass) (t : List ℕ) (n f : ℕ) (an : List ℕ) (accepted : Is
 pub just-enough : Suffice framesFor answersFor
 just-enough = record { for-frames = λ t. omega (arith, length-replicate {A = ℕ} (16 * lineCount t) 0); for-answers = λ t. omega (arith, length-replicate {A = ℕ} (answerBytes t) 0) }
 
-module _ (pass : Pass) (frames answers : List ℕ → List ℕ) (enough : Suffice frames answers) where
-  pub type-rows-keeps : Claim pass (byBuffer pass frames answers)
+module _ (pass : Pass) (limit : ℕ) (frames answers : List ℕ → List ℕ) (enough : Suffice frames answers) where
+  pub type-rows-keeps : Claim pass limit (byBuffer pass limit frames answers)
   type-rows-keeps t n accepted =
       let f = length (frames t) in
       let hf = enough .for-frames t in
       let ha = enough .for-answers t in
       let fr = decoded t n in
       let rest = drop (length (outputBytes pass fr)) (answers t) in
-      let good = good-text pass t n f (answers t) accepted hf ha in
-      let b = buffer-is pass t n f (answers t) accepted hf ha in
-      let k = stands-at pass t n f (answers t) accepted hf ha in
-      keeps pass (byBuffer pass frames answers) t fr good
+      let good = good-text pass limit t n f (answers t) accepted hf ha in
+      let b = buffer-is pass limit t n f (answers t) accepted hf ha in
+      let k = stands-at pass limit t n f (answers t) accepted hf ha in
+      keeps pass (byBuffer pass limit frames answers) t fr good
       (record {
         rows = λ m h. rw (b, k m) (ap bytesOf (answer-stands pass fr good rest m h));
         verdicts = λ m h rule e. rw (b, k m) (ap bytesOf (verdict-stands pass fr good rest m h rule e));
-        same = same-given pass t n f (answers t) accepted hf ha;
+        same = same-given pass limit t n f (answers t) accepted hf ha;
       })
 
-  pub row-type-keeps : Claim pass (byRow pass frames answers)
+  pub row-type-keeps : Claim pass limit (byRow pass limit frames answers)
   row-type-keeps t n accepted =
       let f = length (frames t) in
       let hf = enough .for-frames t in
       let ha = enough .for-answers t in
-      keeps pass (byRow pass frames answers) t (decoded t n) (good-text pass t n f (answers t) accepted hf ha)
+      keeps pass (byRow pass limit frames answers) t (decoded t n) (good-text pass limit t n f (answers t) accepted hf ha)
       (record {
-        rows = row-given pass t n f (answers t) accepted hf ha;
-        verdicts = verdict-given pass t n f (answers t) accepted hf ha;
-        same = same-given pass t n f (answers t) accepted hf ha;
+        rows = row-given pass limit t n f (answers t) accepted hf ha;
+        verdicts = verdict-given pass limit t n f (answers t) accepted hf ha;
+        same = same-given pass limit t n f (answers t) accepted hf ha;
       })

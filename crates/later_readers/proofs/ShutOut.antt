@@ -1,17 +1,20 @@
 -- The claim shuts out four readers: over one text each answers a row otherwise than its reading says. Row 0 is newer, row 1 meets nothing newer, and row 2 meets row 0's.
 -- Assumes nothing.
-use Prim.Native.Nat.{ℕ}
+use Prim.Native.Nat.{ℕ, _*_, _≤_}
 use native.Mathlib.Omega.{arith}
-use mathlib.Core.Path.{_≡_, refl, ap}
+use mathlib.Core.Path.{_≡_, refl, ap, _∙_}
 use mathlib.Core.Bool.{Bool, true, false, cond}
 use mathlib.Core.List.{List}
 use mathlib.Core.Option.{none, some}
-use lib.ListN.{getD}
+use lib.ListN.{length, getD}
 use Rattle.scan.specs.Lowest.{lowest, allBelow}
 use Rattle.scan.specs.Lists.{build, sumBelow}
+use Rattle.text.specs.declared.AnswerRoom.the-variants.{Lent}
 use Rattle.text.specs.Hex.{digitValue, digitOf}
-use Rattle.text.specs.Lines.{lineOk, byteOf, charOf, decoded}
-use Rattle.text.specs.Reading.{answerFrames, tooShort, readText}
+use Rattle.text.specs.Lines.{lineOk, lineCount, byteOf, charOf, decoded}
+use Rattle.text.specs.Reading.{answerFrames, answerBytes, tooShort, mostFrames, readText}
+use Rattle.text.proofs.Laws.{most-given}
+use Rattle.text.proofs.RoundTrip.{length-text}
 use Rattle.frames.specs.Bytes.{frameAt}
 use Rattle.frames.specs.Forms.{typeOf, itemOf, rowOf, memberOf, componentOf, fieldsFit}
 use Rattle.archive.specs.Order.{orderOk}
@@ -25,6 +28,7 @@ use Rattle.type_methods.proofs.Seen.{never}
 use Rattle.row_rules.specs.declared.Pass.{Pass}
 use Rattle.row_rules.specs.Typed.{typing}
 use Rattle.reader.specs.File.{readFile}
+use Rattle.reader.proofs.Laws.{read-alike}
 use Rattle.later_readers.specs.Reader.{Reader, SaysNewer, meets, Keeps, IsAccepted, Claim}
 use Rattle.later_readers.specs.ShutOut.{newerAtRow, allNewer, holdsNewer, newerBeforeReading, isNewer, newerAsAnother, newerAtItself, threeRows}
 use Rattle.later_readers.proofs.Only.{choice}
@@ -33,9 +37,16 @@ abbrev fr : List ℕ
 fr = decoded threeRows 3
 
 -- WHAT THE TEXT IS, computed
-accepted : IsAccepted threeRows 3
-unfolding lowest allBelow build sumBelow digitValue digitOf lineOk byteOf charOf answerFrames tooShort readText frameAt typeOf itemOf rowOf memberOf componentOf fieldsFit orderOk start startsOf namesOk earlyOk indexOk checkFrames readFile
-accepted = refl
+at-most : IsAccepted 1024 threeRows 3
+unfolding mostFrames lowest allBelow build sumBelow digitValue digitOf lineOk byteOf charOf answerFrames tooShort readText frameAt typeOf itemOf rowOf memberOf componentOf fieldsFit orderOk start startsOf namesOk earlyOk indexOk checkFrames readFile
+at-most = refl
+
+long : length threeRows ≡ 99
+long = length-text _ 3
+
+accepted : (limit : ℕ) → 3 ≤ mostFrames limit → IsAccepted limit threeRows 3
+accepted limit few =
+    read-alike limit 1024 threeRows (omega (arith, long)) (omega (arith, long, most-given 1024 (omega arith) (omega arith))) (Lent (answerBytes threeRows)) (16 * lineCount threeRows) ∙ at-most
 
 three : rowCount (startsOf fr) ≡ 3
 unfolding lowest build digitValue digitOf byteOf charOf frameAt start startsOf
@@ -57,9 +68,9 @@ third-met : (pass : Pass) → meets pass fr 2 (typing pass 2) ≡ some (row (rec
 unfolding lowest build digitValue digitOf byteOf charOf frameAt start startsOf rowIn rowOf
 third-met pass = refl
 
-module _ {pass : Pass} {r : Reader} (claim : Claim pass r) where
+module _ {pass : Pass} (limit : ℕ) (few : 3 ≤ mostFrames limit) {r : Reader} (claim : Claim pass limit r) where
   abbrev keeps : Keeps pass r threeRows fr choice
-  keeps = claim threeRows 3 accepted choice
+  keeps = claim threeRows 3 (accepted limit few) choice
 
   first-is : r .row threeRows 0 ≡ newerAtRow 0
   first-is = keeps .rows 0 (omega (arith, three)) .place (row (record { 0 = 0 })) (first-met pass)
@@ -74,20 +85,20 @@ says : (m : ℕ) → SaysNewer 10 (newerAtRow m)
 says m = record { family-is = refl; number-is = refl }
 
 -- THE FOUR
-pub not-all-newer : (pass : Pass) → Claim pass allNewer → ⊥
-not-all-newer pass c = second-is-not c (says 1)
+pub not-all-newer : (pass : Pass) (limit : ℕ) → 3 ≤ mostFrames limit → Claim pass limit allNewer → ⊥
+not-all-newer pass limit few c = second-is-not limit few c (says 1)
 
-module _ (pass : Pass) (r : Reader) where
-  pub not-before-reading : Claim pass (newerBeforeReading r) → ⊥
-  not-before-reading c = second-is-not c (rw holds (says 1))
+module _ (pass : Pass) (limit : ℕ) (few : 3 ≤ mostFrames limit) (r : Reader) where
+  pub not-before-reading : Claim pass limit (newerBeforeReading r) → ⊥
+  not-before-reading c = second-is-not limit few c (rw holds (says 1))
 
-  pub not-as-another : Claim pass (newerAsAnother r) → ⊥
+  pub not-as-another : Claim pass limit (newerAsAnother r) → ⊥
   not-as-another c =
-      let e : r .row threeRows 0 ≡ newerAtRow 0 = first-is c in
-      second-is-not c (rw e (says 0))
+      let e : r .row threeRows 0 ≡ newerAtRow 0 = first-is limit few c in
+      second-is-not limit few c (rw e (says 0))
 
-  pub not-at-itself : Claim pass (newerAtItself r) → ⊥
-  not-at-itself c = go (isNewer (r .row threeRows 2)) refl (third-is c)
+  pub not-at-itself : Claim pass limit (newerAtItself r) → ⊥
+  not-at-itself c = go (isNewer (r .row threeRows 2)) refl (third-is limit few c)
     where
       go : (b : Bool) → isNewer (r .row threeRows 2) ≡ b → cond b (newerAtRow 2) (r .row threeRows 2) ≡ newerAtRow 0 → ⊥
       go true q e = let z : _≡_ {A = ℕ} 2 0 = ap (λ (l : List ℕ). getD l 2 0) e in omega arith

@@ -34,12 +34,12 @@ abbrev pub standsAt : List ℕ → ℕ → ℕ
 standsAt t m = m + composesBelow (decoded t (lineCount t)) m
 
 -- a row's answer stands there, and a compose's verdict after it
-abbrev pub byBuffer : Pass → (frames answers : List ℕ → List ℕ) → Reader
-byBuffer pass frames answers =
+abbrev pub byBuffer : Pass → ℕ → (frames answers : List ℕ → List ℕ) → Reader
+byBuffer pass limit frames answers =
     record {
-      row = λ t m. bytesOf (frameAt (answersAfter pass t (length (frames t)) (answers t)) (standsAt t m));
-      verdict = λ t m. bytesOf (frameAt (answersAfter pass t (length (frames t)) (answers t)) (standsAt t m + 1));
-      same = λ t a b. saidBytes (samenessSaid (sameTypes t (length (frames t)) a b));
+      row = λ t m. bytesOf (frameAt (answersAfter pass limit t (length (frames t)) (answers t)) (standsAt t m));
+      verdict = λ t m. bytesOf (frameAt (answersAfter pass limit t (length (frames t)) (answers t)) (standsAt t m + 1));
+      same = λ t a b. saidBytes (samenessSaid (sameTypes limit t (length (frames t)) a b));
     }
 
 -- BY WHAT `row_type` AND `compose_verdict` GIVE; a row that the file does not have, or that is no compose, is number 6, place 0
@@ -55,10 +55,10 @@ verdictGivenBytes m noCompose = bytesOf (refusedFrame (at 6 0))
 verdictGivenBytes m Typing.VerdictGiven.noRow = bytesOf (refusedFrame (at 6 0))
 verdictGivenBytes m (Typing.VerdictGiven.notAccepted o) = bytesOf (outcomeFrame o)
 
-abbrev pub byRow : Pass → (frames answers : List ℕ → List ℕ) → Reader
-byRow pass frames answers =
+abbrev pub byRow : Pass → ℕ → (frames answers : List ℕ → List ℕ) → Reader
+byRow pass limit frames answers =
     record {
-      row = λ t m. rowGivenBytes (rowType pass t (length (frames t)) (length (answers t)) (record { 0 = m }));
-      verdict = λ t m. verdictGivenBytes m (composeVerdict pass t (length (frames t)) (length (answers t)) (record { 0 = m }));
-      same = λ t a b. saidBytes (samenessSaid (sameTypes t (length (frames t)) a b));
+      row = λ t m. rowGivenBytes (rowType pass limit t (length (frames t)) (length (answers t)) (record { 0 = m }));
+      verdict = λ t m. verdictGivenBytes m (composeVerdict pass limit t (length (frames t)) (length (answers t)) (record { 0 = m }));
+      same = λ t a b. saidBytes (samenessSaid (sameTypes limit t (length (frames t)) a b));
     }

@@ -91,13 +91,13 @@ pub record Keeps (pass : Pass) (r : Reader) (t fr : List ℕ) (choice : Choice) 
   pub same : (a b : Frame) → let rule = handed (typeAnswerOf a) (typeAnswerOf b) in
       Kept 10 (λ p. comparedBytes (newer p)) (meets pass fr 0 rule) (r .same t a b) (comparedBytes (theirs pass fr choice 0 (choice .same a b) rule))
 
--- a text is accepted, with n frames, where the lent buffers are as large as it asks for
-abbrev pub IsAccepted : List ℕ → ℕ → Type 0
-IsAccepted t n = readFile t (16 * lineCount t) (Lent (answerBytes t)) ≡ Accepted n
+-- a text is accepted within a limit, with n frames, where the lent buffers are as large as it asks for
+abbrev pub IsAccepted : ℕ → List ℕ → ℕ → Type 0
+IsAccepted limit t n = readFile limit t (16 * lineCount t) (Lent (answerBytes t)) ≡ Accepted n
 
 -- THE CLAIM of a reader: for every accepted text and every choice
-abbrev pub Claim : Pass → Reader → Type 0
-Claim pass r = (t : List ℕ) (n : ℕ) → IsAccepted t n → (choice : Choice) → Keeps pass r t (decoded t n) choice
+abbrev pub Claim : Pass → ℕ → Reader → Type 0
+Claim pass limit r = (t : List ℕ) (n : ℕ) → IsAccepted limit t n → (choice : Choice) → Keeps pass r t (decoded t n) choice
 
 -- two readers give the same bytes for a text whose frames these are
 pub record Agree (r s : Reader) (t fr : List ℕ) : Type 0 where
