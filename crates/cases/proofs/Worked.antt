@@ -10,7 +10,7 @@ use Rattle.text.specs.declared.AnswerRoom.{AnswerRoom}
 use Rattle.text.specs.declared.AnswerRoom.the-variants.{NotLent, Lent}
 use Rattle.text.specs.Hex.{digitValue, digitOf}
 use Rattle.text.specs.Lines.{lineOk, byteOf, charOf}
-use Rattle.text.specs.Reading.{answerFrames, tooShort, readText}
+use Rattle.text.specs.Reading.{answerFrames, tooShort, mostFrames, readText}
 use Rattle.frames.specs.Bytes.{frameAt}
 use Rattle.frames.specs.Forms.{typeOf, itemOf, rowOf, memberOf, componentOf, fieldsFit}
 use Rattle.archive.specs.Order.{orderOk}
@@ -37,16 +37,16 @@ Output = Answered × List ℕ
 
 -- what is answered, by `reader`'s definitions, which the contracts of the public functions cite
 abbrev answered : Case → Asked → Answered
-answered c print = printed (typedText First (c .text))
-answered c (types an) = typesAre (readFile (c .text) (length (c .lent)) (Lent (length an))) (answersAfter First (c .text) (length (c .lent)) an)
+answered c print = printed (typedText First 1024 (c .text))
+answered c (types an) = typesAre (readFile 1024 (c .text) (length (c .lent)) (Lent (length an))) (answersAfter First 1024 (c .text) (length (c .lent)) an)
 answered c (row n an) =
-    rowIs (rowType First (c .text) (length (c .lent)) (length an) (record { 0 = n })) (answersAfterRow First (c .text) (length (c .lent)) an (record { 0 = n }))
+    rowIs (rowType First 1024 (c .text) (length (c .lent)) (length an) (record { 0 = n })) (answersAfterRow First 1024 (c .text) (length (c .lent)) an (record { 0 = n }))
 answered c (verdict n an) =
-    verdictIs (composeVerdict First (c .text) (length (c .lent)) (length an) (record { 0 = n })) (answersAfterVerdict First (c .text) (length (c .lent)) an (record { 0 = n }))
-answered c read = outcome (readFile (c .text) (length (c .lent)) NotLent)
-answered c (same l r) = sameness (sameTypes (c .text) (length (c .lent)) l r)
-answered c (canonical n) = canonicalIs (canonicalType (c .text) (length (c .lent)) (record { 0 = n }))
-answered c (base n) = baseIs (pointerBaseType (c .text) (length (c .lent)) (record { 0 = n }))
+    verdictIs (composeVerdict First 1024 (c .text) (length (c .lent)) (length an) (record { 0 = n })) (answersAfterVerdict First 1024 (c .text) (length (c .lent)) an (record { 0 = n }))
+answered c read = outcome (readFile 1024 (c .text) (length (c .lent)) NotLent)
+answered c (same l r) = sameness (sameTypes 1024 (c .text) (length (c .lent)) l r)
+answered c (canonical n) = canonicalIs (canonicalType 1024 (c .text) (length (c .lent)) (record { 0 = n }))
+answered c (base n) = baseIs (pointerBaseType 1024 (c .text) (length (c .lent)) (record { 0 = n }))
 
 -- the answer buffer lent
 abbrev roomOf : Asked → AnswerRoom
@@ -61,11 +61,11 @@ roomOf (base n) = NotLent
 
 -- and the frame buffer after it
 abbrev given : Case → Output
-given c = (answered c (c .asked), framesAfter (c .text) (c .lent) (roomOf (c .asked)))
+given c = (answered c (c .asked), framesAfter 1024 (c .text) (c .lent) (roomOf (c .asked)))
 
 abbrev wanted : Case → Output
 wanted c = (c .answer, c .after)
 
 worked : map given table ≡ map wanted table
-unfolding lowest allBelow build sumBelow digitValue lineOk byteOf answerFrames tooShort readText frameAt typeOf itemOf rowOf memberOf componentOf fieldsFit orderOk start startsOf namesOk earlyOk indexOk checkFrames readFile framesAfter listed typeIn equalTypes identical sameIn sameType sameTypes canonicalTypeIn pointerBaseIn canonicalType pointerBaseType rowIn eachPart vectorParts outputs framesBytes digitOf charOf answersAfter rowType answersAfterRow composeVerdict answersAfterVerdict typedText
+unfolding lowest allBelow build sumBelow digitValue lineOk byteOf answerFrames tooShort mostFrames readText frameAt typeOf itemOf rowOf memberOf componentOf fieldsFit orderOk start startsOf namesOk earlyOk indexOk checkFrames readFile framesAfter listed typeIn equalTypes identical sameIn sameType sameTypes canonicalTypeIn pointerBaseIn canonicalType pointerBaseType rowIn eachPart vectorParts outputs framesBytes digitOf charOf answersAfter rowType answersAfterRow composeVerdict answersAfterVerdict typedText
 worked = refl

@@ -276,7 +276,7 @@ table =
     -- MORE: the buffers of the empty file, of the array and of the 1,025 lines
     ∷ record { text = []; lent = 7 ∷ []; asked = read; answer = outcome (Accepted 0); after = 7 ∷ [] }
     ∷ record { text = lines noCount; lent = replicate 33 7; asked = read; answer = outcome (Field 1); after = frames noCount ++ 7 ∷ [] }
-    ∷ record { text = lines (replicate 1025 "01010000020400000000000000000000"); lent = 7 ∷ []; asked = read; answer = outcome Long; after = 7 ∷ [] }
+    ∷ record { text = lines (replicate 1025 "01010000020400000000000000000000"); lent = 7 ∷ []; asked = read; answer = outcome (Long 1024); after = 7 ∷ [] }
     -- rows over buffers that are lent: all, one, and one compose; a row that the file does not have, and one that is no compose, leave the answer buffer
     ∷ ofComposes (types (replicate 97 9)) (typesAre (Accepted 11) (frames composed ++ 9 ∷ []))
     ∷ ofComposes (row 3 (replicate 97 9)) (rowIs (RowGiven.answer (told (given (number (record { 0 = 2 }))))) (frames composed ++ 9 ∷ []))

@@ -7,7 +7,7 @@ use Rattle.scan.specs.Lowest.{lowest, allBelow}
 use Rattle.scan.specs.Lists.{build, sumBelow}
 use Rattle.text.specs.Hex.{digitValue, digitOf}
 use Rattle.text.specs.Lines.{lineOk, byteOf, charOf}
-use Rattle.text.specs.Reading.{answerFrames, tooShort, readText}
+use Rattle.text.specs.Reading.{answerFrames, tooShort, mostFrames, readText}
 use Rattle.frames.specs.Bytes.{frameAt}
 use Rattle.frames.specs.Forms.{typeOf, itemOf, rowOf, memberOf, componentOf, fieldsFit}
 use Rattle.archive.specs.Order.{orderOk}
@@ -38,5 +38,5 @@ abbrev wanted : Case → List ℕ × ℕ
 wanted c = (lines (c .said), length (lines (c .said)))
 
 worked : map given table ≡ map wanted table
-unfolding lowest allBelow build sumBelow digitValue lineOk byteOf answerFrames tooShort readText frameAt typeOf itemOf rowOf memberOf componentOf fieldsFit orderOk start startsOf namesOk earlyOk indexOk checkFrames readFile listed typeIn equalTypes identical sameIn sameType canonicalTypeIn pointerBaseIn rowIn eachPart vectorParts outputs framesBytes digitOf charOf wordBytes W.table digits pieceBytes spelled picked names named scalarWords around vector brief within pointer array cooperative className arrayedName image whole manner refusal judged said shown ending lineOf faultWords joined fitting nextRow rowAt linesOf
+unfolding lowest allBelow build sumBelow digitValue lineOk byteOf answerFrames tooShort mostFrames readText frameAt typeOf itemOf rowOf memberOf componentOf fieldsFit orderOk start startsOf namesOk earlyOk indexOk checkFrames readFile listed typeIn equalTypes identical sameIn sameType canonicalTypeIn pointerBaseIn rowIn eachPart vectorParts outputs framesBytes digitOf charOf wordBytes W.table digits pieceBytes spelled picked names named scalarWords around vector brief within pointer array cooperative className arrayedName image whole manner refusal judged said shown ending lineOf faultWords joined fitting nextRow rowAt linesOf
 worked = refl

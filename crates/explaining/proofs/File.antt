@@ -13,7 +13,7 @@ use Rattle.reader.proofs.Typed.{handed-over, largest}
 use Rattle.explaining.specs.Explained.{faultLines, answerLines, fileLines, linesOf}
 
 -- after a call of `type_file` with buffers of the largest sizes
-module _ {t fr an last out : List ℕ} {r : TypedFile} (h : HandsBack First t fr an r last out) (ef : length fr ≡ 16384) (ea : length an ≡ 32768) where
+module _ {t fr an last out : List ℕ} {r : TypedFile} (h : HandsBack First 1024 t fr an r last out) (ef : length fr ≡ 16384) (ea : length an ≡ 32768) where
   pub refused-lines : framesIn (r .outcome) ≡ Ou.None → faultLines (r .outcome) ≡ linesOf t
   unfolding linesOf
   refused-lines en = refused-over faultLines fileLines t (r .outcome) en ∙ ap (overFile faultLines fileLines t) (largest h ef ea)

@@ -31,14 +31,14 @@ fault-fits o = omega (arith, joined-long (faultLines o .line) 1 (λ k. fault-lon
 
 pub explained-fits : (t : List ℕ) → length (explained t) ≤ 290816
 unfolding linesOf
-explained-fits t = go (readFile t 16384 (Lent 32768)) refl
+explained-fits t = go (readFile 1024 t 16384 (Lent 32768)) refl
   where
-    go : (o : Outcome) → readFile t 16384 (Lent 32768) ≡ o → length (allOf (overFile faultLines fileLines t o)) ≤ 290816
+    go : (o : Outcome) → readFile 1024 t 16384 (Lent 32768) ≡ o → length (allOf (overFile faultLines fileLines t o)) ≤ 290816
     go (Accepted n) e =
         let fr = decoded t n in
         let an = outputBytes First fr in
-        omega (arith, joined-long (lineAt fr an) (frameCount an) (λ k. line-long fr (rowAt an k) (frameAt an k)), few-outputs First t 16384 32768 n e)
-    go Long e = fault-fits Long
+        omega (arith, joined-long (lineAt fr an) (frameCount an) (λ k. line-long fr (rowAt an k) (frameAt an k)), few-outputs First 1024 t 16384 32768 n e)
+    go (Long m) e = fault-fits (Long m)
     go (Torn k) e = fault-fits (Torn k)
     go Short e = fault-fits Short
     go (Order k) e = fault-fits (Order k)

@@ -74,7 +74,7 @@ faultLines o = record { count = 1; line = λ (k : ℕ). faultOf (outcomeFrame o)
 
 -- those of a text, with buffers of the largest sizes that a file asks for
 unfoldable pub linesOf : List ℕ → Lines
-linesOf t = overFile faultLines fileLines t (readFile t 16384 (Lent 32768))
+linesOf t = overFile faultLines fileLines t (readFile 1024 t 16384 (Lent 32768))
 
 -- THE TEXT for people
 abbrev pub explained : List ℕ → List ℕ

@@ -75,7 +75,7 @@ fn explain_with(
     requires { ⌜ (length (now frames) ≡ 16384) × (length (now answers) ≡ 32768) × (length (now line) ≡ 1056) ⌝ }
     ensures { λ r. ⌜ Shown (linesOf (now (text .entry))) (now (out .entry)) r (now (out .exit)) ⌝ }
 {
-    let typed = type_file(Pass::First, text, frames, answers);
+    let typed = type_file(Pass::First, 1024, text, frames, answers);
     let read = typed.outcome;
     match frames_in(read) {
         OptionUsize::None => explain_fault(read, line, out),

@@ -16,9 +16,9 @@ ghost use Rattle.reader.specs.Typing.{typedText, linesIn};
 // The same over lent buffers of the largest sizes that a file asks for.
 fn type_lines(text: &[u8], frames: &mut [u8], answers: &mut [u8], out: &mut [u8]) -> usize
     requires { ⌜ (length (now frames) ≡ 16384) × (length (now answers) ≡ 32768) ⌝ }
-    ensures { λ r. ⌜ (r ≡ linesIn First (now (text .entry)) (length (now (out .entry)))) × (now (out .exit) ≡ take r (typedText First (now (text .entry))) ++ drop r (now (out .entry))) ⌝ }
+    ensures { λ r. ⌜ (r ≡ linesIn First 1024 (now (text .entry)) (length (now (out .entry)))) × (now (out .exit) ≡ take r (typedText First 1024 (now (text .entry))) ++ drop r (now (out .entry))) ⌝ }
 {
-    let typed = type_file(Pass::First, text, frames, answers);
+    let typed = type_file(Pass::First, 1024, text, frames, answers);
     let read = typed.outcome;
     match frames_in(read) {
         OptionUsize::None => {
@@ -35,7 +35,7 @@ fn type_lines(text: &[u8], frames: &mut [u8], answers: &mut [u8], out: &mut [u8]
 // Types a file and writes the lines of what is handed back, as many whole ones as there is room for; gives how many bytes are written. 67,584 bytes are room
 // for any file's.
 pub fn type_text(text: &[u8], out: &mut [u8]) -> usize
-    ensures { λ r. ⌜ (r ≡ linesIn First (now (text .entry)) (length (now (out .entry)))) × (now (out .exit) ≡ take r (typedText First (now (text .entry))) ++ drop r (now (out .entry))) ⌝ }
+    ensures { λ r. ⌜ (r ≡ linesIn First 1024 (now (text .entry)) (length (now (out .entry)))) × (now (out .exit) ≡ take r (typedText First 1024 (now (text .entry))) ++ drop r (now (out .entry))) ⌝ }
 {
     let mut frames = [0u8; 16384];
     let mut answers = [0u8; 32768];

@@ -159,10 +159,10 @@ fn judge_one(pass: Pass, frames: &[u8], answers: &mut [u8], row: RowNumber) -> C
 
 // Types every row of a file by the rules of a pass, and judges every compose over those answers. The frame buffer is as `read_file` leaves it; of an accepted file the answers and verdicts, 16 bytes each, stand
 // at the front of the answer buffer, and its bytes past them stay. Of a file that is not accepted nothing is handed back.
-pub fn type_file(pass: Pass, text: &[u8], frames: &mut [u8], answers: &mut [u8]) -> TypedFile
-    ensures { λ r. ⌜ HandsBack pass (now (text .entry)) (now (frames .entry)) (now (answers .entry)) r (now (frames .exit)) (now (answers .exit)) ⌝ }
+pub fn type_file(pass: Pass, limit: u32, text: &[u8], frames: &mut [u8], answers: &mut [u8]) -> TypedFile
+    ensures { λ r. ⌜ HandsBack pass limit (now (text .entry)) (now (frames .entry)) (now (answers .entry)) r (now (frames .exit)) (now (answers .exit)) ⌝ }
 {
-    let read = read_with(text, frames, AnswerRoom::Lent(answers.len()));
+    let read = read_with(limit, text, frames, AnswerRoom::Lent(answers.len()));
     match frames_in(read) {
         OptionUsize::None => TypedFile {
             outcome: read,
@@ -180,18 +180,18 @@ pub fn type_file(pass: Pass, text: &[u8], frames: &mut [u8], answers: &mut [u8])
 }
 
 // The same, where the outcome is enough: how many frames are handed back is known from the file.
-pub fn type_rows(pass: Pass, text: &[u8], frames: &mut [u8], answers: &mut [u8]) -> Outcome
-    ensures { λ r. ⌜ (r ≡ readFile (now (text .entry)) (length (now (frames .entry))) (Lent (length (now (answers .entry))))) × (now (frames .exit) ≡ framesAfter (now (text .entry)) (now (frames .entry)) (Lent (length (now (answers .entry))))) × (now (answers .exit) ≡ answersAfter pass (now (text .entry)) (length (now (frames .entry))) (now (answers .entry))) ⌝ }
+pub fn type_rows(pass: Pass, limit: u32, text: &[u8], frames: &mut [u8], answers: &mut [u8]) -> Outcome
+    ensures { λ r. ⌜ (r ≡ readFile limit (now (text .entry)) (length (now (frames .entry))) (Lent (length (now (answers .entry))))) × (now (frames .exit) ≡ framesAfter limit (now (text .entry)) (now (frames .entry)) (Lent (length (now (answers .entry))))) × (now (answers .exit) ≡ answersAfter pass limit (now (text .entry)) (length (now (frames .entry))) (now (answers .entry))) ⌝ }
 {
-    let typed = type_file(pass, text, frames, answers);
+    let typed = type_file(pass, limit, text, frames, answers);
     typed.outcome
 }
 
 // The answer of one row, with the buffers as `type_rows` leaves them. The answer buffer is unchanged where the file does not have the row.
-pub fn row_type(pass: Pass, text: &[u8], frames: &mut [u8], answers: &mut [u8], row: RowNumber) -> RowType
-    ensures { λ r. ⌜ (toGiven r ≡ rowType pass (now (text .entry)) (length (now (frames .entry))) (length (now (answers .entry))) row) × (now (frames .exit) ≡ framesAfter (now (text .entry)) (now (frames .entry)) (Lent (length (now (answers .entry))))) × (now (answers .exit) ≡ answersAfterRow pass (now (text .entry)) (length (now (frames .entry))) (now (answers .entry)) row) ⌝ }
+pub fn row_type(pass: Pass, limit: u32, text: &[u8], frames: &mut [u8], answers: &mut [u8], row: RowNumber) -> RowType
+    ensures { λ r. ⌜ (toGiven r ≡ rowType pass limit (now (text .entry)) (length (now (frames .entry))) (length (now (answers .entry))) row) × (now (frames .exit) ≡ framesAfter limit (now (text .entry)) (now (frames .entry)) (Lent (length (now (answers .entry))))) × (now (answers .exit) ≡ answersAfterRow pass limit (now (text .entry)) (length (now (frames .entry))) (now (answers .entry)) row) ⌝ }
 {
-    let read = read_with(text, frames, AnswerRoom::Lent(answers.len()));
+    let read = read_with(limit, text, frames, AnswerRoom::Lent(answers.len()));
     match frames_in(read) {
         OptionUsize::None => RowType::NotAccepted(read),
         OptionUsize::Some(n) => {
@@ -204,14 +204,15 @@ pub fn row_type(pass: Pass, text: &[u8], frames: &mut [u8], answers: &mut [u8], 
 // The verdict on one compose, with the buffers as `type_rows` leaves them. The answer buffer is unchanged where the file has no such row, or the row is no compose.
 pub fn compose_verdict(
     pass: Pass,
+    limit: u32,
     text: &[u8],
     frames: &mut [u8],
     answers: &mut [u8],
     row: RowNumber,
 ) -> ComposeVerdict
-    ensures { λ r. ⌜ (toVerdict r ≡ composeVerdict pass (now (text .entry)) (length (now (frames .entry))) (length (now (answers .entry))) row) × (now (frames .exit) ≡ framesAfter (now (text .entry)) (now (frames .entry)) (Lent (length (now (answers .entry))))) × (now (answers .exit) ≡ answersAfterVerdict pass (now (text .entry)) (length (now (frames .entry))) (now (answers .entry)) row) ⌝ }
+    ensures { λ r. ⌜ (toVerdict r ≡ composeVerdict pass limit (now (text .entry)) (length (now (frames .entry))) (length (now (answers .entry))) row) × (now (frames .exit) ≡ framesAfter limit (now (text .entry)) (now (frames .entry)) (Lent (length (now (answers .entry))))) × (now (answers .exit) ≡ answersAfterVerdict pass limit (now (text .entry)) (length (now (frames .entry))) (now (answers .entry)) row) ⌝ }
 {
-    let read = read_with(text, frames, AnswerRoom::Lent(answers.len()));
+    let read = read_with(limit, text, frames, AnswerRoom::Lent(answers.len()));
     match frames_in(read) {
         OptionUsize::None => ComposeVerdict::NotAccepted(read),
         OptionUsize::Some(n) => {

@@ -1,6 +1,6 @@
 -- What the exported functions rest on: an out-slice that is too small changes nothing, and a number handed in that has more than 16 bits is out of range, since a file has at
 -- most 1,024 frames. From the laws of reading a file. Assumes nothing.
-use Prim.Native.Nat.{ℕ, _≤_, _<_, min}
+use Prim.Native.Nat.{ℕ, _*_, _≤_, _<_, min}
 use native.Mathlib.Decide.{decLe}
 use native.Mathlib.Omega.{arith}
 use mathlib.Core.Path.{_≡_, refl, sym, ap, _∙_}
@@ -19,7 +19,7 @@ use Rattle.answers.specs.declared.PointerBase.the-variants as Pb
 use Rattle.text.specs.declared.AnswerRoom.{AnswerRoom}
 use Rattle.text.specs.declared.AnswerRoom.the-variants.{NotLent, Lent}
 use Rattle.text.specs.Lines.{lineOk, lineCount, decoded}
-use Rattle.text.specs.Reading.{afterTorn, tooShort, readText}
+use Rattle.text.specs.Reading.{mostFrames, afterTorn, tooShort, readText}
 use Rattle.text.proofs.Laws.{count-small}
 use Rattle.frames.specs.declared.Frame.{Frame}
 use Rattle.frames.specs.Bytes.{frameCount, putFrame}
@@ -52,9 +52,9 @@ unfolding putFrame
 not-put out f h = rw (le-ltb 0 (frameCount out) (omega arith))
 
 -- numbers 1 and 2 do not depend on what is lent
-pub any-room : (t : List ℕ) (f : ℕ) (room : AnswerRoom) → noRoom t ≡ shortNumber (readText t f room)
+pub any-room : (limit : ℕ) (t : List ℕ) (f : ℕ) (room : AnswerRoom) → noRoom limit t ≡ shortNumber (readText limit t f room)
 unfolding noRoom readText
-any-room t f room = by-long (ltb 33792 (length t)) (lowest (lineOk t) (lineCount t)) (tooShort t 0 NotLent) (tooShort t f room)
+any-room limit t f room = by-long (ltb (33 * mostFrames limit) (length t)) (lowest (lineOk t) (lineCount t)) (tooShort t 0 NotLent) (tooShort t f room)
   where
     short : (a b : Bool) (n : ℕ) → shortNumber (cond a Short (Accepted n)) ≡ shortNumber (cond b Short (Accepted n))
     short true true n = refl
@@ -68,7 +68,7 @@ any-room t f room = by-long (ltb 33792 (length t)) (lowest (lineOk t) (lineCount
     by-torn Fo.Nothing a b = short a b (lineCount t)
 
     by-long : (l : Bool) (k : Found) (a b : Bool)
-        → shortNumber (cond l Long (afterTorn k (cond a Short (Accepted (lineCount t))))) ≡ shortNumber (cond l Long (afterTorn k (cond b Short (Accepted (lineCount t)))))
+        → shortNumber (cond l (Long (mostFrames limit)) (afterTorn k (cond a Short (Accepted (lineCount t))))) ≡ shortNumber (cond l (Long (mostFrames limit)) (afterTorn k (cond b Short (Accepted (lineCount t)))))
     by-long true k a b = refl
     by-long false k a b = by-torn k a b
 
@@ -86,15 +86,15 @@ clamped-is g z h n k e = go (decLe 65535 n)
 over-same : {A : Type 0} (f : Outcome → A) (g h : List ℕ → A) (t : List ℕ) (o : Outcome) → ((n : ℕ) → o ≡ Accepted n → g (decoded t n) ≡ h (decoded t n))
     → overFile f g t o ≡ overFile f h t o
 over-same f g h t (Accepted n) e = e n refl
-over-same f g h t Long e = refl
+over-same f g h t (Long m) e = refl
 over-same f g h t (Torn k) e = refl
 over-same f g h t Short e = refl
 over-same f g h t (Order k) e = refl
 over-same f g h t (Field k) e = refl
 over-same f g h t (Index k) e = refl
 
-few : (t : List ℕ) (f : ℕ) (room : AnswerRoom) (n : ℕ) → readFile t f room ≡ Accepted n → frameCount (decoded t n) ≤ 1024
-few t f room n e = rw (count-decoded t n) (count-small (accepted-when t f room n .0 e .readable))
+few : (limit : ℕ) (t : List ℕ) (f : ℕ) (room : AnswerRoom) (n : ℕ) → readFile limit t f room ≡ Accepted n → frameCount (decoded t n) ≤ 1024
+few limit t f room n e = rw (count-decoded t n) (count-small (accepted-when limit t f room n .0 e .readable))
 
 no-row : (fr : List ℕ) (m : ℕ) → frameCount fr ≤ 1024 → 65535 ≤ m → isRow (startsOf fr) (record { 0 = m }) ≡ false
 no-row fr m h l = le-ltb m (rowCount (startsOf fr)) (omega (arith, starts-small fr 1024 h .1))
@@ -103,38 +103,38 @@ no-type : (fr : List ℕ) (m : ℕ) → frameCount fr ≤ 1024 → 65535 ≤ m �
 no-type fr m h l = le-ltb m (typeCount (startsOf fr)) (omega (arith, starts-small fr 1024 h .0))
 
 -- a row or a type of a number from 65,535 on is one that the file does not have
-module _ (pass : Pass) (t : List ℕ) (f a : ℕ) where
-  pub row-stray : (m : ℕ) → 65535 ≤ m → rowType pass t f a (record { 0 = m }) ≡ overFile RowGiven.notAccepted (λ (x : List ℕ). RowGiven.noRow) t (readFile t f (Lent a))
+module _ (pass : Pass) (limit : ℕ) (t : List ℕ) (f a : ℕ) where
+  pub row-stray : (m : ℕ) → 65535 ≤ m → rowType pass limit t f a (record { 0 = m }) ≡ overFile RowGiven.notAccepted (λ (x : List ℕ). RowGiven.noRow) t (readFile limit t f (Lent a))
   unfolding rowType
   row-stray m l =
-      over-same RowGiven.notAccepted (rowGiven pass (record { 0 = m })) (λ (x : List ℕ). RowGiven.noRow) t (readFile t f (Lent a))
-      (λ n e. ap (λ (b : Bool). cond b (RowGiven.answer (rowAnswer pass (see (decoded t n)) m)) RowGiven.noRow) (no-row (decoded t n) m (few t f (Lent a) n e) l))
+      over-same RowGiven.notAccepted (rowGiven pass (record { 0 = m })) (λ (x : List ℕ). RowGiven.noRow) t (readFile limit t f (Lent a))
+      (λ n e. ap (λ (b : Bool). cond b (RowGiven.answer (rowAnswer pass (see (decoded t n)) m)) RowGiven.noRow) (no-row (decoded t n) m (few limit t f (Lent a) n e) l))
 
-  pub row-clamped : (n k : ℕ) → k ≡ min n 65535 → rowType pass t f a (record { 0 = k }) ≡ rowType pass t f a (record { 0 = n })
-  row-clamped = clamped-is (λ (m : ℕ). rowType pass t f a (record { 0 = m })) _ row-stray
+  pub row-clamped : (n k : ℕ) → k ≡ min n 65535 → rowType pass limit t f a (record { 0 = k }) ≡ rowType pass limit t f a (record { 0 = n })
+  row-clamped = clamped-is (λ (m : ℕ). rowType pass limit t f a (record { 0 = m })) _ row-stray
 
-  given-stray : (m n : ℕ) → 65535 ≤ m → readFile t f (Lent a) ≡ Accepted n → verdictGiven pass (record { 0 = m }) (decoded t n) ≡ VerdictGiven.noRow
-  given-stray m n l e = ap (λ (b : Bool). cond b (orNoCompose (verdictOf pass (see (decoded t n)) m)) VerdictGiven.noRow) (no-row (decoded t n) m (few t f (Lent a) n e) l)
+  given-stray : (m n : ℕ) → 65535 ≤ m → readFile limit t f (Lent a) ≡ Accepted n → verdictGiven pass (record { 0 = m }) (decoded t n) ≡ VerdictGiven.noRow
+  given-stray m n l e = ap (λ (b : Bool). cond b (orNoCompose (verdictOf pass (see (decoded t n)) m)) VerdictGiven.noRow) (no-row (decoded t n) m (few limit t f (Lent a) n e) l)
 
-  pub verdict-stray : (m : ℕ) → 65535 ≤ m → composeVerdict pass t f a (record { 0 = m }) ≡ overFile VerdictGiven.notAccepted (λ (x : List ℕ). VerdictGiven.noRow) t (readFile t f (Lent a))
+  pub verdict-stray : (m : ℕ) → 65535 ≤ m → composeVerdict pass limit t f a (record { 0 = m }) ≡ overFile VerdictGiven.notAccepted (λ (x : List ℕ). VerdictGiven.noRow) t (readFile limit t f (Lent a))
   unfolding composeVerdict
   verdict-stray m l =
-      over-same VerdictGiven.notAccepted (verdictGiven pass (record { 0 = m })) (λ (x : List ℕ). VerdictGiven.noRow) t (readFile t f (Lent a)) (λ n e. given-stray m n l e)
+      over-same VerdictGiven.notAccepted (verdictGiven pass (record { 0 = m })) (λ (x : List ℕ). VerdictGiven.noRow) t (readFile limit t f (Lent a)) (λ n e. given-stray m n l e)
 
-  pub verdict-clamped : (n k : ℕ) → k ≡ min n 65535 → composeVerdict pass t f a (record { 0 = k }) ≡ composeVerdict pass t f a (record { 0 = n })
-  verdict-clamped = clamped-is (λ (m : ℕ). composeVerdict pass t f a (record { 0 = m })) _ verdict-stray
+  pub verdict-clamped : (n k : ℕ) → k ≡ min n 65535 → composeVerdict pass limit t f a (record { 0 = k }) ≡ composeVerdict pass limit t f a (record { 0 = n })
+  verdict-clamped = clamped-is (λ (m : ℕ). composeVerdict pass limit t f a (record { 0 = m })) _ verdict-stray
 
   -- no verdict is given of such a row, so its number stands in no frame
   frame-stray : (m : ℕ) → 65535 ≤ m
-      → verdictGivenFrame (record { 0 = m }) (composeVerdict pass t f a (record { 0 = m }))
-      ≡ verdictGivenFrame (record { 0 = 0 }) (overFile VerdictGiven.notAccepted (λ (x : List ℕ). VerdictGiven.noRow) t (readFile t f (Lent a)))
-  frame-stray m l = ap (verdictGivenFrame (record { 0 = m })) (verdict-stray m l) ∙ go (readFile t f (Lent a))
+      → verdictGivenFrame (record { 0 = m }) (composeVerdict pass limit t f a (record { 0 = m }))
+      ≡ verdictGivenFrame (record { 0 = 0 }) (overFile VerdictGiven.notAccepted (λ (x : List ℕ). VerdictGiven.noRow) t (readFile limit t f (Lent a)))
+  frame-stray m l = ap (verdictGivenFrame (record { 0 = m })) (verdict-stray m l) ∙ go (readFile limit t f (Lent a))
     where
       go : (o : Outcome)
           → verdictGivenFrame (record { 0 = m }) (overFile VerdictGiven.notAccepted (λ (x : List ℕ). VerdictGiven.noRow) t o)
           ≡ verdictGivenFrame (record { 0 = 0 }) (overFile VerdictGiven.notAccepted (λ (x : List ℕ). VerdictGiven.noRow) t o)
       go (Accepted n) = refl
-      go Long = refl
+      go (Long k) = refl
       go (Torn k) = refl
       go Short = refl
       go (Order k) = refl
@@ -142,43 +142,43 @@ module _ (pass : Pass) (t : List ℕ) (f a : ℕ) where
       go (Index k) = refl
 
   pub frame-clamped : (n k : ℕ) → k ≡ min n 65535
-      → verdictGivenFrame (record { 0 = k }) (composeVerdict pass t f a (record { 0 = k })) ≡ verdictGivenFrame (record { 0 = n }) (composeVerdict pass t f a (record { 0 = n }))
-  frame-clamped = clamped-is (λ (m : ℕ). verdictGivenFrame (record { 0 = m }) (composeVerdict pass t f a (record { 0 = m }))) _ frame-stray
+      → verdictGivenFrame (record { 0 = k }) (composeVerdict pass limit t f a (record { 0 = k })) ≡ verdictGivenFrame (record { 0 = n }) (composeVerdict pass limit t f a (record { 0 = n }))
+  frame-clamped = clamped-is (λ (m : ℕ). verdictGivenFrame (record { 0 = m }) (composeVerdict pass limit t f a (record { 0 = m }))) _ frame-stray
 
-module _ (pass : Pass) (t : List ℕ) (f : ℕ) (an : List ℕ) where
-  answers-stray : (m : ℕ) → 65535 ≤ m → answersAfterRow pass t f an (record { 0 = m }) ≡ overFile (λ (o : Outcome). an) (λ (x : List ℕ). an) t (readFile t f (Lent (length an)))
+module _ (pass : Pass) (limit : ℕ) (t : List ℕ) (f : ℕ) (an : List ℕ) where
+  answers-stray : (m : ℕ) → 65535 ≤ m → answersAfterRow pass limit t f an (record { 0 = m }) ≡ overFile (λ (o : Outcome). an) (λ (x : List ℕ). an) t (readFile limit t f (Lent (length an)))
   unfolding answersAfterRow
   answers-stray m l =
-      over-same (λ (o : Outcome). an) (λ (x : List ℕ). cond (isRow (startsOf x) (record { 0 = m })) (answersWritten pass an x) an) (λ (x : List ℕ). an) t (readFile t f (Lent (length an)))
-      (λ n e. ap (λ (b : Bool). cond b (answersWritten pass an (decoded t n)) an) (no-row (decoded t n) m (few t f (Lent (length an)) n e) l))
+      over-same (λ (o : Outcome). an) (λ (x : List ℕ). cond (isRow (startsOf x) (record { 0 = m })) (answersWritten pass an x) an) (λ (x : List ℕ). an) t (readFile limit t f (Lent (length an)))
+      (λ n e. ap (λ (b : Bool). cond b (answersWritten pass an (decoded t n)) an) (no-row (decoded t n) m (few limit t f (Lent (length an)) n e) l))
 
-  pub answers-clamped : (n k : ℕ) → k ≡ min n 65535 → answersAfterRow pass t f an (record { 0 = k }) ≡ answersAfterRow pass t f an (record { 0 = n })
-  answers-clamped = clamped-is (λ (m : ℕ). answersAfterRow pass t f an (record { 0 = m })) _ answers-stray
+  pub answers-clamped : (n k : ℕ) → k ≡ min n 65535 → answersAfterRow pass limit t f an (record { 0 = k }) ≡ answersAfterRow pass limit t f an (record { 0 = n })
+  answers-clamped = clamped-is (λ (m : ℕ). answersAfterRow pass limit t f an (record { 0 = m })) _ answers-stray
 
-  judged-stray : (m : ℕ) → 65535 ≤ m → answersAfterVerdict pass t f an (record { 0 = m }) ≡ overFile (λ (o : Outcome). an) (λ (x : List ℕ). an) t (readFile t f (Lent (length an)))
+  judged-stray : (m : ℕ) → 65535 ≤ m → answersAfterVerdict pass limit t f an (record { 0 = m }) ≡ overFile (λ (o : Outcome). an) (λ (x : List ℕ). an) t (readFile limit t f (Lent (length an)))
   unfolding answersAfterVerdict
   judged-stray m l =
-      over-same (λ (o : Outcome). an) (λ (x : List ℕ). ifJudged (answersWritten pass an x) an (verdictGiven pass (record { 0 = m }) x)) (λ (x : List ℕ). an) t (readFile t f (Lent (length an)))
-      (λ n e. ap (ifJudged (answersWritten pass an (decoded t n)) an) (given-stray pass t f (length an) m n l e))
+      over-same (λ (o : Outcome). an) (λ (x : List ℕ). ifJudged (answersWritten pass an x) an (verdictGiven pass (record { 0 = m }) x)) (λ (x : List ℕ). an) t (readFile limit t f (Lent (length an)))
+      (λ n e. ap (ifJudged (answersWritten pass an (decoded t n)) an) (given-stray pass limit t f (length an) m n l e))
 
-  pub judged-clamped : (n k : ℕ) → k ≡ min n 65535 → answersAfterVerdict pass t f an (record { 0 = k }) ≡ answersAfterVerdict pass t f an (record { 0 = n })
-  judged-clamped = clamped-is (λ (m : ℕ). answersAfterVerdict pass t f an (record { 0 = m })) _ judged-stray
+  pub judged-clamped : (n k : ℕ) → k ≡ min n 65535 → answersAfterVerdict pass limit t f an (record { 0 = k }) ≡ answersAfterVerdict pass limit t f an (record { 0 = n })
+  judged-clamped = clamped-is (λ (m : ℕ). answersAfterVerdict pass limit t f an (record { 0 = m })) _ judged-stray
 
-module _ (t : List ℕ) (f : ℕ) where
-  pub canonical-stray : (m : ℕ) → 65535 ≤ m → canonicalType t f (record { 0 = m }) ≡ overFile Ct.NotAccepted (λ (x : List ℕ). Ct.Index) t (readFile t f NotLent)
+module _ (limit : ℕ) (t : List ℕ) (f : ℕ) where
+  pub canonical-stray : (m : ℕ) → 65535 ≤ m → canonicalType limit t f (record { 0 = m }) ≡ overFile Ct.NotAccepted (λ (x : List ℕ). Ct.Index) t (readFile limit t f NotLent)
   unfolding canonicalType canonicalTypeIn
   canonical-stray m l =
-      over-same Ct.NotAccepted (λ (x : List ℕ). canonicalTypeIn x (startsOf x) (record { 0 = m })) (λ (x : List ℕ). Ct.Index) t (readFile t f NotLent)
-      (λ n e. let x = decoded t n in ap (λ (b : Bool). cond b (canonicalOfForm x (startsOf x) (record { 0 = m }) (typeIn x (startsOf x) (record { 0 = m }))) Ct.Index) (no-type x m (few t f NotLent n e) l))
+      over-same Ct.NotAccepted (λ (x : List ℕ). canonicalTypeIn x (startsOf x) (record { 0 = m })) (λ (x : List ℕ). Ct.Index) t (readFile limit t f NotLent)
+      (λ n e. let x = decoded t n in ap (λ (b : Bool). cond b (canonicalOfForm x (startsOf x) (record { 0 = m }) (typeIn x (startsOf x) (record { 0 = m }))) Ct.Index) (no-type x m (few limit t f NotLent n e) l))
 
-  pub canonical-clamped : (n k : ℕ) → k ≡ min n 65535 → canonicalType t f (record { 0 = k }) ≡ canonicalType t f (record { 0 = n })
-  canonical-clamped = clamped-is (λ (m : ℕ). canonicalType t f (record { 0 = m })) _ canonical-stray
+  pub canonical-clamped : (n k : ℕ) → k ≡ min n 65535 → canonicalType limit t f (record { 0 = k }) ≡ canonicalType limit t f (record { 0 = n })
+  canonical-clamped = clamped-is (λ (m : ℕ). canonicalType limit t f (record { 0 = m })) _ canonical-stray
 
-  pub base-stray : (m : ℕ) → 65535 ≤ m → pointerBaseType t f (record { 0 = m }) ≡ overFile Pb.NotAccepted (λ (x : List ℕ). Pb.Index) t (readFile t f NotLent)
+  pub base-stray : (m : ℕ) → 65535 ≤ m → pointerBaseType limit t f (record { 0 = m }) ≡ overFile Pb.NotAccepted (λ (x : List ℕ). Pb.Index) t (readFile limit t f NotLent)
   unfolding pointerBaseType pointerBaseIn
   base-stray m l =
-      over-same Pb.NotAccepted (λ (x : List ℕ). pointerBaseIn x (startsOf x) (record { 0 = m })) (λ (x : List ℕ). Pb.Index) t (readFile t f NotLent)
-      (λ n e. let x = decoded t n in ap (λ (b : Bool). cond b (baseOfForm (typeIn x (startsOf x) (record { 0 = m }))) Pb.Index) (no-type x m (few t f NotLent n e) l))
+      over-same Pb.NotAccepted (λ (x : List ℕ). pointerBaseIn x (startsOf x) (record { 0 = m })) (λ (x : List ℕ). Pb.Index) t (readFile limit t f NotLent)
+      (λ n e. let x = decoded t n in ap (λ (b : Bool). cond b (baseOfForm (typeIn x (startsOf x) (record { 0 = m }))) Pb.Index) (no-type x m (few limit t f NotLent n e) l))
 
-  pub base-clamped : (n k : ℕ) → k ≡ min n 65535 → pointerBaseType t f (record { 0 = k }) ≡ pointerBaseType t f (record { 0 = n })
-  base-clamped = clamped-is (λ (m : ℕ). pointerBaseType t f (record { 0 = m })) _ base-stray
+  pub base-clamped : (n k : ℕ) → k ≡ min n 65535 → pointerBaseType limit t f (record { 0 = k }) ≡ pointerBaseType limit t f (record { 0 = n })
+  base-clamped = clamped-is (λ (m : ℕ). pointerBaseType limit t f (record { 0 = m })) _ base-stray

@@ -34,29 +34,29 @@ zeros-five s = refl
 wrong-five : (s : Starts) (l : List ℕ) → (length l ≡ 16 → ⊥) → faultOf s (typeAnswerOf (handedFrame l)) ≡ Fa.Field
 wrong-five s l h = ap (λ (f : Frame). faultOf s (typeAnswerOf f)) (zeros-for l h) ∙ zeros-five s
 
-module _ (t : List ℕ) (f n : ℕ) (e : readFile t f NotLent ≡ Accepted n) where
+module _ (limit : ℕ) (t : List ℕ) (f n : ℕ) (e : readFile limit t f NotLent ≡ Accepted n) where
   abbrev fr : List ℕ
   fr = decoded t n
 
   -- what is asked is asked of the file's frames
-  asked : (l r : Frame) → sameTypes t f l r ≡ samenessOf (sameIn fr (startsOf fr) l r)
+  asked : (l r : Frame) → sameTypes limit t f l r ≡ samenessOf (sameIn fr (startsOf fr) l r)
   unfolding sameTypes sameType
   asked l r = ap (overFile Sa.NotAccepted (λ (x : List ℕ). samenessOf (sameType x l r)) t) e
 
   -- whatever the right one is
-  pub wrong-left : (l : List ℕ) (r : Frame) → (length l ≡ 16 → ⊥) → sameTypes t f (handedFrame l) r ≡ Sa.Field
+  pub wrong-left : (l : List ℕ) (r : Frame) → (length l ≡ 16 → ⊥) → sameTypes limit t f (handedFrame l) r ≡ Sa.Field
   unfolding sameIn
   wrong-left l r h =
       asked (handedFrame l) r ∙ ap samenessOf (left-five fr (startsOf fr) (typeAnswerOf (handedFrame l)) (typeAnswerOf r) (wrong-five (startsOf fr) l h))
 
   -- whatever the right one is, of a wrong length too
-  pub stray-left : (l r : List ℕ) → faultOf (startsOf fr) (typeAnswerOf (handedFrame l)) ≡ Fa.Index → sameTypes t f (handedFrame l) (handedFrame r) ≡ Sa.Index
+  pub stray-left : (l r : List ℕ) → faultOf (startsOf fr) (typeAnswerOf (handedFrame l)) ≡ Fa.Index → sameTypes limit t f (handedFrame l) (handedFrame r) ≡ Sa.Index
   unfolding sameIn
   stray-left l r h =
       asked (handedFrame l) (handedFrame r) ∙ ap samenessOf (left-six fr (startsOf fr) (typeAnswerOf (handedFrame l)) (typeAnswerOf (handedFrame r)) h)
 
   -- where the left one gets neither 5 nor 6
-  pub wrong-right : (l : Frame) (r : List ℕ) → faultOf (startsOf fr) (typeAnswerOf l) ≡ Fa.Sound → (length r ≡ 16 → ⊥) → sameTypes t f l (handedFrame r) ≡ Sa.Field
+  pub wrong-right : (l : Frame) (r : List ℕ) → faultOf (startsOf fr) (typeAnswerOf l) ≡ Fa.Sound → (length r ≡ 16 → ⊥) → sameTypes limit t f l (handedFrame r) ≡ Sa.Field
   unfolding sameIn
   wrong-right l r s h =
       asked l (handedFrame r) ∙ ap samenessOf (right-five fr (startsOf fr) (typeAnswerOf l) (typeAnswerOf (handedFrame r)) s (wrong-five (startsOf fr) r h))

@@ -17,11 +17,11 @@ ghost use Rattle.exported.specs.Exported.{noRoom, byRoom, outcomeNumber};
 // Whether a file is accepted.
 #[no_mangle]
 pub extern "C" fn gelmusko_read_file(text: &[u8], frames: &mut [u8], out: &mut [u8]) -> u32
-    ensures { λ r. ⌜ (r ≡ byRoom (now (out .entry)) (noRoom (now (text .entry))) (outcomeNumber (readFile (now (text .entry)) (length (now (frames .entry))) NotLent))) × (now (frames .exit) ≡ byRoom (now (out .entry)) (now (frames .entry)) (framesAfter (now (text .entry)) (now (frames .entry)) NotLent)) × (now (out .exit) ≡ putFrame (now (out .entry)) 0 (outcomeFrame (readFile (now (text .entry)) (length (now (frames .entry))) NotLent))) ⌝ }
+    ensures { λ r. ⌜ (r ≡ byRoom (now (out .entry)) (noRoom 1024 (now (text .entry))) (outcomeNumber (readFile 1024 (now (text .entry)) (length (now (frames .entry))) NotLent))) × (now (frames .exit) ≡ byRoom (now (out .entry)) (now (frames .entry)) (framesAfter 1024 (now (text .entry)) (now (frames .entry)) NotLent)) × (now (out .exit) ≡ putFrame (now (out .entry)) 0 (outcomeFrame (readFile 1024 (now (text .entry)) (length (now (frames .entry))) NotLent))) ⌝ }
 {
     if out.len() < 16 {
-        return no_room(text);
+        return no_room(1024, text);
     }
-    let read = read_file(text, frames);
+    let read = read_file(1024, text, frames);
     put_outcome(out, read)
 }

@@ -27,12 +27,12 @@ pub extern "C" fn gelmusko_type_rows(
     answers: &mut [u8],
     out: &mut [u8],
 ) -> u32
-    ensures { λ r. ⌜ (r ≡ byRoom (now (out .entry)) (noRoom (now (text .entry))) (outcomeNumber (readFile (now (text .entry)) (length (now (frames .entry))) (Lent (length (now (answers .entry))))))) × (now (frames .exit) ≡ byRoom (now (out .entry)) (now (frames .entry)) (framesAfter (now (text .entry)) (now (frames .entry)) (Lent (length (now (answers .entry)))))) × (now (answers .exit) ≡ byRoom (now (out .entry)) (now (answers .entry)) (answersAfter First (now (text .entry)) (length (now (frames .entry))) (now (answers .entry)))) × (now (out .exit) ≡ putFrame (now (out .entry)) 0 (outcomeFrame (readFile (now (text .entry)) (length (now (frames .entry))) (Lent (length (now (answers .entry))))))) ⌝ }
+    ensures { λ r. ⌜ (r ≡ byRoom (now (out .entry)) (noRoom 1024 (now (text .entry))) (outcomeNumber (readFile 1024 (now (text .entry)) (length (now (frames .entry))) (Lent (length (now (answers .entry))))))) × (now (frames .exit) ≡ byRoom (now (out .entry)) (now (frames .entry)) (framesAfter 1024 (now (text .entry)) (now (frames .entry)) (Lent (length (now (answers .entry)))))) × (now (answers .exit) ≡ byRoom (now (out .entry)) (now (answers .entry)) (answersAfter First 1024 (now (text .entry)) (length (now (frames .entry))) (now (answers .entry)))) × (now (out .exit) ≡ putFrame (now (out .entry)) 0 (outcomeFrame (readFile 1024 (now (text .entry)) (length (now (frames .entry))) (Lent (length (now (answers .entry))))))) ⌝ }
 {
     if out.len() < 16 {
-        return no_room(text);
+        return no_room(1024, text);
     }
-    let read = type_rows(Pass::First, text, frames, answers);
+    let read = type_rows(Pass::First, 1024, text, frames, answers);
     put_outcome(out, read)
 }
 
@@ -45,12 +45,12 @@ pub extern "C" fn gelmusko_row_type(
     row: u32,
     out: &mut [u8],
 ) -> u32
-    ensures { λ r. ⌜ (r ≡ byRoom (now (out .entry)) (noRoom (now (text .entry))) (rowNumber (rowType First (now (text .entry)) (length (now (frames .entry))) (length (now (answers .entry))) (record { 0 = row })))) × (now (frames .exit) ≡ byRoom (now (out .entry)) (now (frames .entry)) (framesAfter (now (text .entry)) (now (frames .entry)) (Lent (length (now (answers .entry)))))) × (now (answers .exit) ≡ byRoom (now (out .entry)) (now (answers .entry)) (answersAfterRow First (now (text .entry)) (length (now (frames .entry))) (now (answers .entry)) (record { 0 = row }))) × (now (out .exit) ≡ putFrame (now (out .entry)) 0 (rowGivenFrame (rowType First (now (text .entry)) (length (now (frames .entry))) (length (now (answers .entry))) (record { 0 = row })))) ⌝ }
+    ensures { λ r. ⌜ (r ≡ byRoom (now (out .entry)) (noRoom 1024 (now (text .entry))) (rowNumber (rowType First 1024 (now (text .entry)) (length (now (frames .entry))) (length (now (answers .entry))) (record { 0 = row })))) × (now (frames .exit) ≡ byRoom (now (out .entry)) (now (frames .entry)) (framesAfter 1024 (now (text .entry)) (now (frames .entry)) (Lent (length (now (answers .entry)))))) × (now (answers .exit) ≡ byRoom (now (out .entry)) (now (answers .entry)) (answersAfterRow First 1024 (now (text .entry)) (length (now (frames .entry))) (now (answers .entry)) (record { 0 = row }))) × (now (out .exit) ≡ putFrame (now (out .entry)) 0 (rowGivenFrame (rowType First 1024 (now (text .entry)) (length (now (frames .entry))) (length (now (answers .entry))) (record { 0 = row })))) ⌝ }
 {
     if out.len() < 16 {
-        return no_room(text);
+        return no_room(1024, text);
     }
-    let given = row_type(Pass::First, text, frames, answers, RowNumber(clamped(row)));
+    let given = row_type(Pass::First, 1024, text, frames, answers, RowNumber(clamped(row)));
     put_row(out, given)
 }
 
@@ -63,12 +63,12 @@ pub extern "C" fn gelmusko_compose_verdict(
     row: u32,
     out: &mut [u8],
 ) -> u32
-    ensures { λ r. ⌜ (r ≡ byRoom (now (out .entry)) (noRoom (now (text .entry))) (verdictNumber (composeVerdict First (now (text .entry)) (length (now (frames .entry))) (length (now (answers .entry))) (record { 0 = row })))) × (now (frames .exit) ≡ byRoom (now (out .entry)) (now (frames .entry)) (framesAfter (now (text .entry)) (now (frames .entry)) (Lent (length (now (answers .entry)))))) × (now (answers .exit) ≡ byRoom (now (out .entry)) (now (answers .entry)) (answersAfterVerdict First (now (text .entry)) (length (now (frames .entry))) (now (answers .entry)) (record { 0 = row }))) × (now (out .exit) ≡ putFrame (now (out .entry)) 0 (verdictGivenFrame (record { 0 = row }) (composeVerdict First (now (text .entry)) (length (now (frames .entry))) (length (now (answers .entry))) (record { 0 = row })))) ⌝ }
+    ensures { λ r. ⌜ (r ≡ byRoom (now (out .entry)) (noRoom 1024 (now (text .entry))) (verdictNumber (composeVerdict First 1024 (now (text .entry)) (length (now (frames .entry))) (length (now (answers .entry))) (record { 0 = row })))) × (now (frames .exit) ≡ byRoom (now (out .entry)) (now (frames .entry)) (framesAfter 1024 (now (text .entry)) (now (frames .entry)) (Lent (length (now (answers .entry)))))) × (now (answers .exit) ≡ byRoom (now (out .entry)) (now (answers .entry)) (answersAfterVerdict First 1024 (now (text .entry)) (length (now (frames .entry))) (now (answers .entry)) (record { 0 = row }))) × (now (out .exit) ≡ putFrame (now (out .entry)) 0 (verdictGivenFrame (record { 0 = row }) (composeVerdict First 1024 (now (text .entry)) (length (now (frames .entry))) (length (now (answers .entry))) (record { 0 = row })))) ⌝ }
 {
     if out.len() < 16 {
-        return no_room(text);
+        return no_room(1024, text);
     }
     let n = clamped(row);
-    let given = compose_verdict(Pass::First, text, frames, answers, RowNumber(n));
+    let given = compose_verdict(Pass::First, 1024, text, frames, answers, RowNumber(n));
     put_verdict(out, RowNumber(n), given)
 }

@@ -28,14 +28,14 @@ pub extern "C" fn gelmusko_same_type(
     right: &[u8],
     out: &mut [u8],
 ) -> u32
-    ensures { λ r. ⌜ (r ≡ byRoom (now (out .entry)) (noRoom (now (text .entry))) (saidNumber (samenessSaid (sameTypes (now (text .entry)) (length (now (frames .entry))) (handedFrame (now (left .entry))) (handedFrame (now (right .entry))))))) × (now (frames .exit) ≡ byRoom (now (out .entry)) (now (frames .entry)) (framesAfter (now (text .entry)) (now (frames .entry)) NotLent)) × (now (out .exit) ≡ putFrame (now (out .entry)) 0 (saidFrame (samenessSaid (sameTypes (now (text .entry)) (length (now (frames .entry))) (handedFrame (now (left .entry))) (handedFrame (now (right .entry))))))) ⌝ }
+    ensures { λ r. ⌜ (r ≡ byRoom (now (out .entry)) (noRoom 1024 (now (text .entry))) (saidNumber (samenessSaid (sameTypes 1024 (now (text .entry)) (length (now (frames .entry))) (handedFrame (now (left .entry))) (handedFrame (now (right .entry))))))) × (now (frames .exit) ≡ byRoom (now (out .entry)) (now (frames .entry)) (framesAfter 1024 (now (text .entry)) (now (frames .entry)) NotLent)) × (now (out .exit) ≡ putFrame (now (out .entry)) 0 (saidFrame (samenessSaid (sameTypes 1024 (now (text .entry)) (length (now (frames .entry))) (handedFrame (now (left .entry))) (handedFrame (now (right .entry))))))) ⌝ }
 {
     if out.len() < 16 {
-        return no_room(text);
+        return no_room(1024, text);
     }
     let l = handed_frame(left);
     let r = handed_frame(right);
-    let given = same_type(text, frames, l, r);
+    let given = same_type(1024, text, frames, l, r);
     put_sameness(out, given)
 }
 
@@ -47,12 +47,12 @@ pub extern "C" fn gelmusko_canonical_form(
     n: u32,
     out: &mut [u8],
 ) -> u32
-    ensures { λ r. ⌜ (r ≡ byRoom (now (out .entry)) (noRoom (now (text .entry))) (typeSaidNumber (canonicalSaid (canonicalType (now (text .entry)) (length (now (frames .entry))) (record { 0 = n }))))) × (now (frames .exit) ≡ byRoom (now (out .entry)) (now (frames .entry)) (framesAfter (now (text .entry)) (now (frames .entry)) NotLent)) × (now (out .exit) ≡ putFrame (now (out .entry)) 0 (typeSaidFrame (canonicalSaid (canonicalType (now (text .entry)) (length (now (frames .entry))) (record { 0 = n }))))) ⌝ }
+    ensures { λ r. ⌜ (r ≡ byRoom (now (out .entry)) (noRoom 1024 (now (text .entry))) (typeSaidNumber (canonicalSaid (canonicalType 1024 (now (text .entry)) (length (now (frames .entry))) (record { 0 = n }))))) × (now (frames .exit) ≡ byRoom (now (out .entry)) (now (frames .entry)) (framesAfter 1024 (now (text .entry)) (now (frames .entry)) NotLent)) × (now (out .exit) ≡ putFrame (now (out .entry)) 0 (typeSaidFrame (canonicalSaid (canonicalType 1024 (now (text .entry)) (length (now (frames .entry))) (record { 0 = n }))))) ⌝ }
 {
     if out.len() < 16 {
-        return no_room(text);
+        return no_room(1024, text);
     }
-    let given = canonical_form(text, frames, TypeNumber(clamped(n)));
+    let given = canonical_form(1024, text, frames, TypeNumber(clamped(n)));
     put_canonical(out, given)
 }
 
@@ -64,11 +64,11 @@ pub extern "C" fn gelmusko_pointer_base(
     n: u32,
     out: &mut [u8],
 ) -> u32
-    ensures { λ r. ⌜ (r ≡ byRoom (now (out .entry)) (noRoom (now (text .entry))) (typeSaidNumber (baseSaid (pointerBaseType (now (text .entry)) (length (now (frames .entry))) (record { 0 = n }))))) × (now (frames .exit) ≡ byRoom (now (out .entry)) (now (frames .entry)) (framesAfter (now (text .entry)) (now (frames .entry)) NotLent)) × (now (out .exit) ≡ putFrame (now (out .entry)) 0 (typeSaidFrame (baseSaid (pointerBaseType (now (text .entry)) (length (now (frames .entry))) (record { 0 = n }))))) ⌝ }
+    ensures { λ r. ⌜ (r ≡ byRoom (now (out .entry)) (noRoom 1024 (now (text .entry))) (typeSaidNumber (baseSaid (pointerBaseType 1024 (now (text .entry)) (length (now (frames .entry))) (record { 0 = n }))))) × (now (frames .exit) ≡ byRoom (now (out .entry)) (now (frames .entry)) (framesAfter 1024 (now (text .entry)) (now (frames .entry)) NotLent)) × (now (out .exit) ≡ putFrame (now (out .entry)) 0 (typeSaidFrame (baseSaid (pointerBaseType 1024 (now (text .entry)) (length (now (frames .entry))) (record { 0 = n }))))) ⌝ }
 {
     if out.len() < 16 {
-        return no_room(text);
+        return no_room(1024, text);
     }
-    let given = pointer_base(text, frames, TypeNumber(clamped(n)));
+    let given = pointer_base(1024, text, frames, TypeNumber(clamped(n)));
     put_base(out, given)
 }

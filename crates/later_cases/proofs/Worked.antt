@@ -13,7 +13,7 @@ use Rattle.answers.specs.declared.Outcome.the-variants.{Accepted}
 use Rattle.text.specs.declared.AnswerRoom.the-variants.{Lent}
 use Rattle.text.specs.Hex.{digitValue, digitOf}
 use Rattle.text.specs.Lines.{lineOk, lineCount, byteOf, decoded, charOf}
-use Rattle.text.specs.Reading.{answerBytes, answerFrames, tooShort, readText}
+use Rattle.text.specs.Reading.{answerBytes, answerFrames, tooShort, mostFrames, readText}
 use Rattle.frames.specs.Bytes.{frameAt}
 use Rattle.frames.specs.Forms.{typeOf, itemOf, rowOf, memberOf, componentOf, fieldsFit}
 use Rattle.archive.specs.Order.{orderOk}
@@ -65,7 +65,7 @@ compared fr q =
     let rule = handed (typeAnswerOf (q .left)) (typeAnswerOf (q .right)) in
     record {
       asked = q;
-      ours = saidBytes (samenessSaid (sameTypes text (length (framesFor text)) (q .left) (q .right)));
+      ours = saidBytes (samenessSaid (sameTypes 1024 text (length (framesFor text)) (q .left) (q .right)));
       theirs = comparedBytes (theirs First fr choice 0 (choice .same (q .left) (q .right)) rule);
       meets = meets First fr 0 rule;
     }
@@ -77,8 +77,8 @@ Whole = Outcome × List ℕ × List (List ℕ) × List (Option Place) × List (L
 
 abbrev computed : List ℕ → Whole
 computed fr = (
-  readFile text (16 * lineCount text) (Lent (answerBytes text)),
-  answersAfter First text (length (framesFor text)) (answersFor text),
+  readFile 1024 text (16 * lineCount text) (Lent (answerBytes text)),
+  answersAfter First 1024 text (length (framesFor text)) (answersFor text),
   map (λ (l : Line Asked). byLater fr (l .asked)) answers,
   map (λ (l : Line Asked). metBy fr (l .asked)) answers,
   map (λ (l : Line Two). compared fr (l .asked)) comparisons,
@@ -92,5 +92,5 @@ abbrev written : Whole
 written = (Accepted 35, oursOf answers, map (λ (l : Line Asked). l .theirs) answers, map (λ (l : Line Asked). l .meets) answers, comparisons)
 
 worked : computed (decoded text 35) ≡ written
-unfolding lowest allBelow build sumBelow digitValue digitOf lineOk byteOf charOf answerFrames tooShort readText frameAt typeOf itemOf rowOf memberOf componentOf fieldsFit orderOk start startsOf namesOk earlyOk indexOk checkFrames readFile typeIn rowIn listed equalTypes identical sameIn sameType eachPart vectorParts outputs framesBytes sameTypes answersAfter
+unfolding lowest allBelow build sumBelow digitValue digitOf lineOk byteOf charOf answerFrames tooShort mostFrames readText frameAt typeOf itemOf rowOf memberOf componentOf fieldsFit orderOk start startsOf namesOk earlyOk indexOk checkFrames readFile typeIn rowIn listed equalTypes identical sameIn sameType eachPart vectorParts outputs framesBytes sameTypes answersAfter
 worked = refl

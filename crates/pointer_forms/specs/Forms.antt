@@ -13,9 +13,9 @@ use Rattle.type_methods.specs.Canonical.{pointerBaseIn, canonicalTypeIn}
 use Rattle.reader.specs.File.{overFile, readFile}
 
 -- the canonical form of type n: the value pointer, or the number where the source gives None; 22 or 6
-unfoldable pub canonicalType : List ℕ → ℕ → TypeNumber → CanonicalType
-canonicalType t f n = overFile Ct.NotAccepted (λ (fr : List ℕ). canonicalTypeIn fr (startsOf fr) n) t (readFile t f NotLent)
+unfoldable pub canonicalType : ℕ → List ℕ → ℕ → TypeNumber → CanonicalType
+canonicalType limit t f n = overFile Ct.NotAccepted (λ (fr : List ℕ). canonicalTypeIn fr (startsOf fr) n) t (readFile limit t f NotLent)
 
 -- the base of type n: a number or a value, or that type n is no pointer; 22 or 6
-unfoldable pub pointerBaseType : List ℕ → ℕ → TypeNumber → PointerBase
-pointerBaseType t f n = overFile Pb.NotAccepted (λ (fr : List ℕ). pointerBaseIn fr (startsOf fr) n) t (readFile t f NotLent)
+unfoldable pub pointerBaseType : ℕ → List ℕ → ℕ → TypeNumber → PointerBase
+pointerBaseType limit t f n = overFile Pb.NotAccepted (λ (fr : List ℕ). pointerBaseIn fr (startsOf fr) n) t (readFile limit t f NotLent)

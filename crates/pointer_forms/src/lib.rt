@@ -13,10 +13,10 @@ ghost use Rattle.reader.specs.File.{framesAfter};
 ghost use Rattle.pointer_forms.specs.Forms.{canonicalType, pointerBaseType};
 
 // The canonical form of type n: the value pointer, or n itself. The frame buffer is as `read_file` leaves it.
-pub fn canonical_form(text: &[u8], frames: &mut [u8], n: TypeNumber) -> CanonicalType
-    ensures { λ r. ⌜ (r ≡ canonicalType (now (text .entry)) (length (now (frames .entry))) n) × (now (frames .exit) ≡ framesAfter (now (text .entry)) (now (frames .entry)) NotLent) ⌝ }
+pub fn canonical_form(limit: u32, text: &[u8], frames: &mut [u8], n: TypeNumber) -> CanonicalType
+    ensures { λ r. ⌜ (r ≡ canonicalType limit (now (text .entry)) (length (now (frames .entry))) n) × (now (frames .exit) ≡ framesAfter limit (now (text .entry)) (now (frames .entry)) NotLent) ⌝ }
 {
-    let read = read_file(text, frames);
+    let read = read_file(limit, text, frames);
     match frames_in(read) {
         OptionUsize::None => CanonicalType::NotAccepted(read),
         OptionUsize::Some(k) => {
@@ -28,10 +28,10 @@ pub fn canonical_form(text: &[u8], frames: &mut [u8], n: TypeNumber) -> Canonica
 }
 
 // The base of type n, or that it is no pointer. The frame buffer is as `read_file` leaves it.
-pub fn pointer_base(text: &[u8], frames: &mut [u8], n: TypeNumber) -> PointerBase
-    ensures { λ r. ⌜ (r ≡ pointerBaseType (now (text .entry)) (length (now (frames .entry))) n) × (now (frames .exit) ≡ framesAfter (now (text .entry)) (now (frames .entry)) NotLent) ⌝ }
+pub fn pointer_base(limit: u32, text: &[u8], frames: &mut [u8], n: TypeNumber) -> PointerBase
+    ensures { λ r. ⌜ (r ≡ pointerBaseType limit (now (text .entry)) (length (now (frames .entry))) n) × (now (frames .exit) ≡ framesAfter limit (now (text .entry)) (now (frames .entry)) NotLent) ⌝ }
 {
-    let read = read_file(text, frames);
+    let read = read_file(limit, text, frames);
     match frames_in(read) {
         OptionUsize::None => PointerBase::NotAccepted(read),
         OptionUsize::Some(k) => {

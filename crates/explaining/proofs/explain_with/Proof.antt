@@ -25,7 +25,7 @@ explain-with-spec =
     (λ c. sym (length-take-le _ _ (frames-within (c .before .before .before .before .before .before .before .before .before .before .type-file .ensures) (sym (c .before .before .before .before .before .frames-in .ensures) ∙ c .before .before .before .n .given .1))))
     (λ c. outputs-within (c .before .before .before .before .before .before .before .before .before .before .type-file .ensures) (sym (c .before .before .before .before .before .frames-in .ensures) ∙ c .before .before .before .n .given .1))
     (λ c. sym (length-take-le _ _ (outputs-within (c .before .before .before .before .before .before .before .before .before .before .before .type-file .ensures) (sym (c .before .before .before .before .before .before .frames-in .ensures) ∙ c .before .before .before .before .n .given .1))))
-    (λ c κs. (c .before .before .before .before .before .before .before .before .before .before .before .before .before .before .before .before .before .before .before .before .before .pre .2, omega (arith, outputs-fit (c .before .before .before .before .before .before .before .before .before .before .before .before .before .type-file .ensures) (sym (c .before .before .before .before .before .before .before .before .frames-in .ensures) ∙ c .before .before .before .before .before .before .n .given .1), c .before .before .before .before .before .before .before .before .before .before .before .before .before .before .before .before .before .before .before .before .before .pre .1, length-take-le (16 * c .before .before .before .before .before .before .before .before .before .before .before .before .before .type-file .result .outputs) (c .before .before .before .before .before .before .before .before .before .before .before .before .before .type-file .last .1 .1 .1 .0) (outputs-within (c .before .before .before .before .before .before .before .before .before .before .before .before .before .type-file .ensures) (sym (c .before .before .before .before .before .before .before .before .frames-in .ensures) ∙ c .before .before .before .before .before .before .n .given .1)))))
+    (λ c κs. (c .before .before .before .before .before .before .before .before .before .before .before .before .before .before .before .before .before .before .before .before .before .pre .2, omega (arith, outputs-fit (c .before .before .before .before .before .before .before .before .before .before .before .before .before .type-file .ensures) (sym (c .before .before .before .before .before .before .before .before .frames-in .ensures) ∙ c .before .before .before .before .before .before .n .given .1), c .before .before .before .before .before .before .before .before .before .before .before .before .before .before .before .before .before .before .before .before .before .pre .1, length-take-le (16 * c .before .before .before .before .before .before .before .before .before .before .before .before .before .type-file .result .outputs) (c .before .before .before .before .before .before .before .before .before .before .before .before .before .type-file .last .1 .1 .1 .1 .0) (outputs-within (c .before .before .before .before .before .before .before .before .before .before .before .before .before .type-file .ensures) (sym (c .before .before .before .before .before .before .before .before .frames-in .ensures) ∙ c .before .before .before .before .before .before .n .given .1)))))
     (λ c. search needs)
     (λ c. search needs)
     (λ c. search needs)

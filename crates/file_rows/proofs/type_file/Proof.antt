@@ -45,12 +45,12 @@ returns-2 c =
     let q = (sym (c .before .before .before .before .before .before .before .before .frames-in .ensures) ∙ c .before .before .before .before .before .before .n .given .1) in
     record {
       outcome = e .0;
-      outputs = omega (arith, c .before .before .answer-all .ensures .0, whole-frames (g .pass) (take (16 * c .before .before .before .before .before .before .n .given .0 .0) (c .before .before .before .before .before .before .before .before .before .before .before .read-with .last .1 .0))) ∙ over-part (g .text .now) (g .frames .now) _ _ (c .before .before .before .before .before .before .n .given .0 .0) _ (e .0) (e .1) q none (counted (g .pass));
+      outputs = omega (arith, c .before .before .answer-all .ensures .0, whole-frames (g .pass) (take (16 * c .before .before .before .before .before .before .n .given .0 .0) (c .before .before .before .before .before .before .before .before .before .before .before .read-with .last .1 .1 .0))) ∙ over-part (g .limit) (g .text .now) (g .frames .now) _ _ (c .before .before .before .before .before .before .n .given .0 .0) _ (e .0) (e .1) q none (counted (g .pass));
       frames = e .1;
-      answers = c .before .before .answer-all .ensures .1 ∙ over-part (g .text .now) (g .frames .now) _ _ (c .before .before .before .before .before .before .n .given .0 .0) _ (e .0) (e .1) q (λ (o : Outcome). g .answers .now) (λ (x : List ℕ). answersWritten (g .pass) (g .answers .now) x);
+      answers = c .before .before .answer-all .ensures .1 ∙ over-part (g .limit) (g .text .now) (g .frames .now) _ _ (c .before .before .before .before .before .before .n .given .0 .0) _ (e .0) (e .1) q (λ (o : Outcome). g .answers .now) (λ (x : List ℕ). answersWritten (g .pass) (g .answers .now) x);
     }
 
 pub type-file-spec : {M : Type 1} → statement M
 type-file-spec =
     tie.close
-    (tie.spec (λ c κs. search needs) (λ c κs. search needs) (λ c. search needs) (λ c. search needs) (λ c. omega (arith, part-fits (c .before .before .before .before .before .before .before .before .before .before .before .args .text .now) (c .before .before .before .before .before .before .before .before .before .before .before .args .frames .now) _ _ (c .before .n .given .0 .0) _ (c .before .before .before .before .before .before .read-with .ensures .0) (c .before .before .before .before .before .before .read-with .ensures .1) (sym (c .before .before .before .frames-in .ensures) ∙ c .before .n .given .1))) (λ c. part-fits (c .before .before .before .before .before .before .before .before .before .before .before .args .text .now) (c .before .before .before .before .before .before .before .before .before .before .before .args .frames .now) _ _ (c .before .n .given .0 .0) _ (c .before .before .before .before .before .before .read-with .ensures .0) (c .before .before .before .before .before .before .read-with .ensures .1) (sym (c .before .before .before .frames-in .ensures) ∙ c .before .n .given .1)) (λ c. sym (length-take-le _ _ (part-fits (c .before .before .before .before .before .before .before .before .before .before .before .before .args .text .now) (c .before .before .before .before .before .before .before .before .before .before .before .before .args .frames .now) _ _ (c .before .before .n .given .0 .0) _ (c .before .before .before .before .before .before .before .read-with .ensures .0) (c .before .before .before .before .before .before .before .read-with .ensures .1) (sym (c .before .before .before .before .frames-in .ensures) ∙ c .before .before .n .given .1)))) (λ c κs. ready-part (c .before .before .before .before .before .before .before .before .before .before .before .before .before .args .pass) (c .before .before .before .before .before .before .before .before .before .before .before .before .before .args .text .now) (c .before .before .before .before .before .before .before .before .before .before .before .before .before .args .frames .now) _ (c .before .before .before .before .before .before .before .before .before .before .before .before .before .args .answers .now) (c .before .before .before .n .given .0 .0) _ (c .before .before .before .before .before .before .before .before .read-with .ensures .0) (c .before .before .before .before .before .before .before .before .read-with .ensures .1) (sym (c .before .before .before .before .before .frames-in .ensures) ∙ c .before .before .before .n .given .1)) (λ c. search needs) returns (λ c. search needs) (λ c. search needs) returns-2)
+    (tie.spec (λ c κs. search needs) (λ c κs. search needs) (λ c. search needs) (λ c. search needs) (λ c. omega (arith, part-fits (c .before .before .before .before .before .before .before .before .before .before .before .args .limit) (c .before .before .before .before .before .before .before .before .before .before .before .args .text .now) (c .before .before .before .before .before .before .before .before .before .before .before .args .frames .now) _ _ (c .before .n .given .0 .0) _ (c .before .before .before .before .before .before .read-with .ensures .0) (c .before .before .before .before .before .before .read-with .ensures .1) (sym (c .before .before .before .frames-in .ensures) ∙ c .before .n .given .1))) (λ c. part-fits (c .before .before .before .before .before .before .before .before .before .before .before .args .limit) (c .before .before .before .before .before .before .before .before .before .before .before .args .text .now) (c .before .before .before .before .before .before .before .before .before .before .before .args .frames .now) _ _ (c .before .n .given .0 .0) _ (c .before .before .before .before .before .before .read-with .ensures .0) (c .before .before .before .before .before .before .read-with .ensures .1) (sym (c .before .before .before .frames-in .ensures) ∙ c .before .n .given .1)) (λ c. sym (length-take-le _ _ (part-fits (c .before .before .before .before .before .before .before .before .before .before .before .before .args .limit) (c .before .before .before .before .before .before .before .before .before .before .before .before .args .text .now) (c .before .before .before .before .before .before .before .before .before .before .before .before .args .frames .now) _ _ (c .before .before .n .given .0 .0) _ (c .before .before .before .before .before .before .before .read-with .ensures .0) (c .before .before .before .before .before .before .before .read-with .ensures .1) (sym (c .before .before .before .before .frames-in .ensures) ∙ c .before .before .n .given .1)))) (λ c κs. ready-part (c .before .before .before .before .before .before .before .before .before .before .before .before .before .args .pass) (c .before .before .before .before .before .before .before .before .before .before .before .before .before .args .limit) (c .before .before .before .before .before .before .before .before .before .before .before .before .before .args .text .now) (c .before .before .before .before .before .before .before .before .before .before .before .before .before .args .frames .now) _ (c .before .before .before .before .before .before .before .before .before .before .before .before .before .args .answers .now) (c .before .before .before .n .given .0 .0) _ (c .before .before .before .before .before .before .before .before .read-with .ensures .0) (c .before .before .before .before .before .before .before .before .read-with .ensures .1) (sym (c .before .before .before .before .before .frames-in .ensures) ∙ c .before .before .before .n .given .1)) (λ c. search needs) returns (λ c. search needs) (λ c. search needs) returns-2)

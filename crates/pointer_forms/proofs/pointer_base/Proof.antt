@@ -16,10 +16,10 @@ use Rattle.reader.proofs.Over.{part-fits, given-over, refused-over}
 use Rattle.pointer_forms.proofs.pointer_base.Statement.{statement}
 use Rattle.pointer_forms.proofs.pointer_base.Tie as tie
 
-fits : (c : tie.After-known-told) → 16 * c .before .k .given .0 .0 ≤ length (c .before .before .before .before .before .before .read-file .last .1 .0)
+fits : (c : tie.After-known-told) → 16 * c .before .k .given .0 .0 ≤ length (c .before .before .before .before .before .before .read-file .last .1 .1 .0)
 fits c =
     let e = c .before .before .before .before .before .before .read-file .ensures in
-    part-fits _ _ _ _ _ _ (e .0) (e .1) (sym (c .before .before .before .frames-in .ensures) ∙ c .before .k .given .1)
+    part-fits _ _ _ _ _ _ _ (e .0) (e .1) (sym (c .before .before .before .frames-in .ensures) ∙ c .before .k .given .1)
 
 returns : tie.Need-returns
 unfolding pointerBaseType
@@ -37,7 +37,7 @@ returns-2 c =
     let e = c .before .before .before .before .before .before .before .before .before .before .read-file .ensures in
     let g = c .before .before .before .before .before .before .before .before .before .before .before .before .before .before .args in (
       c .pointer-base .ensures
-          ∙ given-over _ _ _ _ _ _ (e .0) (e .1) (sym (c .before .before .before .before .before .before .before .frames-in .ensures) ∙ c .before .before .before .before .before .k .given .1)
+          ∙ given-over _ _ _ _ _ _ _ (e .0) (e .1) (sym (c .before .before .before .before .before .before .before .frames-in .ensures) ∙ c .before .before .before .before .before .k .given .1)
           Res.NotAccepted (λ (x : List ℕ) (s : Starts). pointerBaseIn x s (g .n)) _ (c .before .before .find-starts .ensures),
       e .1,
     )

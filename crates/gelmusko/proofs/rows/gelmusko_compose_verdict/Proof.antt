@@ -18,7 +18,7 @@ returns-2 c =
     let g = c .before .before .before .before .before .before .before .before .before .before .before .before .before .before .before .before .before .args in
     let p = c .before .before .put-verdict .ensures in
     let e = c .before .before .before .before .before .before .before .before .compose-verdict .ensures in
-    (p .0 ∙ ap verdictNumber (e .0 ∙ verdict-clamped First (g .text .now) (length (g .frames .now)) (length (g .answers .now)) (g .row) (c .before .before .before .before .before .before .before .before .before .before .before .clamped .result) (c .before .before .before .before .before .before .before .before .before .before .before .clamped .ensures)) ∙ has-room (g .out .now) _ _ (c .before .before .before .before .before .before .before .before .before .before .before .before .if1 .left), e .1 ∙ has-room (g .out .now) _ _ (c .before .before .before .before .before .before .before .before .before .before .before .before .if1 .left), e .2 ∙ judged-clamped First (g .text .now) (length (g .frames .now)) (g .answers .now) (g .row) (c .before .before .before .before .before .before .before .before .before .before .before .clamped .result) (c .before .before .before .before .before .before .before .before .before .before .before .clamped .ensures) ∙ has-room (g .out .now) _ _ (c .before .before .before .before .before .before .before .before .before .before .before .before .if1 .left), p .1 ∙ ap (putFrame (g .out .now) 0) (ap (verdictGivenFrame (record { 0 = c .before .before .before .before .before .before .before .before .before .before .before .clamped .result })) (e .0) ∙ frame-clamped First (g .text .now) (length (g .frames .now)) (length (g .answers .now)) (g .row) (c .before .before .before .before .before .before .before .before .before .before .before .clamped .result) (c .before .before .before .before .before .before .before .before .before .before .before .clamped .ensures)))
+    (p .0 ∙ ap verdictNumber (e .0 ∙ verdict-clamped First 1024 (g .text .now) (length (g .frames .now)) (length (g .answers .now)) (g .row) (c .before .before .before .before .before .before .before .before .before .before .before .clamped .result) (c .before .before .before .before .before .before .before .before .before .before .before .clamped .ensures)) ∙ has-room (g .out .now) _ _ (c .before .before .before .before .before .before .before .before .before .before .before .before .if1 .left), e .1 ∙ has-room (g .out .now) _ _ (c .before .before .before .before .before .before .before .before .before .before .before .before .if1 .left), e .2 ∙ judged-clamped First 1024 (g .text .now) (length (g .frames .now)) (g .answers .now) (g .row) (c .before .before .before .before .before .before .before .before .before .before .before .clamped .result) (c .before .before .before .before .before .before .before .before .before .before .before .clamped .ensures) ∙ has-room (g .out .now) _ _ (c .before .before .before .before .before .before .before .before .before .before .before .before .if1 .left), p .1 ∙ ap (putFrame (g .out .now) 0) (ap (verdictGivenFrame (record { 0 = c .before .before .before .before .before .before .before .before .before .before .before .clamped .result })) (e .0) ∙ frame-clamped First 1024 (g .text .now) (length (g .frames .now)) (length (g .answers .now)) (g .row) (c .before .before .before .before .before .before .before .before .before .before .before .clamped .result) (c .before .before .before .before .before .before .before .before .before .before .before .clamped .ensures)))
 
 pub gelmusko-compose-verdict-spec : {M : Type 1} → statement M
 gelmusko-compose-verdict-spec =

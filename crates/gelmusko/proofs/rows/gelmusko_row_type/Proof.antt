@@ -18,7 +18,7 @@ returns-2 c =
     let g = c .before .before .before .before .before .before .before .before .before .before .before .before .before .before .before .before .before .args in
     let p = c .before .before .put-row .ensures in
     let e = c .before .before .before .before .before .before .before .before .row-type .ensures in
-    (p .0 ∙ ap rowNumber (e .0 ∙ row-clamped First (g .text .now) (length (g .frames .now)) (length (g .answers .now)) (g .row) (c .before .before .before .before .before .before .before .before .before .clamped .result) (c .before .before .before .before .before .before .before .before .before .clamped .ensures)) ∙ has-room (g .out .now) _ _ (c .before .before .before .before .before .before .before .before .before .before .before .before .if1 .left), e .1 ∙ has-room (g .out .now) _ _ (c .before .before .before .before .before .before .before .before .before .before .before .before .if1 .left), e .2 ∙ answers-clamped First (g .text .now) (length (g .frames .now)) (g .answers .now) (g .row) (c .before .before .before .before .before .before .before .before .before .clamped .result) (c .before .before .before .before .before .before .before .before .before .clamped .ensures) ∙ has-room (g .out .now) _ _ (c .before .before .before .before .before .before .before .before .before .before .before .before .if1 .left), p .1 ∙ ap (putFrame (g .out .now) 0) (ap rowGivenFrame (e .0 ∙ row-clamped First (g .text .now) (length (g .frames .now)) (length (g .answers .now)) (g .row) (c .before .before .before .before .before .before .before .before .before .clamped .result) (c .before .before .before .before .before .before .before .before .before .clamped .ensures))))
+    (p .0 ∙ ap rowNumber (e .0 ∙ row-clamped First 1024 (g .text .now) (length (g .frames .now)) (length (g .answers .now)) (g .row) (c .before .before .before .before .before .before .before .before .before .clamped .result) (c .before .before .before .before .before .before .before .before .before .clamped .ensures)) ∙ has-room (g .out .now) _ _ (c .before .before .before .before .before .before .before .before .before .before .before .before .if1 .left), e .1 ∙ has-room (g .out .now) _ _ (c .before .before .before .before .before .before .before .before .before .before .before .before .if1 .left), e .2 ∙ answers-clamped First 1024 (g .text .now) (length (g .frames .now)) (g .answers .now) (g .row) (c .before .before .before .before .before .before .before .before .before .clamped .result) (c .before .before .before .before .before .before .before .before .before .clamped .ensures) ∙ has-room (g .out .now) _ _ (c .before .before .before .before .before .before .before .before .before .before .before .before .if1 .left), p .1 ∙ ap (putFrame (g .out .now) 0) (ap rowGivenFrame (e .0 ∙ row-clamped First 1024 (g .text .now) (length (g .frames .now)) (length (g .answers .now)) (g .row) (c .before .before .before .before .before .before .before .before .before .clamped .result) (c .before .before .before .before .before .before .before .before .before .clamped .ensures))))
 
 pub gelmusko-row-type-spec : {M : Type 1} → statement M
 gelmusko-row-type-spec =

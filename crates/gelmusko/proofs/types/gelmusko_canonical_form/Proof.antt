@@ -19,7 +19,7 @@ returns-2 c =
     let g = c .before .before .before .before .before .before .before .before .before .before .before .before .before .args in
     let p = c .before .before .put-canonical .ensures in
     let e = c .before .before .before .before .before .before .canonical-form .ensures in
-    (p .0 ∙ ap (λ (s : CanonicalType). typeSaidNumber (canonicalSaid s)) (e .0 ∙ canonical-clamped (g .text .now) (length (g .frames .now)) (g .n) (c .before .before .before .before .before .before .before .clamped .result) (c .before .before .before .before .before .before .before .clamped .ensures)) ∙ has-room (g .out .now) _ _ (c .before .before .before .before .before .before .before .before .before .if1 .left), e .1 ∙ has-room (g .out .now) _ _ (c .before .before .before .before .before .before .before .before .before .if1 .left), p .1 ∙ ap (putFrame (g .out .now) 0) (ap (λ (s : CanonicalType). typeSaidFrame (canonicalSaid s)) (e .0 ∙ canonical-clamped (g .text .now) (length (g .frames .now)) (g .n) (c .before .before .before .before .before .before .before .clamped .result) (c .before .before .before .before .before .before .before .clamped .ensures))))
+    (p .0 ∙ ap (λ (s : CanonicalType). typeSaidNumber (canonicalSaid s)) (e .0 ∙ canonical-clamped 1024 (g .text .now) (length (g .frames .now)) (g .n) (c .before .before .before .before .before .before .before .clamped .result) (c .before .before .before .before .before .before .before .clamped .ensures)) ∙ has-room (g .out .now) _ _ (c .before .before .before .before .before .before .before .before .before .if1 .left), e .1 ∙ has-room (g .out .now) _ _ (c .before .before .before .before .before .before .before .before .before .if1 .left), p .1 ∙ ap (putFrame (g .out .now) 0) (ap (λ (s : CanonicalType). typeSaidFrame (canonicalSaid s)) (e .0 ∙ canonical-clamped 1024 (g .text .now) (length (g .frames .now)) (g .n) (c .before .before .before .before .before .before .before .clamped .result) (c .before .before .before .before .before .before .before .clamped .ensures))))
 
 pub gelmusko-canonical-form-spec : {M : Type 1} → statement M
 gelmusko-canonical-form-spec =

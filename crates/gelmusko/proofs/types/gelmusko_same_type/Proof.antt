@@ -21,7 +21,7 @@ returns-2 c =
     let g = c .before .before .before .before .before .before .before .before .before .before .before .before .before .before .before .before .args in
     let p = c .before .before .put-sameness .ensures in
     let e = c .before .before .before .before .before .before .same-type .ensures in
-    (p .0 ∙ ap (λ (s : Sameness). saidNumber (samenessSaid s)) (e .0 ∙ ap (λ (l : Frame). sameTypes (g .text .now) (length (g .frames .now)) l (c .before .before .before .before .before .before .before .before .handed-frame2 .result)) (c .before .before .before .before .before .before .before .before .before .handed-frame .ensures) ∙ ap (sameTypes (g .text .now) (length (g .frames .now)) (handedFrame (g .left .now))) (c .before .before .before .before .before .before .before .before .handed-frame2 .ensures)) ∙ has-room (g .out .now) _ _ (c .before .before .before .before .before .before .before .before .before .before .if1 .left), e .1 ∙ has-room (g .out .now) _ _ (c .before .before .before .before .before .before .before .before .before .before .if1 .left), p .1 ∙ ap (putFrame (g .out .now) 0) (ap (λ (s : Sameness). saidFrame (samenessSaid s)) (e .0 ∙ ap (λ (l : Frame). sameTypes (g .text .now) (length (g .frames .now)) l (c .before .before .before .before .before .before .before .before .handed-frame2 .result)) (c .before .before .before .before .before .before .before .before .before .handed-frame .ensures) ∙ ap (sameTypes (g .text .now) (length (g .frames .now)) (handedFrame (g .left .now))) (c .before .before .before .before .before .before .before .before .handed-frame2 .ensures))))
+    (p .0 ∙ ap (λ (s : Sameness). saidNumber (samenessSaid s)) (e .0 ∙ ap (λ (l : Frame). sameTypes 1024 (g .text .now) (length (g .frames .now)) l (c .before .before .before .before .before .before .before .before .handed-frame2 .result)) (c .before .before .before .before .before .before .before .before .before .handed-frame .ensures) ∙ ap (sameTypes 1024 (g .text .now) (length (g .frames .now)) (handedFrame (g .left .now))) (c .before .before .before .before .before .before .before .before .handed-frame2 .ensures)) ∙ has-room (g .out .now) _ _ (c .before .before .before .before .before .before .before .before .before .before .if1 .left), e .1 ∙ has-room (g .out .now) _ _ (c .before .before .before .before .before .before .before .before .before .before .if1 .left), p .1 ∙ ap (putFrame (g .out .now) 0) (ap (λ (s : Sameness). saidFrame (samenessSaid s)) (e .0 ∙ ap (λ (l : Frame). sameTypes 1024 (g .text .now) (length (g .frames .now)) l (c .before .before .before .before .before .before .before .before .handed-frame2 .result)) (c .before .before .before .before .before .before .before .before .before .handed-frame .ensures) ∙ ap (sameTypes 1024 (g .text .now) (length (g .frames .now)) (handedFrame (g .left .now))) (c .before .before .before .before .before .before .before .before .handed-frame2 .ensures))))
 
 pub gelmusko-same-type-spec : {M : Type 1} → statement M
 gelmusko-same-type-spec =
