@@ -94,7 +94,15 @@ fn answer_rows(
     let mut m = 0;
     let mut at = 0;
     while m < n {
-        let next = answer_row(pass, frames, s, answers, &places[..m], RowNumber(m as u16), at);
+        let next = answer_row(
+            pass,
+            frames,
+            s,
+            answers,
+            &places[..m],
+            RowNumber(m as u16),
+            at,
+        );
         places[m] = at as u16;
         at = next;
         m += 1;
@@ -159,7 +167,13 @@ fn judge_one(pass: Pass, frames: &[u8], answers: &mut [u8], row: RowNumber) -> C
 
 // Types every row of a file by the rules of a pass, and judges every compose over those answers. The frame buffer is as `read_file` leaves it; of an accepted file the answers and verdicts, 16 bytes each, stand
 // at the front of the answer buffer, and its bytes past them stay. Of a file that is not accepted nothing is handed back.
-pub fn type_file(pass: Pass, limit: u32, text: &[u8], frames: &mut [u8], answers: &mut [u8]) -> TypedFile
+pub fn type_file(
+    pass: Pass,
+    limit: u32,
+    text: &[u8],
+    frames: &mut [u8],
+    answers: &mut [u8],
+) -> TypedFile
     ensures { λ r. ⌜ HandsBack pass limit (now (text .entry)) (now (frames .entry)) (now (answers .entry)) r (now (frames .exit)) (now (answers .exit)) ⌝ }
 {
     let read = read_with(limit, text, frames, AnswerRoom::Lent(answers.len()));
@@ -180,7 +194,13 @@ pub fn type_file(pass: Pass, limit: u32, text: &[u8], frames: &mut [u8], answers
 }
 
 // The same, where the outcome is enough: how many frames are handed back is known from the file.
-pub fn type_rows(pass: Pass, limit: u32, text: &[u8], frames: &mut [u8], answers: &mut [u8]) -> Outcome
+pub fn type_rows(
+    pass: Pass,
+    limit: u32,
+    text: &[u8],
+    frames: &mut [u8],
+    answers: &mut [u8],
+) -> Outcome
     ensures { λ r. ⌜ (r ≡ readFile limit (now (text .entry)) (length (now (frames .entry))) (Lent (length (now (answers .entry))))) × (now (frames .exit) ≡ framesAfter limit (now (text .entry)) (now (frames .entry)) (Lent (length (now (answers .entry))))) × (now (answers .exit) ≡ answersAfter pass limit (now (text .entry)) (length (now (frames .entry))) (now (answers .entry))) ⌝ }
 {
     let typed = type_file(pass, limit, text, frames, answers);
@@ -188,7 +208,14 @@ pub fn type_rows(pass: Pass, limit: u32, text: &[u8], frames: &mut [u8], answers
 }
 
 // The answer of one row, with the buffers as `type_rows` leaves them. The answer buffer is unchanged where the file does not have the row.
-pub fn row_type(pass: Pass, limit: u32, text: &[u8], frames: &mut [u8], answers: &mut [u8], row: RowNumber) -> RowType
+pub fn row_type(
+    pass: Pass,
+    limit: u32,
+    text: &[u8],
+    frames: &mut [u8],
+    answers: &mut [u8],
+    row: RowNumber,
+) -> RowType
     ensures { λ r. ⌜ (toGiven r ≡ rowType pass limit (now (text .entry)) (length (now (frames .entry))) (length (now (answers .entry))) row) × (now (frames .exit) ≡ framesAfter limit (now (text .entry)) (now (frames .entry)) (Lent (length (now (answers .entry))))) × (now (answers .exit) ≡ answersAfterRow pass limit (now (text .entry)) (length (now (frames .entry))) (now (answers .entry)) row) ⌝ }
 {
     let read = read_with(limit, text, frames, AnswerRoom::Lent(answers.len()));

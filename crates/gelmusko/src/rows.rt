@@ -50,7 +50,14 @@ pub extern "C" fn gelmusko_row_type(
     if out.len() < 16 {
         return no_room(1024, text);
     }
-    let given = row_type(Pass::First, 1024, text, frames, answers, RowNumber(clamped(row)));
+    let given = row_type(
+        Pass::First,
+        1024,
+        text,
+        frames,
+        answers,
+        RowNumber(clamped(row)),
+    );
     put_row(out, given)
 }
 

@@ -61,13 +61,7 @@ pub fn read_file(limit: u32, text: &[u8], frames: &mut [u8]) -> Outcome
 }
 
 // Whether two answers of a file, as frames of family 8 or 9, are the same type. The frame buffer is as `read_file` leaves it.
-pub fn same_type(
-    limit: u32,
-    text: &[u8],
-    frames: &mut [u8],
-    left: Frame,
-    right: Frame,
-) -> Sameness
+pub fn same_type(limit: u32, text: &[u8], frames: &mut [u8], left: Frame, right: Frame) -> Sameness
     ensures { λ r. ⌜ (r ≡ sameTypes limit (now (text .entry)) (length (now (frames .entry))) left right) × (now (frames .exit) ≡ framesAfter limit (now (text .entry)) (now (frames .entry)) NotLent) ⌝ }
 {
     let read = read_file(limit, text, frames);
