@@ -16,11 +16,12 @@ cat >crates/bench_rows/src/lib.rt <<'END'
 use answers::Outcome;
 use file_rows::type_rows;
 use reader::read_file;
+use row_rules::Pass;
 
 fn accepted(o: Outcome) -> usize {
     match o {
         Outcome::Accepted { frames: n } => n,
-        Outcome::Long => 0,
+        Outcome::Long { limit: _ } => 0,
         Outcome::Torn { line: _ } => 0,
         Outcome::Short => 0,
         Outcome::Order { frame: _ } => 0,
@@ -31,15 +32,15 @@ fn accepted(o: Outcome) -> usize {
 
 #[no_mangle]
 pub extern "C" fn bench_type_rows(text: &[u8], frames: &mut [u8], answers: &mut [u8]) -> usize {
-    accepted(type_rows(text, frames, answers))
+    accepted(type_rows(Pass::First, 1024, text, frames, answers))
 }
 
 #[no_mangle]
 pub extern "C" fn bench_read_file(text: &[u8], frames: &mut [u8]) -> usize {
-    accepted(read_file(text, frames))
+    accepted(read_file(1024, text, frames))
 }
 END
-echo 'bench_rows: answers reader file_rows' >>crates.txt
+echo 'bench_rows: answers row_rules reader file_rows' >>crates.txt
 rt staticlib bench_rows
 rustc -O --edition 2024 --cfg 'feature="compare"' "$root/bench/compare.rs" -C link-arg=target/staticlib/libbench_rows.a -o "$out/compare"
 rustc -O --edition 2024 "$root/bench/plain.rs" -o "$out/plain"
