@@ -15,8 +15,8 @@ cat >crates/bench_rows/src/lib.rt <<'END'
 // Typing and reading a file, for a program in Rust that takes their time.
 use answers::Outcome;
 use file_rows::type_rows;
-use reader::read_file;
-use row_rules::Pass;
+use file_read::read_file;
+use rule_rows::Pass;
 
 fn accepted(o: Outcome) -> usize {
     match o {
@@ -40,7 +40,7 @@ pub extern "C" fn bench_read_file(text: &[u8], frames: &mut [u8]) -> usize {
     accepted(read_file(1024, text, frames))
 }
 END
-echo 'bench_rows: answers row_rules reader file_rows' >>crates.txt
+echo 'bench_rows: answers rule_rows file_read file_rows' >>crates.txt
 rt staticlib bench_rows
 rustc -O --edition 2024 --cfg 'feature="compare"' "$root/bench/compare.rs" -C link-arg=target/staticlib/libbench_rows.a -o "$out/compare"
 rustc -O --edition 2024 "$root/bench/plain.rs" -o "$out/plain"

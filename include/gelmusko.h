@@ -29,7 +29,7 @@
  *
  * Numbers of rows and types count from 0. One that the file does not have, whatever its size, is number 6 with place 0, and `answers` stays as it was.
  *
- * Each function is proved, for all inputs, to return and to leave in each buffer what crates/exported/specs says; it ends, and it never traps. */
+ * Each function is proved, for all inputs, to return and to leave in each buffer what crates/file_exports/specs says; it ends, and it never traps. */
 #ifndef GELMUSKO_H
 #define GELMUSKO_H
 

@@ -3,6 +3,8 @@
 use ir::RowNumber;
 use ir::TypeNumber;
 use ir::TypeResolution;
+ghost use mathlib.Core.Path.{_≡_};
+ghost use Rattle.answers.specs.ForProofs.{answered};
 
 // What reading a file gives. A place is the number of a line or of a frame, from 0.
 pub enum Outcome {
@@ -35,6 +37,23 @@ pub enum Answer {
     Resolved(TypeResolution),
     Refused(Refusal),
     Newer { row: RowNumber },
+}
+
+// An answer that holds no type: what ends a row that reads it.
+pub enum Unresolved {
+    Refused(Refusal),
+    Newer { row: RowNumber },
+}
+
+impl Unresolved {
+    pub fn answer(self) -> Answer
+        ensures { λ r. ⌜ r ≡ answered self ⌝ }
+    {
+        match self {
+            Unresolved::Refused(why) => Answer::Refused(why),
+            Unresolved::Newer { row } => Answer::Newer { row },
+        }
+    }
 }
 
 // What a compose is judged: the source's Ok and ComposeError, and the port's own cases for a component row that was refused

@@ -30,7 +30,8 @@ never z = absurd (omega arith)
 
 module _ (fr : List ℕ) (few : frameCount fr ≤ 1024) where
   -- the four outcomes of checks 4 to 6, and what each says
-  pub by-check : (P : Outcome → Type 0) → ((p : ℕ) → FailsAt orderOk fr p → P (Order p)) → ((p : ℕ) → Holds orderOk fr → FailsAt fieldOk fr p → P (Field p))
+  pub by-check : (P : Outcome → Type 0) → ((p : ℕ) → FailsAt orderOk fr p → P (Order p))
+      → ((p : ℕ) → Holds orderOk fr → FailsAt fieldOk fr p → P (Field p))
       → ((p : ℕ) → Holds orderOk fr → Holds fieldOk fr → FailsAt indexOk fr p → P (Index p))
       → (Holds orderOk fr → Holds fieldOk fr → Holds indexOk fr → P (Accepted (frameCount fr))) → P (checkFrames fr)
   unfolding checkFrames
@@ -38,7 +39,8 @@ module _ (fr : List ℕ) (few : frameCount fr ≤ 1024) where
       rw (le-ltb 1024 (frameCount fr) few)
       (one (lowest (orderOk fr) (frameCount fr)) (lowest (fieldOk fr) (frameCount fr)) (lowest (indexOk fr) (frameCount fr)) refl refl refl)
     where
-      one : (f g h : Found) → lowest (orderOk fr) (frameCount fr) ≡ f → lowest (fieldOk fr) (frameCount fr) ≡ g → lowest (indexOk fr) (frameCount fr) ≡ h
+      one : (f g h : Found) → lowest (orderOk fr) (frameCount fr) ≡ f → lowest (fieldOk fr) (frameCount fr) ≡ g
+          → lowest (indexOk fr) (frameCount fr) ≡ h
           → P (unless Order f (unless Field g (unless Index h (Accepted (frameCount fr)))))
       one (At p) g h e d b = order p (found-at (orderOk fr) (frameCount fr) p e)
       one Nothing (At p) h e d b = field p (λ k. none-all (orderOk fr) (frameCount fr) k e) (found-at (fieldOk fr) (frameCount fr) p d)
@@ -72,7 +74,8 @@ module _ (fr : List ℕ) (few : frameCount fr ≤ 1024) where
   )
 
   -- accepted: exactly when all three hold of all frames
-  pub accepted-when : (n : ℕ) → (checkFrames fr ≡ Accepted n) ↔ ((n ≡ frameCount fr) × Holds orderOk fr × Holds fieldOk fr × Holds indexOk fr)
+  pub accepted-when : (n : ℕ)
+      → (checkFrames fr ≡ Accepted n) ↔ ((n ≡ frameCount fr) × Holds orderOk fr × Holds fieldOk fr × Holds indexOk fr)
   unfolding checkFrames
   accepted-when n = (
     by-check (λ r. r ≡ Accepted n → (n ≡ frameCount fr) × Holds orderOk fr × Holds fieldOk fr × Holds indexOk fr) (λ j a e. never (cc)) (λ j h a e. never (cc)) (λ j h g a e. never (cc)) (λ h g i e. ((cc), h, g, i)),

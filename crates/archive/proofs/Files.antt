@@ -16,11 +16,13 @@ use Rattle.frames.specs.declared.Frame.{Frame}
 use Rattle.frames.specs.Bytes.{frameAt, frameCount}
 use Rattle.frames.specs.Forms.{typeOf, memberOf, itemOf, rowOf, componentOf}
 use Rattle.archive.specs.declared.Starts.{Starts}
+use Rattle.archive.specs.declared.Owner.{Owner}
 use Rattle.archive.specs.declared.Held.{Held}
+use Rattle.archive.specs.declared.Held.the-variants.{Parts}
 use Rattle.archive.specs.Order.{rankAt, isKnown, isOnce, follows, orderOk}
 use Rattle.archive.specs.Starts.{start, startsOf}
 use Rattle.archive.specs.Names.{isType, isRow, typeFormNames, itemNames, rowFormNames, namesBy, namesOf, namesOk}
-use Rattle.archive.specs.Parts.{heldBy, earlyIn, earlyFor, earlyOk, partNumber}
+use Rattle.archive.specs.Parts.{heldBy, isEarly, earlyIn, earlyFor, earlyOk}
 use Rattle.archive.specs.Checks.{fieldOk, indexOk}
 use Rattle.archive.proofs.Ranks.{begins}
 use Rattle.archive.proofs.Owners.{inside}
@@ -84,8 +86,9 @@ module _ (fr : List ℕ) (indexed : Holds indexOk fr) (k : ℕ) (h : k < frameCo
   component-names e = of-family 5 e
 
   -- a part is earlier than each of its owners
-  pub part-early : (o : ℕ) → o < frameCount fr → let held = heldBy (startsOf fr) o (frameAt fr o) in held .from ≤ k → k < held .to → partNumber (frameAt fr k) < held .limit
+  pub part-early : (o from to : ℕ) (owner : Owner) → o < frameCount fr → heldBy (startsOf fr) o (frameAt fr o) ≡ Parts from to owner
+      → from ≤ k → k < to → isEarly owner (frameAt fr k) ≡ true
   unfolding indexOk earlyOk
-  part-early o l a b =
-      let held = heldBy (startsOf fr) o (frameAt fr o) in
-      ltb-true _ _ (sym (inside fr held k a b) ∙ all-each (λ (j : ℕ). earlyFor fr j k) (frameCount fr) o (and-second (namesOk fr k) (earlyOk fr k) (indexed k h)) l)
+  part-early o from to owner l holds a b =
+      let early = all-each (λ (j : ℕ). earlyFor fr j k) (frameCount fr) o (and-second (namesOk fr k) (earlyOk fr k) (indexed k h)) l in
+      sym (inside fr from to owner k a b) ∙ ap (λ (x : Held). earlyIn fr x k) (sym holds) ∙ early

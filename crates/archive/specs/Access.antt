@@ -4,18 +4,13 @@ use Prim.Native.Nat.{ℕ, _+_}
 use mathlib.Core.Bool.{cond}
 use mathlib.Core.List.{List}
 use Rattle.ir.specs.declared.TypeNumber.{TypeNumber}
-use Rattle.ir.specs.declared.MemberNumber.{MemberNumber}
-use Rattle.ir.specs.declared.ItemNumber.{ItemNumber}
 use Rattle.ir.specs.declared.RowNumber.{RowNumber}
-use Rattle.ir.specs.declared.ComponentNumber.{ComponentNumber}
-use Rattle.ir.specs.declared.StructMember.{StructMember}
-use Rattle.ir.specs.declared.Item.{Item}
 use Rattle.ir.specs.declared.TypeForm.{TypeForm}
 use Rattle.ir.specs.declared.TypeForm.the-variants as Tf
 use Rattle.ir.specs.declared.RowForm.{RowForm}
 use Rattle.ir.specs.declared.RowForm.the-variants as Ro
 use Rattle.frames.specs.Bytes.{frameAt}
-use Rattle.frames.specs.Forms.{typeOf, memberOf, itemOf, rowOf, componentOf}
+use Rattle.frames.specs.Forms.{typeOf, rowOf}
 use Rattle.archive.specs.declared.Starts.{Starts}
 use Rattle.archive.specs.Starts.{startsOf}
 use Rattle.archive.specs.Names.{isType, isRow}
@@ -24,25 +19,10 @@ use Rattle.archive.specs.Names.{isType, isRow}
 unfoldable pub typeIn : List ℕ → Starts → TypeNumber → TypeForm
 typeIn fr s n = cond (isType s n) (typeOf (frameAt fr (n .0))) Tf.Unknown
 
--- member i of the struct whose members begin at member `first`
-abbrev pub memberIn : List ℕ → Starts → MemberNumber → ℕ → StructMember
-memberIn fr s first i = memberOf (frameAt fr (s .members + first .0 + i))
-
--- item n of those whose frames begin at `first`
-abbrev pub itemIn : List ℕ → ℕ → ItemNumber → Item
-itemIn fr first n = itemOf (frameAt fr (first + n .0))
-
--- component i of those from `first` on: the row that it names
-abbrev pub componentIn : List ℕ → Starts → ComponentNumber → ℕ → RowNumber
-componentIn fr s first i = componentOf (frameAt fr (s .components + first .0 + i))
-
 -- row n
 unfoldable pub rowIn : List ℕ → Starts → RowNumber → RowForm
 rowIn fr s n = cond (isRow s n) (rowOf (frameAt fr (s .rows + n .0))) Ro.Unknown
 
--- the same of a file, whose families begin where its frames say
+-- type n of a file, whose families begin where its frames say
 abbrev pub typeAt : List ℕ → TypeNumber → TypeForm
 typeAt fr n = typeIn fr (startsOf fr) n
-
-abbrev pub rowAt : List ℕ → RowNumber → RowForm
-rowAt fr n = rowIn fr (startsOf fr) n

@@ -4,3 +4,4 @@ pub mod Names
 pub mod Parts
 pub mod Checks
 pub mod Access
+pub mod ForProofs

@@ -1,7 +1,7 @@
 // The program for people: reads a file from standard input and prints a line in words for each row and one more after a compose; for a file that is not accepted,
 // one line that says which line is at fault and why. Reads no more than 33,793 bytes, which is one over the longest file; 290,816 bytes hold every file's lines
 // (`explained-fits`).
-use explaining::explain_text;
+use explain_file::explain_text;
 use libc::STDIN_FILENO;
 use libc::STDOUT_FILENO;
 

@@ -3,25 +3,29 @@
 use answers::ComposeVerdict;
 use answers::Outcome;
 use answers::RowType;
+use answers::Verdict;
 use archive::Starts;
-use families::find_starts;
-use families::is_row;
+use archive_access::families::find_starts;
+use archive_access::families::is_row;
+use archive_access::families::row_count;
+use file_read::OptionUsize;
+use file_read::TypedFile;
+use file_read::frames_in;
+use file_read::read_with;
 use frames::Frame;
 use frames::frame_at;
 use frames::put_frame;
+use frames_answers::write::answer_frame;
+use frames_answers::write::verdict_frame;
 use ir::ComponentNumber;
 use ir::RowNumber;
 use ir::TypeNumber;
-use operands::past::past;
-use out::write::verdict_frame;
-use reader::OptionUsize;
-use reader::TypedFile;
-use reader::frames_in;
-use reader::read_with;
-use row_frames::row::put_row;
-use row_rules::Pass;
+use ir::numbers::is_compose;
+use row_operands::past::past;
+use row_typifier::resolve::type_row;
+use rule_rows::Pass;
 use text::AnswerRoom;
-use verdicts::judge;
+use verdict_compose::compose::judge;
 ghost use mathlib.Core.Path.{_≡_};
 ghost use mathlib.Core.List.{_++_};
 ghost use mathlib.Core.Bool.{cond};
@@ -30,10 +34,56 @@ ghost use lib.ListN.{length, take, drop};
 ghost use Rattle.text.specs.declared.AnswerRoom.the-variants.{Lent};
 ghost use Rattle.archive.specs.Starts.{startsOf, rowCount};
 ghost use Rattle.archive.specs.Names.{isRow};
+ghost use Rattle.frames.specs.Bytes.{putFrame};
+ghost use Rattle.rule.specs.Answers.{rowFrame};
 ghost use Rattle.rule.specs.Things.{see};
-ghost use Rattle.answering.specs.Outputs.{outputs, framesBytes, outputBytes, placesOf};
-ghost use Rattle.reader.specs.File.{readFile, framesAfter};
-ghost use Rattle.reader.specs.Typing.{Ready, answersWritten, answersAfter, HandsBack, toGiven, rowGiven, rowType, answersAfterRow, toVerdict, verdictGiven, ifJudged, composeVerdict, answersAfterVerdict};
+ghost use Rattle.rule_rows.specs.Typed.{typed};
+ghost use Rattle.row_operands.specs.Past.{ruled};
+ghost use Rattle.rule_compose.specs.Judged.{toJudged};
+ghost use Rattle.rule_compose.specs.ForProofs.{judgedBy, composeRule};
+ghost use Rattle.rule_answers.specs.Outputs.{outputs, outputBytes};
+ghost use Rattle.rule_answers.specs.ForProofs.{placesOf};
+ghost use Rattle.file_read.specs.File.{readFile, framesAfter};
+ghost use Rattle.file_read.specs.Typing.{answersWritten, answersAfter, HandsBack, toGiven, rowGiven, rowType, answersAfterRow, toVerdict, verdictGiven, ifJudged, composeVerdict, answersAfterVerdict};
+ghost use Rattle.file_read.specs.ForProofs.{Ready, Turn, Written};
+
+// Writes the answer of row `here`, by the rules of a pass and the answers so far, as frame `at` of the answer buffer.
+fn put_row(
+    pass: Pass,
+    frames: &[u8],
+    s: Starts,
+    answers: &mut [u8],
+    places: &[u16],
+    here: RowNumber,
+    at: usize,
+)
+    ensures { λ _. ⌜ now (answers .exit)
+        ≡ putFrame (now (answers .entry)) at (rowFrame
+        (ruled (now (frames .entry)) s (now (answers .entry)) (now (places .entry)) (typed pass here))) ⌝ }
+{
+    let a = type_row(pass, frames, s, answers, places, here);
+    put_frame(answers, at, answer_frame(a));
+}
+
+// The verdict on the compose row whose frame is f, over the answers so far.
+fn judge_row(frames: &[u8], s: Starts, answers: &[u8], places: &[u16], f: Frame) -> Verdict
+    ensures { λ r. ⌜ toJudged r
+        ≡ judgedBy (now (frames .entry)) s (now (answers .entry)) (now (places .entry))
+        (composeRule (now (frames .entry)) s f) ⌝ }
+{
+    let ty = f.named();
+    let first = f.last();
+    let count = f.second();
+    judge(
+        frames,
+        s,
+        answers,
+        places,
+        TypeNumber(ty),
+        ComponentNumber(first),
+        count,
+    )
+}
 
 // Writes a row's answer as frame `at`, and after it the verdict if the row is a compose; gives the frame after them.
 fn answer_row(
@@ -45,37 +95,19 @@ fn answer_row(
     row: RowNumber,
     at: usize,
 ) -> usize
-    requires { ⌜ Ready pass (now frames) (length (now answers)) × (s ≡ startsOf (now frames)) × (row .0 < rowCount s) × (at ≡ length (outputs pass (see (now frames)) (row .0))) × (take (16 * at) (now answers) ≡ framesBytes (outputs pass (see (now frames)) (row .0))) × (now places ≡ placesOf pass (now frames) (row .0)) ⌝ }
-    ensures { λ r. ⌜ (r ≡ length (outputs pass (see (now (frames .entry))) (row .0 + 1))) × (now (answers .exit) ≡ framesBytes (outputs pass (see (now (frames .entry))) (row .0 + 1)) ++ drop (16 * r) (now (answers .entry))) ⌝ }
+    requires { ⌜ Turn pass (now frames) (now answers) (now places) s row at ⌝ }
+    ensures { λ r. ⌜ Written pass (now (frames .entry)) (now (answers .entry)) (now (answers .exit)) (row .0 + 1) r ⌝ }
 {
     put_row(pass, frames, s, answers, places, row, at);
     let after = at + 1;
     let f = frame_at(frames, s.rows + (row.0 as usize));
-    if f.b1 == 5 {
+    if is_compose(f.b1) {
         let e = 16 * at;
-        let v = judge(
-            frames,
-            s,
-            &answers[..e],
-            places,
-            TypeNumber(f.named()),
-            ComponentNumber(f.last()),
-            f.second(),
-        );
+        let v = judge_row(frames, s, &answers[..e], places, f);
         put_frame(answers, after, verdict_frame(row, v));
         after + 1
     } else {
         after
-    }
-}
-
-fn row_count(s: Starts) -> usize
-    ensures { λ r. ⌜ r ≡ rowCount s ⌝ }
-{
-    if s.components < s.rows {
-        0
-    } else {
-        s.components - s.rows
     }
 }
 
@@ -87,8 +119,13 @@ fn answer_rows(
     answers: &mut [u8],
     places: &mut [u16],
 ) -> usize
-    requires { ⌜ Ready pass (now frames) (length (now answers)) × (s ≡ startsOf (now frames)) × (rowCount s ≤ length (now places)) ⌝ }
-    ensures { λ r. ⌜ (r ≡ length (outputs pass (see (now (frames .entry))) (rowCount s))) × (now (answers .exit) ≡ answersWritten pass (now (answers .entry)) (now (frames .entry))) × (now (places .exit) ≡ placesOf pass (now (frames .entry)) (rowCount s) ++ drop (rowCount s) (now (places .entry))) ⌝ }
+    requires ready { ⌜ Ready pass (now frames) (length (now answers)) ⌝ }
+    requires starts { ⌜ s ≡ startsOf (now frames) ⌝ }
+    requires room { ⌜ rowCount s ≤ length (now places) ⌝ }
+    ensures count { λ r. ⌜ r ≡ length (outputs pass (see (now (frames .entry))) (rowCount s)) ⌝ }
+    ensures answers { λ r. ⌜ now (answers .exit) ≡ answersWritten pass (now (answers .entry)) (now (frames .entry)) ⌝ }
+    ensures table { λ r. ⌜ now (places .exit)
+        ≡ placesOf pass (now (frames .entry)) (rowCount s) ++ drop (rowCount s) (now (places .entry)) ⌝ }
 {
     let n = row_count(s);
     let mut m = 0;
@@ -113,7 +150,8 @@ fn answer_rows(
 // Answers every row, and gives how many frames are written.
 fn answer_all(pass: Pass, frames: &[u8], answers: &mut [u8]) -> usize
     requires { ⌜ Ready pass (now frames) (length (now answers)) ⌝ }
-    ensures { λ r. ⌜ (16 * r ≡ length (outputBytes pass (now (frames .entry)))) × (now (answers .exit) ≡ answersWritten pass (now (answers .entry)) (now (frames .entry))) ⌝ }
+    ensures count { λ r. ⌜ 16 * r ≡ length (outputBytes pass (now (frames .entry))) ⌝ }
+    ensures answers { λ r. ⌜ now (answers .exit) ≡ answersWritten pass (now (answers .entry)) (now (frames .entry)) ⌝ }
 {
     let mut places = [0u16; 1024];
     let s = find_starts(frames);
@@ -123,7 +161,10 @@ fn answer_all(pass: Pass, frames: &[u8], answers: &mut [u8]) -> usize
 // One row's answer, after all are written.
 fn answer_one(pass: Pass, frames: &[u8], answers: &mut [u8], row: RowNumber) -> RowType
     requires { ⌜ Ready pass (now frames) (length (now answers)) ⌝ }
-    ensures { λ r. ⌜ (toGiven r ≡ rowGiven pass row (now (frames .entry))) × (now (answers .exit) ≡ cond (isRow (startsOf (now (frames .entry))) row) (answersWritten pass (now (answers .entry)) (now (frames .entry))) (now (answers .entry))) ⌝ }
+    ensures outcome { λ r. ⌜ toGiven r ≡ rowGiven pass row (now (frames .entry)) ⌝ }
+    ensures answers { λ r. ⌜ now (answers .exit)
+        ≡ cond (isRow (startsOf (now (frames .entry))) row)
+        (answersWritten pass (now (answers .entry)) (now (frames .entry))) (now (answers .entry)) ⌝ }
 {
     let s = find_starts(frames);
     if is_row(s, row) {
@@ -139,24 +180,19 @@ fn answer_one(pass: Pass, frames: &[u8], answers: &mut [u8], row: RowNumber) -> 
 // One compose's verdict, after all answers and verdicts are written.
 fn judge_one(pass: Pass, frames: &[u8], answers: &mut [u8], row: RowNumber) -> ComposeVerdict
     requires { ⌜ Ready pass (now frames) (length (now answers)) ⌝ }
-    ensures { λ r. ⌜ (toVerdict r ≡ verdictGiven pass row (now (frames .entry))) × (now (answers .exit) ≡ ifJudged (answersWritten pass (now (answers .entry)) (now (frames .entry))) (now (answers .entry)) (verdictGiven pass row (now (frames .entry)))) ⌝ }
+    ensures outcome { λ r. ⌜ toVerdict r ≡ verdictGiven pass row (now (frames .entry)) ⌝ }
+    ensures answers { λ r. ⌜ now (answers .exit)
+        ≡ ifJudged (answersWritten pass (now (answers .entry)) (now (frames .entry))) (now (answers .entry))
+        (verdictGiven pass row (now (frames .entry))) ⌝ }
 {
     let s = find_starts(frames);
     if is_row(s, row) {
         let m = row.0 as usize;
         let f = frame_at(frames, s.rows + m);
-        if f.b1 == 5 {
+        if is_compose(f.b1) {
             let mut places = [0u16; 1024];
             answer_rows(pass, frames, s, answers, &mut places);
-            ComposeVerdict::Judged(judge(
-                frames,
-                s,
-                answers,
-                &places[..m],
-                TypeNumber(f.named()),
-                ComponentNumber(f.last()),
-                f.second(),
-            ))
+            ComposeVerdict::Judged(judge_row(frames, s, answers, &places[..m], f))
         } else {
             ComposeVerdict::NotCompose
         }
@@ -174,7 +210,8 @@ pub fn type_file(
     frames: &mut [u8],
     answers: &mut [u8],
 ) -> TypedFile
-    ensures { λ r. ⌜ HandsBack pass limit (now (text .entry)) (now (frames .entry)) (now (answers .entry)) r (now (frames .exit)) (now (answers .exit)) ⌝ }
+    ensures { λ r. ⌜ HandsBack pass limit (now (text .entry)) (now (frames .entry)) (now (answers .entry)) r
+        (now (frames .exit)) (now (answers .exit)) ⌝ }
 {
     let read = read_with(limit, text, frames, AnswerRoom::Lent(answers.len()));
     match frames_in(read) {
@@ -201,7 +238,12 @@ pub fn type_rows(
     frames: &mut [u8],
     answers: &mut [u8],
 ) -> Outcome
-    ensures { λ r. ⌜ (r ≡ readFile limit (now (text .entry)) (length (now (frames .entry))) (Lent (length (now (answers .entry))))) × (now (frames .exit) ≡ framesAfter limit (now (text .entry)) (now (frames .entry)) (Lent (length (now (answers .entry))))) × (now (answers .exit) ≡ answersAfter pass limit (now (text .entry)) (length (now (frames .entry))) (now (answers .entry))) ⌝ }
+    ensures outcome { λ r. ⌜ r
+        ≡ readFile limit (now (text .entry)) (length (now (frames .entry))) (Lent (length (now (answers .entry)))) ⌝ }
+    ensures frames { λ r. ⌜ now (frames .exit)
+        ≡ framesAfter limit (now (text .entry)) (now (frames .entry)) (Lent (length (now (answers .entry)))) ⌝ }
+    ensures answers { λ r. ⌜ now (answers .exit)
+        ≡ answersAfter pass limit (now (text .entry)) (length (now (frames .entry))) (now (answers .entry)) ⌝ }
 {
     let typed = type_file(pass, limit, text, frames, answers);
     typed.outcome
@@ -216,7 +258,12 @@ pub fn row_type(
     answers: &mut [u8],
     row: RowNumber,
 ) -> RowType
-    ensures { λ r. ⌜ (toGiven r ≡ rowType pass limit (now (text .entry)) (length (now (frames .entry))) (length (now (answers .entry))) row) × (now (frames .exit) ≡ framesAfter limit (now (text .entry)) (now (frames .entry)) (Lent (length (now (answers .entry))))) × (now (answers .exit) ≡ answersAfterRow pass limit (now (text .entry)) (length (now (frames .entry))) (now (answers .entry)) row) ⌝ }
+    ensures outcome { λ r. ⌜ toGiven r
+        ≡ rowType pass limit (now (text .entry)) (length (now (frames .entry))) (length (now (answers .entry))) row ⌝ }
+    ensures frames { λ r. ⌜ now (frames .exit)
+        ≡ framesAfter limit (now (text .entry)) (now (frames .entry)) (Lent (length (now (answers .entry)))) ⌝ }
+    ensures answers { λ r. ⌜ now (answers .exit)
+        ≡ answersAfterRow pass limit (now (text .entry)) (length (now (frames .entry))) (now (answers .entry)) row ⌝ }
 {
     let read = read_with(limit, text, frames, AnswerRoom::Lent(answers.len()));
     match frames_in(read) {
@@ -237,7 +284,12 @@ pub fn compose_verdict(
     answers: &mut [u8],
     row: RowNumber,
 ) -> ComposeVerdict
-    ensures { λ r. ⌜ (toVerdict r ≡ composeVerdict pass limit (now (text .entry)) (length (now (frames .entry))) (length (now (answers .entry))) row) × (now (frames .exit) ≡ framesAfter limit (now (text .entry)) (now (frames .entry)) (Lent (length (now (answers .entry))))) × (now (answers .exit) ≡ answersAfterVerdict pass limit (now (text .entry)) (length (now (frames .entry))) (now (answers .entry)) row) ⌝ }
+    ensures outcome { λ r. ⌜ toVerdict r
+        ≡ composeVerdict pass limit (now (text .entry)) (length (now (frames .entry))) (length (now (answers .entry))) row ⌝ }
+    ensures frames { λ r. ⌜ now (frames .exit)
+        ≡ framesAfter limit (now (text .entry)) (now (frames .entry)) (Lent (length (now (answers .entry)))) ⌝ }
+    ensures answers { λ r. ⌜ now (answers .exit)
+        ≡ answersAfterVerdict pass limit (now (text .entry)) (length (now (frames .entry))) (now (answers .entry)) row ⌝ }
 {
     let read = read_with(limit, text, frames, AnswerRoom::Lent(answers.len()));
     match frames_in(read) {

@@ -9,7 +9,8 @@ use lib.Seq.{sets-eq}
 use Rattle.frames.specs.declared.Frame.{Frame}
 use Rattle.frames.specs.Bytes.{bytesOf}
 
-pub stores : (s : List ℕ) (at : ℕ) (f : Frame) → at + 16 ≤ length s → set (set (set (set (set (set (set (set (set (set (set (set (set (set (set (set s at (f .b0)) (at + 1) (f .b1)) (at + 2) (f .b2)) (at + 3) (f .b3)) (at + 4) (f .b4)) (at + 5) (f .b5)) (at + 6) (f .b6)) (at + 7) (f .b7)) (at + 8) (f .b8)) (at + 9) (f .b9)) (at + 10) (f .b10)) (at + 11) (f .b11)) (at + 12) (f .b12)) (at + 13) (f .b13)) (at + 14) (f .b14)) (at + 15) (f .b15) ≡ take at s ++ bytesOf f ++ drop (at + 16) s
+pub stores : (s : List ℕ) (at : ℕ) (f : Frame) → at + 16 ≤ length s
+    → set (set (set (set (set (set (set (set (set (set (set (set (set (set (set (set s at (f .b0)) (at + 1) (f .b1)) (at + 2) (f .b2)) (at + 3) (f .b3)) (at + 4) (f .b4)) (at + 5) (f .b5)) (at + 6) (f .b6)) (at + 7) (f .b7)) (at + 8) (f .b8)) (at + 9) (f .b9)) (at + 10) (f .b10)) (at + 11) (f .b11)) (at + 12) (f .b12)) (at + 13) (f .b13)) (at + 14) (f .b14)) (at + 15) (f .b15) ≡ take at s ++ bytesOf f ++ drop (at + 16) s
 stores s at f h =
     let e1 : at + 1 ≡ suc at = omega arith in
     let e2 : at + 2 ≡ suc (suc at) = omega arith in

@@ -73,9 +73,11 @@ half-at f w i j h = go (byte f i) (byte f (i + 1)) (w i) (w (i + 1)) j h ∙ at 
     at i (suc (suc j)) h = absurd (omega arith)
 
 word-at : (f : Frame) → Below f → (i j : ℕ) → j < 4 → wordByte (word f i) j ≡ byte f (i + j)
-word-at f w i j h = go (byte f i) (byte f (i + 1)) (byte f (i + 2)) (byte f (i + 3)) (w i) (w (i + 1)) (w (i + 2)) (w (i + 3)) j h ∙ at i j h
+word-at f w i j h =
+    go (byte f i) (byte f (i + 1)) (byte f (i + 2)) (byte f (i + 3)) (w i) (w (i + 1)) (w (i + 2)) (w (i + 3)) j h ∙ at i j h
   where
-    go : (a b c d : ℕ) → a < 256 → b < 256 → c < 256 → d < 256 → (j : ℕ) → j < 4 → wordByte (a + b * 256 + c * 65536 + d * 16777216) j ≡ getD (a ∷ b ∷ c ∷ d ∷ []) j 0
+    go : (a b c d : ℕ) → a < 256 → b < 256 → c < 256 → d < 256 → (j : ℕ) → j < 4
+        → wordByte (a + b * 256 + c * 65536 + d * 16777216) j ≡ getD (a ∷ b ∷ c ∷ d ∷ []) j 0
     go a b c d p q r s zero h = omega arith
     go a b c d p q r s (suc zero) h = omega arith
     go a b c d p q r s (suc (suc zero)) h = omega arith
@@ -99,7 +101,8 @@ offset f i n g e k t =
     e (k - i) (omega arith) ∙ ap (byte f) z
 
 -- the same with one place m apart from these
-apart : (f : Frame) (m i n a : ℕ) (g : ℕ → ℕ) → (m < i) ⊎ (i + n ≤ m) → a ≡ byte f m → ((j : ℕ) → j < n → g j ≡ byte f (i + j)) → (k : ℕ) → (eqb k m || among i n k) ≡ true → cond (eqb k m) a (g (k - i)) ≡ byte f k
+apart : (f : Frame) (m i n a : ℕ) (g : ℕ → ℕ) → (m < i) ⊎ (i + n ≤ m) → a ≡ byte f m → ((j : ℕ) → j < n → g j ≡ byte f (i + j)) → (k : ℕ)
+    → (eqb k m || among i n k) ≡ true → cond (eqb k m) a (g (k - i)) ≡ byte f k
 apart f m i n a g o p e k t = go o (either (eqb k m) (among i n k) t)
   where
     differs : (m < i) ⊎ (i + n ≤ m) → (i ≤ k) → (k < i + n) → k ≡ m → ⊥
@@ -181,7 +184,10 @@ space-access (suc (suc (suc (suc (suc (suc (suc zero))))))) a h = sym (eqb-true 
 space-access (suc (suc (suc (suc (suc (suc (suc (suc zero)))))))) a h = sym (eqb-true a 0 h)
 space-access (suc (suc (suc (suc (suc (suc (suc (suc (suc zero))))))))) a h = sym (eqb-true a 0 h)
 space-access (suc (suc (suc (suc (suc (suc (suc (suc (suc (suc s)))))))))) a h =
-    let l = ltb-true (suc (suc (suc (suc (suc (suc (suc (suc (suc (suc s)))))))))) 10 (both (ltb (suc (suc (suc (suc (suc (suc (suc (suc (suc (suc s)))))))))) 10) _ h .0) in absurd (omega arith)
+    let l =
+    ltb-true (suc (suc (suc (suc (suc (suc (suc (suc (suc (suc s)))))))))) 10
+    (both (ltb (suc (suc (suc (suc (suc (suc (suc (suc (suc (suc s)))))))))) 10) _ h .0) in
+    absurd (omega arith)
 
 past-form : (m n : ℕ) → 3 ≤ m → isArraySize m n ≡ true → ⊥
 past-form m n l h = never (rw (ne-eqb m 0 (λ z. omega arith), ne-eqb m 1 (λ z. omega arith), ne-eqb m 2 (λ z. omega arith)) at h)
@@ -198,7 +204,8 @@ form-count (suc zero) n h = refl
 form-count (suc (suc zero)) n h = sym (eqb-true n 0 h)
 form-count (suc (suc (suc m))) n h = absurd (past-form (suc (suc (suc m))) n (omega arith) h)
 
-class-number : (c b5 b6 b7 : ℕ) → isClass c b5 b6 b7 ≡ true → (j : ℕ) → j < 4 → getD (classBytes (classOf c b5 b6 b7)) j 0 ≡ getD (c ∷ b5 ∷ b6 ∷ b7 ∷ []) j 0
+class-number : (c b5 b6 b7 : ℕ) → isClass c b5 b6 b7 ≡ true → (j : ℕ) → j < 4
+    → getD (classBytes (classOf c b5 b6 b7)) j 0 ≡ getD (c ∷ b5 ∷ b6 ∷ b7 ∷ []) j 0
 class-number zero b5 b6 b7 h =
     let q = both (ltb b5 6) _ h in
     let r = both (ltb b6 2) (eqb b7 0) (q .1) in
@@ -217,7 +224,8 @@ class-number (suc (suc (suc zero))) b5 b6 b7 h =
     four _ _ refl (storageFormat-number b5 (ltb-true b5 41 (q .0))) (sym (eqb-true b6 0 (r .0))) (access-number b7 (ltb-true b7 8 (r .1)))
 class-number (suc (suc (suc (suc c)))) b5 b6 b7 h = absurd (never h)
 
-result-number : (a b m : ℕ) → a < 256 → b < 256 → isOption m (a + b * 256) ≡ true → (j : ℕ) → j < 3 → getD (resultBytes (resultOf m (a + b * 256))) j 0 ≡ getD (a ∷ b ∷ m ∷ []) j 0
+result-number : (a b m : ℕ) → a < 256 → b < 256 → isOption m (a + b * 256) ≡ true → (j : ℕ) → j < 3
+    → getD (resultBytes (resultOf m (record { 0 = a + b * 256 }))) j 0 ≡ getD (a ∷ b ∷ m ∷ []) j 0
 result-number a b zero p q h = let z = eqb-true (a + b * 256) 0 h in three _ _ (omega arith) (omega arith) refl
 result-number a b (suc zero) p q h = three _ _ (omega arith) (omega arith) refl
 result-number a b (suc (suc m)) p q h = let l = ltb-true (suc (suc m)) 2 (both (ltb (suc (suc m)) 2) _ h .0) in absurd (omega arith)
@@ -244,28 +252,66 @@ write-read (literal i) f w h k t = literal-number (byte f i) (ltb-true _ 12 h) �
 write-read (operator i) f w h k t = binaryOperator-number (byte f i) (ltb-true _ 18 h) ∙ ap (byte f) (sym (eqb-true k i t))
 write-read (number i) f w h k t = offset f i 2 (halfByte (half f i)) (half-at f w i) k t
 write-read (wide i) f w h k t = offset f i 4 (wordByte (word f i)) (word-at f w i) k t
-write-read scalar f w h k t = offset f 4 2 _ (two (λ (j : ℕ). getD (scalarKindNumber (scalarKindOf (f .b4)) ∷ f .b5 ∷ []) j 0) (λ (j : ℕ). byte f (4 + j)) (scalarKind-number (f .b4) (ltb-true _ 6 h)) refl) k t
-write-read space f w h k t = offset f 6 2 _ (two (λ (j : ℕ). getD (spaceNumber (read space f) ∷ spaceAccess (read space f) ∷ []) j 0) (λ (j : ℕ). byte f (6 + j)) (space-number (f .b6) (f .b7) h) (space-access (f .b6) (f .b7) h)) k t
+write-read scalar f w h k t =
+    offset f 4 2 _
+    (two (λ (j : ℕ). getD (scalarKindNumber (scalarKindOf (f .b4)) ∷ f .b5 ∷ []) j 0) (λ (j : ℕ). byte f (4 + j))
+    (scalarKind-number (f .b4) (ltb-true _ 6 h)) refl)
+    k t
+write-read space f w h k t =
+    offset f 6 2 _
+    (two (λ (j : ℕ). getD (spaceNumber (read space f) ∷ spaceAccess (read space f) ∷ []) j 0) (λ (j : ℕ). byte f (6 + j))
+    (space-number (f .b6) (f .b7) h) (space-access (f .b6) (f .b7) h))
+    k t
 write-read arraySize f w h k t =
     apart f 4 8 4 _ (wordByte (formCount (read arraySize f))) (inl (omega arith)) (form-number (f .b4) (word f 8) h)
     (λ j l. ap (λ (n : ℕ). wordByte n j) (form-count (f .b4) (word f 8) h) ∙ word-at f w 8 j l)
     k t
-write-read class f w h k t = offset f 4 4 _ (λ j l. class-number (f .b4) (f .b5) (f .b6) (f .b7) h j l ∙ four (λ (i : ℕ). getD (f .b4 ∷ f .b5 ∷ f .b6 ∷ f .b7 ∷ []) i 0) (λ (i : ℕ). byte f (4 + i)) refl refl refl refl j l) k t
-write-read result f w h k t = offset f 2 3 _ (λ j l. result-number (f .b2) (f .b3) (f .b4) (w 2) (w 3) h j l ∙ three (λ (i : ℕ). getD (f .b2 ∷ f .b3 ∷ f .b4 ∷ []) i 0) (λ (i : ℕ). byte f (2 + i)) refl refl refl j l) k t
+write-read class f w h k t =
+    offset f 4 4 _
+    (λ j l.
+    class-number (f .b4) (f .b5) (f .b6) (f .b7) h j l
+    ∙ four (λ (i : ℕ). getD (f .b4 ∷ f .b5 ∷ f .b6 ∷ f .b7 ∷ []) i 0) (λ (i : ℕ). byte f (4 + i)) refl refl refl refl j l)
+    k t
+write-read result f w h k t =
+    offset f 2 3 _
+    (λ j l.
+    result-number (f .b2) (f .b3) (f .b4) (w 2) (w 3) h j l
+    ∙ three (λ (i : ℕ). getD (f .b2 ∷ f .b3 ∷ f .b4 ∷ []) i 0) (λ (i : ℕ). byte f (2 + i)) refl refl refl j l)
+    k t
 write-read query f w h k t =
     let q = both (ltb (byte f 6) 4) _ h in
     apart f 6 2 2 _ (halfByte (half f 2)) (inr (omega arith)) (imageQuery-number _ (ltb-true _ 4 (q .0))) (half-at f w 2) k t
 write-read relational f w h k t =
     let q = both (ltb (byte f 6) 4) _ h in
     apart f 6 2 2 _ (halfByte (half f 2)) (inr (omega arith)) (relationalFunction-number _ (ltb-true _ 4 (q .0))) (half-at f w 2) k t
-write-read convert f w h k t = offset f 7 2 _ (λ j l. convert-number (f .b7) (f .b8) h j l ∙ two (λ (i : ℕ). getD (f .b7 ∷ f .b8 ∷ []) i 0) (λ (i : ℕ). byte f (7 + i)) refl refl j l) k t
+write-read convert f w h k t =
+    offset f 7 2 _
+    (λ j l. convert-number (f .b7) (f .b8) h j l ∙ two (λ (i : ℕ). getD (f .b7 ∷ f .b8 ∷ []) i 0) (λ (i : ℕ). byte f (7 + i)) refl refl j l)
+    k t
 
 -- A WHOLE FRAME
 
 -- frames are the same that have the same sixteen bytes
 pub same-bytes : (a b : ℕ → ℕ) → ((i : ℕ) → i < 16 → a i ≡ b i) → framed a ≡ framed b
 same-bytes a b e =
-    rw (e 0 (omega arith), e 1 (omega arith), e 2 (omega arith), e 3 (omega arith), e 4 (omega arith), e 5 (omega arith), e 6 (omega arith), e 7 (omega arith), e 8 (omega arith), e 9 (omega arith), e 10 (omega arith), e 11 (omega arith), e 12 (omega arith), e 13 (omega arith), e 14 (omega arith), e 15 (omega arith))
+    rw (
+      e 0 (omega arith),
+      e 1 (omega arith),
+      e 2 (omega arith),
+      e 3 (omega arith),
+      e 4 (omega arith),
+      e 5 (omega arith),
+      e 6 (omega arith),
+      e 7 (omega arith),
+      e 8 (omega arith),
+      e 9 (omega arith),
+      e 10 (omega arith),
+      e 11 (omega arith),
+      e 12 (omega arith),
+      e 13 (omega arith),
+      e 14 (omega arith),
+      e 15 (omega arith),
+    )
 
 all-before : (a b : List Bool) → allOf (a ++ b) ≡ true → (allOf a ≡ true) × (allOf b ≡ true)
 all-before [] b h = (refl, h)
@@ -282,7 +328,8 @@ by-test true x y r p q = p refl
 by-test false x y r p q = q refl
 
 -- a byte that a field of the list takes is written again
-taken-back : (f : Frame) → Below f → (l : List Field) → allOf (map (λ (x : Field). fits x f) l) ≡ true → (k : ℕ) → taken l k ≡ true → writeEach l (readEach l f) k ≡ byte f k
+taken-back : (f : Frame) → Below f → (l : List Field) → allOf (map (λ (x : Field). fits x f) l) ≡ true → (k : ℕ) → taken l k ≡ true
+    → writeEach l (readEach l f) k ≡ byte f k
 taken-back f w [] h k t = absurd (never t)
 taken-back f w (x ∷ l) h k t =
     let q = both (fits x f) _ h in
@@ -295,7 +342,8 @@ untaken (x ∷ l) v k t =
     by-test (takes x k) _ _ _ (λ e. absurd (never (sym (rw e at t)))) (λ e. untaken l (v .1) k (rw e at t))
 
 -- each place after the family and the kind
-each-back : (f : Frame) → Below f → (l : List Field) → fitsAll (fields l) f ≡ true → (k : ℕ) → (taken l k || eqb (byte f k) 0) ≡ true → writeEach l (readEach l f) k ≡ byte f k
+each-back : (f : Frame) → Below f → (l : List Field) → fitsAll (fields l) f ≡ true → (k : ℕ) → (taken l k || eqb (byte f k) 0) ≡ true
+    → writeEach l (readEach l f) k ≡ byte f k
 each-back f w l h k t = go (taken l k) refl
   where
     q : (allOf (map (λ (x : Field). fits x f) l) ≡ true) × (allOf (map (λ (k : ℕ). taken l k || eqb (byte f k) 0) places) ≡ true)
@@ -306,7 +354,8 @@ each-back f w l h k t = go (taken l k) refl
     go false e = untaken l (readEach l f) k e ∙ sym (eqb-true (byte f k) 0 (rw e at t))
 
 -- a frame whose bytes are within the values of its layout is what the layout writes from what it reads
-pub laid-back : (l : List Field) (f : Frame) → Below f → fitsAll (fields l) f ≡ true → laid (byte f 0) (byte f 1) (fields l) (readAll (fields l) f) ≡ f
+pub laid-back : (l : List Field) (f : Frame) → Below f → fitsAll (fields l) f ≡ true
+    → laid (byte f 0) (byte f 1) (fields l) (readAll (fields l) f) ≡ f
 laid-back l f w h = same-bytes _ (byte f) each
   where
     q : (allOf (map (λ (x : Field). fits x f) l) ≡ true) × (allOf (map (λ (k : ℕ). taken l k || eqb (byte f k) 0) places) ≡ true)

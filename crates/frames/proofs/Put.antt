@@ -37,7 +37,9 @@ module _ (s : List ℕ) (p : ℕ) (f : Frame) (fits : p + 16 ≤ length s) where
   inside i h = from-p i ∙ List·getD-append (bytesOf f) (drop (p + 16) s) 0 i h
 
   below : (i : ℕ) → i < p → getD (placed s p f) i 0 ≡ getD s i 0
-  below i h = ap (λ (l : List ℕ). getD l i 0) grouped ∙ List·getD-append (take p s) (bytesOf f ++ drop (p + 16) s) 0 i (omega (arith, before)) ∙ getD-take p s i 0 h
+  below i h =
+      ap (λ (l : List ℕ). getD l i 0) grouped ∙ List·getD-append (take p s) (bytesOf f ++ drop (p + 16) s) 0 i (omega (arith, before))
+      ∙ getD-take p s i 0 h
 
   above : (i : ℕ) → p + 16 ≤ i → getD (placed s p f) i 0 ≡ getD s i 0
   above i h =
@@ -65,7 +67,8 @@ put-same s k f l =
     rw (lt-ltb k (frameCount s) l, lt-ltb k (frameCount (placed s (16 * k) f)) e) (same-bytes _ (byte f) (inside s (16 * k) f h))
 
 -- a byte of another frame
-elsewhere : (s : List ℕ) (k : ℕ) (f : Frame) (j : ℕ) → 16 * k + 16 ≤ length s → (j ≡ k → ⊥) → (i : ℕ) → i < 16 → getD (placed s (16 * k) f) (16 * j + i) 0 ≡ getD s (16 * j + i) 0
+elsewhere : (s : List ℕ) (k : ℕ) (f : Frame) (j : ℕ) → 16 * k + 16 ≤ length s → (j ≡ k → ⊥) → (i : ℕ) → i < 16
+    → getD (placed s (16 * k) f) (16 * j + i) 0 ≡ getD s (16 * j + i) 0
 elsewhere s k f j h d i l = go (decLt j k)
   where
     go : Dec (j < k) → getD (placed s (16 * k) f) (16 * j + i) 0 ≡ getD s (16 * j + i) 0
@@ -92,8 +95,28 @@ put-other s k f j d = go (decLt k (frameCount s)) (decLt j (frameCount s))
 
 from-below : (s : List ℕ) → ((i : ℕ) → getD s i 0 < 256) → (p : ℕ) → Below (frameFrom s p)
 from-below s w p =
-    below-each (frameFrom s p)
-    (w (p + 0), (w (p + 1), (w (p + 2), (w (p + 3), (w (p + 4), (w (p + 5), (w (p + 6), (w (p + 7), (w (p + 8), (w (p + 9), (w (p + 10), (w (p + 11), (w (p + 12), (w (p + 13), (w (p + 14), (w (p + 15), tt))))))))))))))))
+    below-each (frameFrom s p) (
+      w (p + 0),
+      (
+        w (p + 1),
+        (
+          w (p + 2),
+          (
+            w (p + 3),
+            (
+              w (p + 4),
+              (
+                w (p + 5),
+                (
+                  w (p + 6),
+                  (w (p + 7), (w (p + 8), (w (p + 9), (w (p + 10), (w (p + 11), (w (p + 12), (w (p + 13), (w (p + 14), (w (p + 15), tt))))))))),
+                ),
+              ),
+            ),
+          ),
+        ),
+      ),
+    )
 
 zeros : Each (bytesOf zeroFrame)
 zeros = let z : 0 < 256 = omega arith in (z, (z, (z, (z, (z, (z, (z, (z, (z, (z, (z, (z, (z, (z, (z, (z, tt))))))))))))))))

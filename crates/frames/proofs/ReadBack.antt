@@ -25,7 +25,8 @@ use Rattle.answers.specs.declared.Verdict.the-variants as Vd
 use Rattle.frames.specs.Bytes.{half}
 use Rattle.frames.specs.Fields.{optionSizeOf, optionSizeNumber, arraySizeOf, formNumber, formCount}
 use Rattle.frames.specs.Forms.{typeOf}
-use Rattle.frames.specs.Out.{typeFrame, answerFrame, verdictFrame, valueOf, answerOf, verdictOf}
+use Rattle.frames.specs.Out.{typeFrame, answerFrame, verdictFrame}
+use Rattle.frames.specs.ForProofs.{valueOf, unresolvedOf, answerOf, verdictOf}
 
 -- the two bytes of a number give it again
 pub half-back : (n : ℕ) → n % 256 + n / 256 * 256 ≡ n
@@ -41,7 +42,8 @@ option-back (Os.Some Vs.Bi) = refl
 option-back (Os.Some Vs.Tri) = refl
 option-back (Os.Some Vs.Quad) = refl
 
-size-back : (z : ArraySize) → arraySizeOf (formNumber z) (formCount z % 256 + formCount z / 256 % 256 * 256 + formCount z / 256 / 256 % 256 * 65536 + formCount z / 256 / 256 / 256 * 16777216) ≡ z
+size-back : (z : ArraySize)
+    → arraySizeOf (formNumber z) (formCount z % 256 + formCount z / 256 % 256 * 256 + formCount z / 256 / 256 % 256 * 65536 + formCount z / 256 / 256 / 256 * 16777216) ≡ z
 size-back (As.Constant n) = ap As.Constant (word-back n)
 size-back (As.Pending o) = rw (word-back (o .0))
 size-back As.Dynamic = refl
@@ -52,7 +54,8 @@ unfolding typeOf
 type-back (Ti.Scalar s) family = rw (scalarKind-back (s .kind))
 type-back (Ti.Vector n s) family = rw (vectorSize-back n, scalarKind-back (s .kind))
 type-back (Ti.Matrix c r s) family = rw (vectorSize-back c, vectorSize-back r, scalarKind-back (s .kind))
-type-back (Ti.CooperativeMatrix c r s o) family = rw (cooperativeSize-back c, cooperativeSize-back r, scalarKind-back (s .kind), cooperativeRole-back o)
+type-back (Ti.CooperativeMatrix c r s o) family =
+    rw (cooperativeSize-back c, cooperativeSize-back r, scalarKind-back (s .kind), cooperativeRole-back o)
 type-back (Ti.Atomic s) family = rw (scalarKind-back (s .kind))
 type-back (Ti.Pointer b p) family = rw (half-back (b .0), space-back p)
 type-back (Ti.ValuePointer n s p) family = rw (option-back n, scalarKind-back (s .kind), space-back p)
@@ -62,7 +65,8 @@ type-back (Ti.Image d a (Ic.Sampled k m)) family = rw (imageDimension-back d, fl
 type-back (Ti.Image d a (Ic.Depth m)) family = rw (imageDimension-back d, flag-back a, flag-back m)
 type-back (Ti.Image d a Ic.External) family = rw (imageDimension-back d, flag-back a)
 type-back (Ti.Image d a (Ic.Storage f x)) family =
-    rw (imageDimension-back d, flag-back a, storageFormat-back f) (ap (λ (y : StorageAccess). Tf.Known (Ti.Image d a (Ic.Storage f y))) (access-back x))
+    rw (imageDimension-back d, flag-back a, storageFormat-back f)
+    (ap (λ (y : StorageAccess). Tf.Known (Ti.Image d a (Ic.Storage f y))) (access-back x))
 type-back (Ti.Sampler q) family = rw (flag-back q)
 type-back (Ti.AccelerationStructure q) family = rw (flag-back q)
 type-back (Ti.RayQuery q) family = rw (flag-back q)
@@ -70,7 +74,7 @@ type-back (Ti.BindingArray b z) family = rw (half-back (b .0), size-back z)
 
 -- an answer's frame reads as the answer
 pub answer-back : (a : Answer) → answerOf (answerFrame a) ≡ a
-unfolding answerOf
+unfolding answerOf unresolvedOf
 answer-back (An.Resolved (Tr.Handle n)) = rw (half-back (n .0))
 answer-back (An.Resolved (Tr.Value t)) = ap valueOf (type-back t 9)
 answer-back (An.Refused (Re.OutOfBoundsIndex r i)) = rw (half-back (r .0), word-back i)

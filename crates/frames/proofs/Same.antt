@@ -18,14 +18,15 @@ use Rattle.ir.specs.declared.RowKind.{RowKind}
 use Rattle.ir.specs.declared.RowKind.the-variants as Rk
 use Rattle.ir.specs.declared.RowForm.{RowForm}
 use Rattle.ir.specs.declared.RowForm.the-variants as Rf
-use Rattle.ir.specs.Numbers.{typeKindOf, typeKindNumber, itemKindOf, itemKindNumber, rowKindOf, rowKindNumber}
+use Rattle.ir.specs.Numbers.{typeKindOf, typeKindNumber, itemKindOf, rowKindOf, rowKindNumber}
+use Rattle.ir.specs.ForProofs.{itemKindNumber}
 use Rattle.frames.specs.declared.Frame.{Frame}
 use Rattle.frames.specs.Bytes.{byte, zeroFrame}
 use Rattle.frames.specs.Fields.{Layout, free, fields, Vals, readAll, fitsAll, laid}
 use Rattle.frames.specs.Layout.{typeLayout, memberLayout, itemLayout, rowLayout, componentLayout}
 use Rattle.frames.specs.Forms.{madeType, madeItem, madeRow, typeOf, itemOf, rowOf, memberOf, componentOf}
 use Rattle.frames.specs.Out.{typeFrame}
-use Rattle.frames.specs.Back.{rowFrame, itemFrame, memberFrame, componentFrame}
+use Rattle.frames.specs.ForProofs.{rowFrame, itemFrame, memberFrame, componentFrame}
 use Rattle.frames.proofs.FieldBack.{Below, laid-back}
 
 -- a layout that has fields
@@ -62,7 +63,8 @@ type-fielded Tk.RayQuery n = tt
 type-fielded Tk.BindingArray n = tt
 
 -- what a kind and its values make up gives them again
-made-type : (k : TypeKind) → (k ≡ Tk.Unknown → ⊥) → (family : ℕ) (v : Vals (typeLayout k)) → formFrame family (madeType k v) ≡ laid family (typeKindNumber k) (typeLayout k) v
+made-type : (k : TypeKind) → (k ≡ Tk.Unknown → ⊥) → (family : ℕ) (v : Vals (typeLayout k))
+    → formFrame family (madeType k v) ≡ laid family (typeKindNumber k) (typeLayout k) v
 made-type Tk.Unknown n family v = absurd (n refl)
 made-type Tk.Scalar n family v = refl
 made-type Tk.Vector n family v = refl
@@ -87,7 +89,8 @@ type-below b n = go (decLt b 15)
     go (no l) = absurd (n (unknown-type b .1 (inr (omega arith))))
 
 -- a frame that fits, of a known kind, is what the type that it reads as is written as
-pub type-again : (f : Frame) → Below f → (typeKindOf (byte f 1) ≡ Tk.Unknown → ⊥) → fitsAll (typeLayout (typeKindOf (byte f 1))) f ≡ true → formFrame (byte f 0) (typeOf f) ≡ f
+pub type-again : (f : Frame) → Below f → (typeKindOf (byte f 1) ≡ Tk.Unknown → ⊥) → fitsAll (typeLayout (typeKindOf (byte f 1))) f ≡ true
+    → formFrame (byte f 0) (typeOf f) ≡ f
 unfolding typeOf
 type-again f w n h =
     let k = typeKindOf (byte f 1) in
@@ -96,7 +99,9 @@ type-again f w n h =
     ∙ layout-back (typeLayout k) (type-fielded k n) f w h
 
 -- frames of one family that read as the same known type are the same
-pub same-type : (f g : Frame) → Below f → Below g → byte f 0 ≡ byte g 0 → (typeKindOf (byte f 1) ≡ Tk.Unknown → ⊥) → (typeKindOf (byte g 1) ≡ Tk.Unknown → ⊥) → fitsAll (typeLayout (typeKindOf (byte f 1))) f ≡ true → fitsAll (typeLayout (typeKindOf (byte g 1))) g ≡ true → typeOf f ≡ typeOf g → f ≡ g
+pub same-type : (f g : Frame) → Below f → Below g → byte f 0 ≡ byte g 0 → (typeKindOf (byte f 1) ≡ Tk.Unknown → ⊥)
+    → (typeKindOf (byte g 1) ≡ Tk.Unknown → ⊥) → fitsAll (typeLayout (typeKindOf (byte f 1))) f ≡ true
+    → fitsAll (typeLayout (typeKindOf (byte g 1))) g ≡ true → typeOf f ≡ typeOf g → f ≡ g
 same-type f g v w e m n h q t =
     sym (type-again f v m h) ∙ ap (λ (b : ℕ). formFrame b (typeOf f)) e ∙ ap (formFrame (byte g 0)) t ∙ type-again g w n q
 
@@ -147,7 +152,8 @@ row-fielded Rk.SubgroupOperationResult n = tt
 row-fielded Rk.CooperativeLoad n = tt
 row-fielded Rk.CooperativeMultiplyAdd n = tt
 
-made-row : (k : RowKind) → (k ≡ Rk.Unknown → ⊥) → (family : ℕ) (v : Vals (rowLayout k)) → rowFormFrame family (madeRow k v) ≡ laid family (rowKindNumber k) (rowLayout k) v
+made-row : (k : RowKind) → (k ≡ Rk.Unknown → ⊥) → (family : ℕ) (v : Vals (rowLayout k))
+    → rowFormFrame family (madeRow k v) ≡ laid family (rowKindNumber k) (rowLayout k) v
 made-row Rk.Unknown n family v = absurd (n refl)
 made-row Rk.Math n family v = refl
 made-row Rk.Literal n family v = refl
@@ -191,7 +197,8 @@ row-below b n = go (decLt b 35)
     go (yes l) = l
     go (no l) = absurd (n (unknown-row b .1 (inr (omega arith))))
 
-row-again : (f : Frame) → Below f → Typed (rowKindOf (byte f 1)) → fitsAll (rowLayout (rowKindOf (byte f 1))) f ≡ true → rowFormFrame (byte f 0) (rowOf f) ≡ f
+row-again : (f : Frame) → Below f → Typed (rowKindOf (byte f 1)) → fitsAll (rowLayout (rowKindOf (byte f 1))) f ≡ true
+    → rowFormFrame (byte f 0) (rowOf f) ≡ f
 unfolding rowOf
 row-again f w n h =
     let k = rowKindOf (byte f 1) in
@@ -200,7 +207,8 @@ row-again f w n h =
     ∙ layout-back (rowLayout k) (row-fielded k n) f w h
 
 -- frames of one family that read as the same row, known and not Math, are the same
-pub same-row : (f g : Frame) → Below f → Below g → byte f 0 ≡ byte g 0 → Typed (rowKindOf (byte f 1)) → Typed (rowKindOf (byte g 1)) → fitsAll (rowLayout (rowKindOf (byte f 1))) f ≡ true → fitsAll (rowLayout (rowKindOf (byte g 1))) g ≡ true → rowOf f ≡ rowOf g → f ≡ g
+pub same-row : (f g : Frame) → Below f → Below g → byte f 0 ≡ byte g 0 → Typed (rowKindOf (byte f 1)) → Typed (rowKindOf (byte g 1))
+    → fitsAll (rowLayout (rowKindOf (byte f 1))) f ≡ true → fitsAll (rowLayout (rowKindOf (byte g 1))) g ≡ true → rowOf f ≡ rowOf g → f ≡ g
 same-row f g v w e m n h q t =
     sym (row-again f v m h) ∙ ap (λ (b : ℕ). rowFormFrame b (rowOf f)) e ∙ ap (rowFormFrame (byte g 0)) t ∙ row-again g w n q
 
@@ -217,7 +225,8 @@ item-fielded Ik.Function n = tt
 item-fielded Ik.RayIntersection n = tt
 item-fielded Ik.RayVertexReturn n = tt
 
-made-item : (k : ItemKind) (family : ℕ) (v : Vals (itemLayout k)) → itemFrame family (madeItem k v) ≡ laid family (itemKindNumber k) (itemLayout k) v
+made-item : (k : ItemKind) (family : ℕ) (v : Vals (itemLayout k))
+    → itemFrame family (madeItem k v) ≡ laid family (itemKindNumber k) (itemLayout k) v
 made-item Ik.Unknown family v = refl
 made-item Ik.Constant family v = refl
 made-item Ik.Override family v = refl
@@ -235,7 +244,8 @@ item-below b n = go (decLt b 9)
     go (yes l) = l
     go (no l) = absurd (n (unknown-item b .1 (inr (omega arith))))
 
-item-again : (f : Frame) → Below f → (itemKindOf (byte f 1) ≡ Ik.Unknown → ⊥) → fitsAll (itemLayout (itemKindOf (byte f 1))) f ≡ true → itemFrame (byte f 0) (itemOf f) ≡ f
+item-again : (f : Frame) → Below f → (itemKindOf (byte f 1) ≡ Ik.Unknown → ⊥) → fitsAll (itemLayout (itemKindOf (byte f 1))) f ≡ true
+    → itemFrame (byte f 0) (itemOf f) ≡ f
 unfolding itemOf
 item-again f w n h =
     let k = itemKindOf (byte f 1) in
@@ -244,7 +254,9 @@ item-again f w n h =
     ∙ layout-back (itemLayout k) (item-fielded k n) f w h
 
 -- frames of one family that read as the same item of a known kind are the same
-pub same-item : (f g : Frame) → Below f → Below g → byte f 0 ≡ byte g 0 → (itemKindOf (byte f 1) ≡ Ik.Unknown → ⊥) → (itemKindOf (byte g 1) ≡ Ik.Unknown → ⊥) → fitsAll (itemLayout (itemKindOf (byte f 1))) f ≡ true → fitsAll (itemLayout (itemKindOf (byte g 1))) g ≡ true → itemOf f ≡ itemOf g → f ≡ g
+pub same-item : (f g : Frame) → Below f → Below g → byte f 0 ≡ byte g 0 → (itemKindOf (byte f 1) ≡ Ik.Unknown → ⊥)
+    → (itemKindOf (byte g 1) ≡ Ik.Unknown → ⊥) → fitsAll (itemLayout (itemKindOf (byte f 1))) f ≡ true
+    → fitsAll (itemLayout (itemKindOf (byte g 1))) g ≡ true → itemOf f ≡ itemOf g → f ≡ g
 same-item f g v w e m n h q t =
     sym (item-again f v m h) ∙ ap (λ (b : ℕ). itemFrame b (itemOf f)) e ∙ ap (itemFrame (byte g 0)) t ∙ item-again g w n q
 
@@ -255,7 +267,8 @@ unfolding memberOf
 member-again f w h = layout-back memberLayout tt f w h
 
 -- frames of one family and one kind that read as the same member are the same
-pub same-member : (f g : Frame) → Below f → Below g → byte f 0 ≡ byte g 0 → byte f 1 ≡ byte g 1 → fitsAll memberLayout f ≡ true → fitsAll memberLayout g ≡ true → memberOf f ≡ memberOf g → f ≡ g
+pub same-member : (f g : Frame) → Below f → Below g → byte f 0 ≡ byte g 0 → byte f 1 ≡ byte g 1 → fitsAll memberLayout f ≡ true
+    → fitsAll memberLayout g ≡ true → memberOf f ≡ memberOf g → f ≡ g
 same-member f g v w e k h q t =
     sym (member-again f v h) ∙ ap (λ (b : ℕ). memberFrame b (byte f 1) (memberOf f)) e ∙ ap (λ (b : ℕ). memberFrame (byte g 0) b (memberOf f)) k
     ∙ ap (memberFrame (byte g 0) (byte g 1)) t
@@ -266,7 +279,8 @@ unfolding componentOf
 component-again f w h = layout-back componentLayout tt f w h
 
 -- frames of one family and one kind that read as the same component are the same
-pub same-component : (f g : Frame) → Below f → Below g → byte f 0 ≡ byte g 0 → byte f 1 ≡ byte g 1 → fitsAll componentLayout f ≡ true → fitsAll componentLayout g ≡ true → componentOf f ≡ componentOf g → f ≡ g
+pub same-component : (f g : Frame) → Below f → Below g → byte f 0 ≡ byte g 0 → byte f 1 ≡ byte g 1 → fitsAll componentLayout f ≡ true
+    → fitsAll componentLayout g ≡ true → componentOf f ≡ componentOf g → f ≡ g
 same-component f g v w e k h q t =
     sym (component-again f v h) ∙ ap (λ (b : ℕ). componentFrame b (byte f 1) (componentOf f)) e ∙ ap (λ (b : ℕ). componentFrame (byte g 0) b (componentOf f)) k
     ∙ ap (componentFrame (byte g 0) (byte g 1)) t

@@ -32,7 +32,7 @@ use Rattle.frames.specs.Bytes.{frameFrom}
 use Rattle.frames.specs.Fields.{allOf}
 use Rattle.frames.specs.Forms.{typeOf, rowOf, fieldsFit}
 use Rattle.frames.specs.Out.{kindOf}
-use Rattle.frames.specs.Back.{rowKind}
+use Rattle.frames.specs.ForProofs.{rowKind}
 
 abbrev f32 : Scalar
 f32 = record { kind = Sk.Float; width = 4 }
@@ -45,15 +45,42 @@ typeSamples =
     ∷ (1 ∷ 3 ∷ 2 ∷ 4 ∷ 2 ∷ 4 ∷ 0 ∷ 0 ∷ 0 ∷ 0 ∷ 0 ∷ 0 ∷ 0 ∷ 0 ∷ 0 ∷ 0 ∷ [], Ti.Matrix Vs.Bi Vs.Quad f32)
     ∷ (1 ∷ 4 ∷ 8 ∷ 16 ∷ 2 ∷ 4 ∷ 1 ∷ 0 ∷ 0 ∷ 0 ∷ 0 ∷ 0 ∷ 0 ∷ 0 ∷ 0 ∷ 0 ∷ [], Ti.CooperativeMatrix Cs.Eight Cs.Sixteen f32 Cr.B)
     ∷ (1 ∷ 5 ∷ 0 ∷ 0 ∷ 0 ∷ 8 ∷ 0 ∷ 0 ∷ 0 ∷ 0 ∷ 0 ∷ 0 ∷ 0 ∷ 0 ∷ 0 ∷ 0 ∷ [], Ti.Atomic (record { kind = Sk.Sint; width = 8 }))
-    ∷ (1 ∷ 6 ∷ 2 ∷ 1 ∷ 0 ∷ 0 ∷ 4 ∷ 3 ∷ 0 ∷ 0 ∷ 0 ∷ 0 ∷ 0 ∷ 0 ∷ 0 ∷ 0 ∷ [], Ti.Pointer (record { 0 = 258 }) (Sp.Storage (record { load = true; store = true; atomic = false })))
-    ∷ (1 ∷ 7 ∷ 0 ∷ 0 ∷ 3 ∷ 1 ∷ 9 ∷ 0 ∷ 0 ∷ 0 ∷ 0 ∷ 0 ∷ 0 ∷ 0 ∷ 0 ∷ 0 ∷ [], Ti.ValuePointer Os.None (record { kind = Sk.Bool; width = 1 }) Sp.IncomingRayPayload)
+    ∷ (
+      1 ∷ 6 ∷ 2 ∷ 1 ∷ 0 ∷ 0 ∷ 4 ∷ 3 ∷ 0 ∷ 0 ∷ 0 ∷ 0 ∷ 0 ∷ 0 ∷ 0 ∷ 0 ∷ [],
+      Ti.Pointer (record {
+        0 =
+            258;
+      }) (Sp.Storage (record { load = true; store = true; atomic = false })),
+    )
+    ∷ (
+      1 ∷ 7 ∷ 0 ∷ 0 ∷ 3 ∷ 1 ∷ 9 ∷ 0 ∷ 0 ∷ 0 ∷ 0 ∷ 0 ∷ 0 ∷ 0 ∷ 0 ∷ 0 ∷ [],
+      Ti.ValuePointer Os.None (record {
+        kind =
+            Sk.Bool;
+        width = 1;
+      }) Sp.IncomingRayPayload,
+    )
     ∷ (1 ∷ 8 ∷ 5 ∷ 0 ∷ 0 ∷ 0 ∷ 0 ∷ 0 ∷ 3 ∷ 0 ∷ 0 ∷ 1 ∷ 16 ∷ 0 ∷ 0 ∷ 0 ∷ [], Ti.Array (record { 0 = 5 }) (As.Constant 16777219) 16)
     ∷ (1 ∷ 9 ∷ 7 ∷ 0 ∷ 2 ∷ 1 ∷ 0 ∷ 0 ∷ 0 ∷ 0 ∷ 0 ∷ 0 ∷ 0 ∷ 1 ∷ 0 ∷ 0 ∷ [], Ti.Struct (record { 0 = 7 }) 258 256)
-    ∷ (1 ∷ 10 ∷ 2 ∷ 1 ∷ 3 ∷ 40 ∷ 0 ∷ 5 ∷ 0 ∷ 0 ∷ 0 ∷ 0 ∷ 0 ∷ 0 ∷ 0 ∷ 0 ∷ [], Ti.Image Di.D2 true (Ic.Storage Sf.Rgba16Snorm (record { load = true; store = false; atomic = true })))
+    ∷ (
+      1 ∷ 10 ∷ 2 ∷ 1 ∷ 3 ∷ 40 ∷ 0 ∷ 5 ∷ 0 ∷ 0 ∷ 0 ∷ 0 ∷ 0 ∷ 0 ∷ 0 ∷ 0 ∷ [],
+      Ti.Image Di.D2 true (Ic.Storage Sf.Rgba16Snorm (record {
+        load =
+            true;
+        store = false;
+        atomic = true;
+      })),
+    )
     ∷ (1 ∷ 11 ∷ 1 ∷ 0 ∷ 0 ∷ 0 ∷ 0 ∷ 0 ∷ 0 ∷ 0 ∷ 0 ∷ 0 ∷ 0 ∷ 0 ∷ 0 ∷ 0 ∷ [], Ti.Sampler true)
     ∷ (1 ∷ 12 ∷ 0 ∷ 0 ∷ 0 ∷ 0 ∷ 0 ∷ 0 ∷ 0 ∷ 0 ∷ 0 ∷ 0 ∷ 0 ∷ 0 ∷ 0 ∷ 0 ∷ [], Ti.AccelerationStructure false)
     ∷ (1 ∷ 13 ∷ 1 ∷ 0 ∷ 0 ∷ 0 ∷ 0 ∷ 0 ∷ 0 ∷ 0 ∷ 0 ∷ 0 ∷ 0 ∷ 0 ∷ 0 ∷ 0 ∷ [], Ti.RayQuery true)
-    ∷ (1 ∷ 14 ∷ 6 ∷ 0 ∷ 1 ∷ 0 ∷ 0 ∷ 0 ∷ 9 ∷ 0 ∷ 0 ∷ 0 ∷ 0 ∷ 0 ∷ 0 ∷ 0 ∷ [], Ti.BindingArray (record { 0 = 6 }) (As.Pending (record { 0 = 9 })))
+    ∷ (
+      1 ∷ 14 ∷ 6 ∷ 0 ∷ 1 ∷ 0 ∷ 0 ∷ 0 ∷ 9 ∷ 0 ∷ 0 ∷ 0 ∷ 0 ∷ 0 ∷ 0 ∷ 0 ∷ [],
+      Ti.BindingArray (record {
+        0 =
+            6;
+      }) (As.Pending (record { 0 = 9 })),
+    )
     ∷ []
 
 -- a frame of each kind of row, and the row

@@ -1,5 +1,5 @@
 -- A frame is sixteen bytes, numbers little-endian (document 01, "The file").
-use Prim.Native.Nat.{ℕ, _+_, _*_, _/_, _%_}
+use Prim.Native.Nat.{ℕ, _+_, _*_, _/_}
 use mathlib.Core.Bool.{cond}
 use mathlib.Core.List.{List, [], _∷_, _++_}
 use lib.Dec.{ltb}
@@ -42,28 +42,6 @@ framed b =
       b13 = b 13;
       b14 = b 14;
       b15 = b 15;
-    }
-
--- bytes 0 to 7 as they are, and a number in bytes 8 to 11 and in 12 to 15
-abbrev pub packed : ℕ → ℕ → ℕ → ℕ → ℕ → ℕ → ℕ → ℕ → ℕ → ℕ → Frame
-packed family kind b2 b3 b4 b5 b6 b7 third last =
-    record {
-      b0 = family;
-      b1 = kind;
-      b2 = b2;
-      b3 = b3;
-      b4 = b4;
-      b5 = b5;
-      b6 = b6;
-      b7 = b7;
-      b8 = third % 256;
-      b9 = third / 256 % 256;
-      b10 = third / 256 / 256 % 256;
-      b11 = third / 256 / 256 / 256;
-      b12 = last % 256;
-      b13 = last / 256 % 256;
-      b14 = last / 256 / 256 % 256;
-      b15 = last / 256 / 256 / 256;
     }
 
 -- how many whole frames a buffer has

@@ -5,6 +5,7 @@ use mathlib.Core.Bool.{Bool, true, false, cond, not, _&&_, _||_}
 use mathlib.Core.List.{List, [], _∷_, _++_, map}
 use lib.Dec.{leb, ltb, eqb}
 use lib.ListN.{getD}
+use Rattle.ir.specs.declared.TypeNumber.{TypeNumber}
 use Rattle.ir.specs.declared.Scalar.{Scalar}
 use Rattle.ir.specs.declared.ScalarKind.{ScalarKind}
 use Rattle.ir.specs.declared.VectorSize.{VectorSize}
@@ -119,8 +120,8 @@ classOf c b5 b6 b7 =
     getD (Ic.Sampled (scalarKindOf b5) (flagOf b6) ∷ Ic.Depth (flagOf b6) ∷ Ic.External ∷ Ic.Storage (storageFormatOf b5) (accessOf b7) ∷ [])
     c Ic.External
 
-abbrev pub resultOf : ℕ → ℕ → FunctionResult
-resultOf b n = cond (flagOf b) (Fr.Some (record { 0 = n })) Fr.None
+abbrev pub resultOf : ℕ → TypeNumber → FunctionResult
+resultOf b t = cond (flagOf b) (Fr.Some t) Fr.None
 
 abbrev pub convertOf : ℕ → ℕ → OptionBytes
 convertOf b w = cond (flagOf b) (Ob.Some w) Ob.None
@@ -141,7 +142,7 @@ read scalar f = record { kind = scalarKindOf (byte f 4); width = byte f 5 }
 read space f = spaceOf (byte f 6) (byte f 7)
 read arraySize f = arraySizeOf (byte f 4) (word f 8)
 read class f = classOf (byte f 4) (byte f 5) (byte f 6) (byte f 7)
-read result f = resultOf (byte f 4) (half f 2)
+read result f = resultOf (byte f 4) (record { 0 = half f 2 })
 read query f = (imageQueryOf (byte f 6), half f 2)
 read relational f = (relationalFunctionOf (byte f 6), half f 2)
 read convert f = convertOf (byte f 7) (byte f 8)

@@ -3,5 +3,5 @@ pub mod Fields
 pub mod Layout
 pub mod Forms
 pub mod Out
-pub mod Back
 pub mod Written
+pub mod ForProofs

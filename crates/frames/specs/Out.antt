@@ -1,36 +1,25 @@
--- What is handed back, as frames, and read again (document 01, the end of "The file"): a type number is family 8, a value family 9, laid
+-- What is handed back, as frames (document 01, the end of "The file"): a type number is family 8, a value family 9, laid
 -- as a type, a refusal family 10, a verdict family 11.
-use Prim.Native.Nat.{ℕ, _-_}
-use mathlib.Core.Bool.{Bool, true, false, cond}
-use mathlib.Core.List.{List, [], _∷_}
-use lib.Dec.{leb, eqb}
-use lib.ListN.{getD}
+use Prim.Native.Nat.{ℕ}
+use mathlib.Core.Bool.{Bool, true, false}
 use Rattle.ir.specs.declared.TypeNumber.{TypeNumber}
 use Rattle.ir.specs.declared.RowNumber.{RowNumber}
 use Rattle.ir.specs.declared.TypeKind.{TypeKind}
 use Rattle.ir.specs.declared.TypeKind.the-variants as Tk
 use Rattle.ir.specs.declared.TypeInner.{TypeInner}
 use Rattle.ir.specs.declared.TypeInner.the-variants as Ti
-use Rattle.ir.specs.declared.TypeForm.{TypeForm}
-use Rattle.ir.specs.declared.TypeForm.the-variants as Tf
-use Rattle.ir.specs.Numbers.{typeKindNumber, flagOf}
+use Rattle.ir.specs.Numbers.{typeKindNumber}
 use Rattle.answers.specs.Numbers.{Refused, Judged, at, outcomeValues, refusalValues, verdictValues}
 use Rattle.answers.specs.declared.Answer.{Answer}
 use Rattle.answers.specs.declared.Answer.the-variants as An
 use Rattle.answers.specs.declared.Outcome.{Outcome}
 use Rattle.answers.specs.declared.Refusal.{Refusal}
-use Rattle.answers.specs.declared.Refusal.the-variants as Re
 use Rattle.ir.specs.declared.TypeResolution.{TypeResolution}
 use Rattle.ir.specs.declared.TypeResolution.the-variants as Tr
 use Rattle.answers.specs.declared.Verdict.{Verdict}
-use Rattle.answers.specs.declared.Verdict.the-variants as Vd
 use Rattle.frames.specs.declared.Frame.{Frame}
-use Rattle.frames.specs.Bytes.{byte, half, word}
 use Rattle.frames.specs.Fields.{Layout, Vals, laid}
 use Rattle.frames.specs.Layout.{typeLayout, numberLayout, refusalLayout, verdictLayout}
-use Rattle.frames.specs.Forms.{typeOf}
-
--- WRITTEN
 
 abbrev pub kindOf : TypeInner → TypeKind
 kindOf (Ti.Scalar s) = Tk.Scalar
@@ -94,42 +83,3 @@ judgedFrame r j = laid 11 (j .number) verdictLayout (r .0, (j .first, (j .given,
 -- a compose's verdict, after its row
 abbrev pub verdictFrame : RowNumber → Verdict → Frame
 verdictFrame r v = judgedFrame r (verdictValues v)
-
--- READ AGAIN
-
--- what a frame reads as that no answer writes
-abbrev pub unreadable : Answer
-unreadable = An.Refused Re.MissingSpecialType
-
--- the refusals 10 to 22, by the values of a frame; 21 is none
-abbrev pub refusals : Frame → List Answer
-refusals f =
-    An.Refused (Re.OutOfBoundsIndex (record { 0 = half f 2 }) (word f 4)) ∷ An.Refused (Re.InvalidAccess (record { 0 = half f 2 }) (flagOf (byte f 8)))
-    ∷ An.Refused (Re.InvalidSubAccess (record { 0 = half f 2 }) (flagOf (byte f 8))) ∷ An.Refused (Re.InvalidScalar (record { 0 = half f 2 }))
-    ∷ An.Refused (Re.InvalidVector (record { 0 = half f 2 })) ∷ An.Refused (Re.InvalidPointer (record { 0 = half f 2 }))
-    ∷ An.Refused (Re.InvalidImage (record { 0 = half f 2 })) ∷ An.Refused Re.FunctionReturnsVoid ∷ An.Refused Re.IncompatibleOperands
-    ∷ An.Refused (Re.FunctionArgumentNotFound (word f 4)) ∷ An.Refused Re.MissingSpecialType ∷ unreadable ∷ An.Newer (record { 0 = half f 2 }) ∷ []
-
-abbrev pub refusalOf : Frame → Answer
-refusalOf f = cond (leb 10 (byte f 1)) (getD (refusals f) (byte f 1 - 10) unreadable) unreadable
-
-abbrev pub valueOf : TypeForm → Answer
-valueOf (Tf.Known t) = An.Resolved (Tr.Value t)
-valueOf Tf.Unknown = unreadable
-
--- the answer that a frame of family 8, 9 or 10 stands for
-unfoldable pub answerOf : Frame → Answer
-answerOf f =
-    cond (eqb (byte f 0) 8) (An.Resolved (Tr.Handle (record { 0 = half f 2 })))
-    (cond (eqb (byte f 0) 9) (valueOf (typeOf f)) (cond (eqb (byte f 0) 10) (refusalOf f) unreadable))
-
-abbrev pub newerOf : ℕ → Verdict
-newerOf n = cond (eqb n 0xffff_ffff) Vd.NewerComposed (Vd.NewerComponent n)
-
--- the verdict that a frame of family 11 stands for
-unfoldable pub verdictOf : Frame → Verdict
-verdictOf f =
-    cond (eqb (byte f 1) 0) Vd.Passes
-    (cond (eqb (byte f 1) 22) (newerOf (word f 4))
-    (getD (Vd.ComposedType ∷ Vd.ComponentCount (word f 4) (word f 8) ∷ Vd.ComponentType (word f 4) ∷ Vd.ComponentRefused (word f 4) ∷ []) (byte f 1 - 30)
-    Vd.ComposedType))

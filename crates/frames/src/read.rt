@@ -77,6 +77,13 @@ impl Frame {
         le16(self.b4, self.b5)
     }
 
+    // Bytes 4 to 7: in what is handed back an index, what was expected, or a component.
+    pub fn index(self) -> u32
+        ensures { λ r. ⌜ r ≡ word self 4 ⌝ }
+    {
+        le32(self.b4, self.b5, self.b6, self.b7)
+    }
+
     // Bytes 8 to 11: a count or an override.
     pub fn third(self) -> u32
         ensures { λ r. ⌜ r ≡ word self 8 ⌝ }

@@ -28,15 +28,15 @@ use Rattle.archive.specs.Names.{isRow, isType}
 use Rattle.archive.specs.Access.{typeIn}
 use Rattle.archive.proofs.Owners.{starts-small}
 use Rattle.rule.specs.Things.{see}
-use Rattle.row_rules.specs.declared.Pass.{Pass}
-use Rattle.compose.specs.Rows.{verdictOf}
-use Rattle.type_methods.specs.Canonical.{baseOfForm, pointerBaseIn, canonicalOfForm, canonicalTypeIn}
-use Rattle.answering.specs.Outputs.{rowAnswer}
-use Rattle.reader.specs.File.{overFile, readFile}
-use Rattle.reader.specs.Typing.{answersWritten, RowGiven, rowGiven, rowType, answersAfterRow, VerdictGiven, orNoCompose, verdictGiven, composeVerdict, ifJudged, answersAfterVerdict}
-use Rattle.reader.proofs.Laws.{count-decoded, accepted-when}
-use Rattle.pointer_forms.specs.Forms.{canonicalType, pointerBaseType}
-use Rattle.exported.specs.Exported.{shortNumber, noRoom, byRoom, verdictGivenFrame}
+use Rattle.rule_rows.specs.declared.Pass.{Pass}
+use Rattle.rule_compose.specs.Rows.{verdictOf}
+use Rattle.rule_types.specs.Canonical.{baseOfForm, pointerBaseIn, canonicalOfForm, canonicalTypeIn}
+use Rattle.rule_answers.specs.Outputs.{rowAnswer}
+use Rattle.file_read.specs.File.{overFile, readFile}
+use Rattle.file_read.specs.Typing.{answersWritten, RowGiven, rowGiven, rowType, answersAfterRow, VerdictGiven, orNoCompose, verdictGiven, composeVerdict, ifJudged, answersAfterVerdict}
+use Rattle.file_read.proofs.Laws.{count-decoded, accepted-when}
+use Rattle.file_pointers.specs.Forms.{canonicalType, pointerBaseType}
+use Rattle.file_exports.specs.Exported.{shortNumber, noRoom, byRoom, verdictGivenFrame}
 
 -- AN OUT-SLICE THAT IS TOO SMALL
 
@@ -54,7 +54,8 @@ not-put out f h = rw (le-ltb 0 (frameCount out) (omega arith))
 -- numbers 1 and 2 do not depend on what is lent
 pub any-room : (limit : ℕ) (t : List ℕ) (f : ℕ) (room : AnswerRoom) → noRoom limit t ≡ shortNumber (readText limit t f room)
 unfolding noRoom readText
-any-room limit t f room = by-long (ltb (33 * mostFrames limit) (length t)) (lowest (lineOk t) (lineCount t)) (tooShort t 0 NotLent) (tooShort t f room)
+any-room limit t f room =
+    by-long (ltb (33 * mostFrames limit) (length t)) (lowest (lineOk t) (lineCount t)) (tooShort t 0 NotLent) (tooShort t f room)
   where
     short : (a b : Bool) (n : ℕ) → shortNumber (cond a Short (Accepted n)) ≡ shortNumber (cond b Short (Accepted n))
     short true true n = refl
@@ -83,7 +84,8 @@ clamped-is g z h n k e = go (decLe 65535 n)
     go (no l) = let q : k ≡ n = omega arith in ap g q
 
 -- two things asked of an accepted file are the same where they are of its frames
-over-same : {A : Type 0} (f : Outcome → A) (g h : List ℕ → A) (t : List ℕ) (o : Outcome) → ((n : ℕ) → o ≡ Accepted n → g (decoded t n) ≡ h (decoded t n))
+over-same : {A : Type 0} (f : Outcome → A) (g h : List ℕ → A) (t : List ℕ) (o : Outcome)
+    → ((n : ℕ) → o ≡ Accepted n → g (decoded t n) ≡ h (decoded t n))
     → overFile f g t o ≡ overFile f h t o
 over-same f g h t (Accepted n) e = e n refl
 over-same f g h t (Long m) e = refl
@@ -104,30 +106,42 @@ no-type fr m h l = le-ltb m (typeCount (startsOf fr)) (omega (arith, starts-smal
 
 -- a row or a type of a number from 65,535 on is one that the file does not have
 module _ (pass : Pass) (limit : ℕ) (t : List ℕ) (f a : ℕ) where
-  pub row-stray : (m : ℕ) → 65535 ≤ m → rowType pass limit t f a (record { 0 = m }) ≡ overFile RowGiven.notAccepted (λ (x : List ℕ). RowGiven.noRow) t (readFile limit t f (Lent a))
+  pub row-stray : (m : ℕ) → 65535 ≤ m
+      → rowType pass limit t f a (record { 0 = m }) ≡ overFile RowGiven.notAccepted (λ (x : List ℕ). RowGiven.noRow) t (readFile limit t f (Lent a))
   unfolding rowType
   row-stray m l =
       over-same RowGiven.notAccepted (rowGiven pass (record { 0 = m })) (λ (x : List ℕ). RowGiven.noRow) t (readFile limit t f (Lent a))
-      (λ n e. ap (λ (b : Bool). cond b (RowGiven.answer (rowAnswer pass (see (decoded t n)) m)) RowGiven.noRow) (no-row (decoded t n) m (few limit t f (Lent a) n e) l))
+      (λ n e.
+      ap (λ (b : Bool). cond b (RowGiven.answer (rowAnswer pass (see (decoded t n)) m)) RowGiven.noRow)
+      (no-row (decoded t n) m (few limit t f (Lent a) n e) l))
 
   pub row-clamped : (n k : ℕ) → k ≡ min n 65535 → rowType pass limit t f a (record { 0 = k }) ≡ rowType pass limit t f a (record { 0 = n })
   row-clamped = clamped-is (λ (m : ℕ). rowType pass limit t f a (record { 0 = m })) _ row-stray
 
-  given-stray : (m n : ℕ) → 65535 ≤ m → readFile limit t f (Lent a) ≡ Accepted n → verdictGiven pass (record { 0 = m }) (decoded t n) ≡ VerdictGiven.noRow
-  given-stray m n l e = ap (λ (b : Bool). cond b (orNoCompose (verdictOf pass (see (decoded t n)) m)) VerdictGiven.noRow) (no-row (decoded t n) m (few limit t f (Lent a) n e) l)
+  given-stray : (m n : ℕ) → 65535 ≤ m → readFile limit t f (Lent a) ≡ Accepted n
+      → verdictGiven pass (record { 0 = m }) (decoded t n) ≡ VerdictGiven.noRow
+  given-stray m n l e =
+      ap (λ (b : Bool). cond b (orNoCompose (verdictOf pass (see (decoded t n)) m)) VerdictGiven.noRow)
+      (no-row (decoded t n) m (few limit t f (Lent a) n e) l)
 
-  pub verdict-stray : (m : ℕ) → 65535 ≤ m → composeVerdict pass limit t f a (record { 0 = m }) ≡ overFile VerdictGiven.notAccepted (λ (x : List ℕ). VerdictGiven.noRow) t (readFile limit t f (Lent a))
+  pub verdict-stray : (m : ℕ) → 65535 ≤ m
+      → composeVerdict pass limit t f a (record { 0 = m }) ≡ overFile VerdictGiven.notAccepted (λ (x : List ℕ). VerdictGiven.noRow) t (readFile limit t f (Lent a))
   unfolding composeVerdict
   verdict-stray m l =
-      over-same VerdictGiven.notAccepted (verdictGiven pass (record { 0 = m })) (λ (x : List ℕ). VerdictGiven.noRow) t (readFile limit t f (Lent a)) (λ n e. given-stray m n l e)
+      over-same VerdictGiven.notAccepted (verdictGiven pass (record {
+        0 =
+            m;
+      })) (λ (x : List ℕ). VerdictGiven.noRow) t (readFile limit t f (Lent a)) (λ n e. given-stray m n l e)
 
-  pub verdict-clamped : (n k : ℕ) → k ≡ min n 65535 → composeVerdict pass limit t f a (record { 0 = k }) ≡ composeVerdict pass limit t f a (record { 0 = n })
+  pub verdict-clamped : (n k : ℕ) → k ≡ min n 65535
+      → composeVerdict pass limit t f a (record { 0 = k }) ≡ composeVerdict pass limit t f a (record { 0 = n })
   verdict-clamped = clamped-is (λ (m : ℕ). composeVerdict pass limit t f a (record { 0 = m })) _ verdict-stray
 
   -- no verdict is given of such a row, so its number stands in no frame
   frame-stray : (m : ℕ) → 65535 ≤ m
       → verdictGivenFrame (record { 0 = m }) (composeVerdict pass limit t f a (record { 0 = m }))
-      ≡ verdictGivenFrame (record { 0 = 0 }) (overFile VerdictGiven.notAccepted (λ (x : List ℕ). VerdictGiven.noRow) t (readFile limit t f (Lent a)))
+      ≡ verdictGivenFrame (record { 0 = 0 })
+      (overFile VerdictGiven.notAccepted (λ (x : List ℕ). VerdictGiven.noRow) t (readFile limit t f (Lent a)))
   frame-stray m l = ap (verdictGivenFrame (record { 0 = m })) (verdict-stray m l) ∙ go (readFile limit t f (Lent a))
     where
       go : (o : Outcome)
@@ -142,43 +156,65 @@ module _ (pass : Pass) (limit : ℕ) (t : List ℕ) (f a : ℕ) where
       go (Index k) = refl
 
   pub frame-clamped : (n k : ℕ) → k ≡ min n 65535
-      → verdictGivenFrame (record { 0 = k }) (composeVerdict pass limit t f a (record { 0 = k })) ≡ verdictGivenFrame (record { 0 = n }) (composeVerdict pass limit t f a (record { 0 = n }))
-  frame-clamped = clamped-is (λ (m : ℕ). verdictGivenFrame (record { 0 = m }) (composeVerdict pass limit t f a (record { 0 = m }))) _ frame-stray
+      → verdictGivenFrame (record {
+        0 =
+            k;
+      }) (composeVerdict pass limit t f a (record { 0 = k })) ≡ verdictGivenFrame (record {
+        0 = n;
+      }) (composeVerdict pass limit t f a (record { 0 = n }))
+  frame-clamped =
+      clamped-is (λ (m : ℕ). verdictGivenFrame (record { 0 = m }) (composeVerdict pass limit t f a (record { 0 = m }))) _ frame-stray
 
 module _ (pass : Pass) (limit : ℕ) (t : List ℕ) (f : ℕ) (an : List ℕ) where
-  answers-stray : (m : ℕ) → 65535 ≤ m → answersAfterRow pass limit t f an (record { 0 = m }) ≡ overFile (λ (o : Outcome). an) (λ (x : List ℕ). an) t (readFile limit t f (Lent (length an)))
+  answers-stray : (m : ℕ) → 65535 ≤ m
+      → answersAfterRow pass limit t f an (record { 0 = m }) ≡ overFile (λ (o : Outcome). an) (λ (x : List ℕ). an) t (readFile limit t f (Lent (length an)))
   unfolding answersAfterRow
   answers-stray m l =
       over-same (λ (o : Outcome). an) (λ (x : List ℕ). cond (isRow (startsOf x) (record { 0 = m })) (answersWritten pass an x) an) (λ (x : List ℕ). an) t (readFile limit t f (Lent (length an)))
-      (λ n e. ap (λ (b : Bool). cond b (answersWritten pass an (decoded t n)) an) (no-row (decoded t n) m (few limit t f (Lent (length an)) n e) l))
+      (λ n e.
+      ap (λ (b : Bool). cond b (answersWritten pass an (decoded t n)) an)
+      (no-row (decoded t n) m (few limit t f (Lent (length an)) n e) l))
 
-  pub answers-clamped : (n k : ℕ) → k ≡ min n 65535 → answersAfterRow pass limit t f an (record { 0 = k }) ≡ answersAfterRow pass limit t f an (record { 0 = n })
+  pub answers-clamped : (n k : ℕ) → k ≡ min n 65535
+      → answersAfterRow pass limit t f an (record { 0 = k }) ≡ answersAfterRow pass limit t f an (record { 0 = n })
   answers-clamped = clamped-is (λ (m : ℕ). answersAfterRow pass limit t f an (record { 0 = m })) _ answers-stray
 
-  judged-stray : (m : ℕ) → 65535 ≤ m → answersAfterVerdict pass limit t f an (record { 0 = m }) ≡ overFile (λ (o : Outcome). an) (λ (x : List ℕ). an) t (readFile limit t f (Lent (length an)))
+  judged-stray : (m : ℕ) → 65535 ≤ m
+      → answersAfterVerdict pass limit t f an (record { 0 = m }) ≡ overFile (λ (o : Outcome). an) (λ (x : List ℕ). an) t (readFile limit t f (Lent (length an)))
   unfolding answersAfterVerdict
   judged-stray m l =
       over-same (λ (o : Outcome). an) (λ (x : List ℕ). ifJudged (answersWritten pass an x) an (verdictGiven pass (record { 0 = m }) x)) (λ (x : List ℕ). an) t (readFile limit t f (Lent (length an)))
       (λ n e. ap (ifJudged (answersWritten pass an (decoded t n)) an) (given-stray pass limit t f (length an) m n l e))
 
-  pub judged-clamped : (n k : ℕ) → k ≡ min n 65535 → answersAfterVerdict pass limit t f an (record { 0 = k }) ≡ answersAfterVerdict pass limit t f an (record { 0 = n })
+  pub judged-clamped : (n k : ℕ) → k ≡ min n 65535
+      → answersAfterVerdict pass limit t f an (record { 0 = k }) ≡ answersAfterVerdict pass limit t f an (record { 0 = n })
   judged-clamped = clamped-is (λ (m : ℕ). answersAfterVerdict pass limit t f an (record { 0 = m })) _ judged-stray
 
 module _ (limit : ℕ) (t : List ℕ) (f : ℕ) where
-  pub canonical-stray : (m : ℕ) → 65535 ≤ m → canonicalType limit t f (record { 0 = m }) ≡ overFile Ct.NotAccepted (λ (x : List ℕ). Ct.Index) t (readFile limit t f NotLent)
+  pub canonical-stray : (m : ℕ) → 65535 ≤ m
+      → canonicalType limit t f (record { 0 = m }) ≡ overFile Ct.NotAccepted (λ (x : List ℕ). Ct.Index) t (readFile limit t f NotLent)
   unfolding canonicalType canonicalTypeIn
   canonical-stray m l =
       over-same Ct.NotAccepted (λ (x : List ℕ). canonicalTypeIn x (startsOf x) (record { 0 = m })) (λ (x : List ℕ). Ct.Index) t (readFile limit t f NotLent)
-      (λ n e. let x = decoded t n in ap (λ (b : Bool). cond b (canonicalOfForm x (startsOf x) (record { 0 = m }) (typeIn x (startsOf x) (record { 0 = m }))) Ct.Index) (no-type x m (few limit t f NotLent n e) l))
+      (λ n e.
+      let x = decoded t n in
+      ap (λ (b : Bool). cond b (canonicalOfForm x (startsOf x) (record { 0 = m }) (typeIn x (startsOf x) (record { 0 = m }))) Ct.Index)
+      (no-type x m (few limit t f NotLent n e) l))
 
-  pub canonical-clamped : (n k : ℕ) → k ≡ min n 65535 → canonicalType limit t f (record { 0 = k }) ≡ canonicalType limit t f (record { 0 = n })
+  pub canonical-clamped : (n k : ℕ) → k ≡ min n 65535
+      → canonicalType limit t f (record { 0 = k }) ≡ canonicalType limit t f (record { 0 = n })
   canonical-clamped = clamped-is (λ (m : ℕ). canonicalType limit t f (record { 0 = m })) _ canonical-stray
 
-  pub base-stray : (m : ℕ) → 65535 ≤ m → pointerBaseType limit t f (record { 0 = m }) ≡ overFile Pb.NotAccepted (λ (x : List ℕ). Pb.Index) t (readFile limit t f NotLent)
+  pub base-stray : (m : ℕ) → 65535 ≤ m
+      → pointerBaseType limit t f (record { 0 = m }) ≡ overFile Pb.NotAccepted (λ (x : List ℕ). Pb.Index) t (readFile limit t f NotLent)
   unfolding pointerBaseType pointerBaseIn
   base-stray m l =
       over-same Pb.NotAccepted (λ (x : List ℕ). pointerBaseIn x (startsOf x) (record { 0 = m })) (λ (x : List ℕ). Pb.Index) t (readFile limit t f NotLent)
-      (λ n e. let x = decoded t n in ap (λ (b : Bool). cond b (baseOfForm (typeIn x (startsOf x) (record { 0 = m }))) Pb.Index) (no-type x m (few limit t f NotLent n e) l))
+      (λ n e.
+      let x = decoded t n in
+      ap (λ (b : Bool). cond b (baseOfForm (typeIn x (startsOf x) (record { 0 = m }))) Pb.Index)
+      (no-type x m (few limit t f NotLent n e) l))
 
-  pub base-clamped : (n k : ℕ) → k ≡ min n 65535 → pointerBaseType limit t f (record { 0 = k }) ≡ pointerBaseType limit t f (record { 0 = n })
+  pub base-clamped : (n k : ℕ) → k ≡ min n 65535
+      → pointerBaseType limit t f (record { 0 = k }) ≡ pointerBaseType limit t f (record { 0 = n })
   base-clamped = clamped-is (λ (m : ℕ). pointerBaseType limit t f (record { 0 = m })) _ base-stray

@@ -17,11 +17,11 @@ use Rattle.archive.specs.Starts.{startsOf}
 use Rattle.rule.specs.declared.Fault.the-variants as Fa
 use Rattle.rule.specs.Answers.{typeAnswerOf}
 use Rattle.rule.specs.Things.{faultOf}
-use Rattle.type_methods.specs.Comparison.{samenessOf, sameIn, sameType}
-use Rattle.type_methods.proofs.Laws.{left-five, left-six, right-five}
-use Rattle.reader.specs.File.{overFile, readFile}
-use Rattle.reader.specs.Types.{sameTypes}
-use Rattle.exported.specs.Exported.{handedFrame}
+use Rattle.rule_types.specs.Comparison.{samenessOf, sameIn, sameType}
+use Rattle.rule_types.proofs.Laws.{left-five, left-six, right-five}
+use Rattle.file_read.specs.File.{overFile, readFile}
+use Rattle.file_read.specs.Types.{sameTypes}
+use Rattle.file_exports.specs.Exported.{handedFrame}
 
 pub zeros-for : (s : List ℕ) → (length s ≡ 16 → ⊥) → handedFrame s ≡ zeroFrame
 unfolding handedFrame
@@ -50,13 +50,15 @@ module _ (limit : ℕ) (t : List ℕ) (f n : ℕ) (e : readFile limit t f NotLen
       asked (handedFrame l) r ∙ ap samenessOf (left-five fr (startsOf fr) (typeAnswerOf (handedFrame l)) (typeAnswerOf r) (wrong-five (startsOf fr) l h))
 
   -- whatever the right one is, of a wrong length too
-  pub stray-left : (l r : List ℕ) → faultOf (startsOf fr) (typeAnswerOf (handedFrame l)) ≡ Fa.Index → sameTypes limit t f (handedFrame l) (handedFrame r) ≡ Sa.Index
+  pub stray-left : (l r : List ℕ) → faultOf (startsOf fr) (typeAnswerOf (handedFrame l)) ≡ Fa.Index
+      → sameTypes limit t f (handedFrame l) (handedFrame r) ≡ Sa.Index
   unfolding sameIn
   stray-left l r h =
       asked (handedFrame l) (handedFrame r) ∙ ap samenessOf (left-six fr (startsOf fr) (typeAnswerOf (handedFrame l)) (typeAnswerOf (handedFrame r)) h)
 
   -- where the left one gets neither 5 nor 6
-  pub wrong-right : (l : Frame) (r : List ℕ) → faultOf (startsOf fr) (typeAnswerOf l) ≡ Fa.Sound → (length r ≡ 16 → ⊥) → sameTypes limit t f l (handedFrame r) ≡ Sa.Field
+  pub wrong-right : (l : Frame) (r : List ℕ) → faultOf (startsOf fr) (typeAnswerOf l) ≡ Fa.Sound → (length r ≡ 16 → ⊥)
+      → sameTypes limit t f l (handedFrame r) ≡ Sa.Field
   unfolding sameIn
   wrong-right l r s h =
       asked l (handedFrame r) ∙ ap samenessOf (right-five fr (startsOf fr) (typeAnswerOf l) (typeAnswerOf (handedFrame r)) s (wrong-five (startsOf fr) r h))

@@ -3,21 +3,29 @@
 pub mod rows;
 pub mod types;
 
-use exported::no_room;
-use exported::put_outcome;
-use reader::read_file;
+use file_exports::no_room;
+use file_exports::put_outcome;
+use file_read::read_file;
 ghost use mathlib.Core.Path.{_≡_};
 ghost use lib.ListN.{length};
 ghost use Rattle.text.specs.declared.AnswerRoom.the-variants.{NotLent};
 ghost use Rattle.frames.specs.Bytes.{putFrame};
 ghost use Rattle.frames.specs.Out.{outcomeFrame};
-ghost use Rattle.reader.specs.File.{readFile, framesAfter};
-ghost use Rattle.exported.specs.Exported.{noRoom, byRoom, outcomeNumber};
+ghost use Rattle.file_read.specs.File.{readFile, framesAfter};
+ghost use Rattle.file_exports.specs.Exported.{noRoom, byRoom, outcomeNumber};
 
 // Whether a file is accepted.
 #[no_mangle]
 pub extern "C" fn gelmusko_read_file(text: &[u8], frames: &mut [u8], out: &mut [u8]) -> u32
-    ensures { λ r. ⌜ (r ≡ byRoom (now (out .entry)) (noRoom 1024 (now (text .entry))) (outcomeNumber (readFile 1024 (now (text .entry)) (length (now (frames .entry))) NotLent))) × (now (frames .exit) ≡ byRoom (now (out .entry)) (now (frames .entry)) (framesAfter 1024 (now (text .entry)) (now (frames .entry)) NotLent)) × (now (out .exit) ≡ putFrame (now (out .entry)) 0 (outcomeFrame (readFile 1024 (now (text .entry)) (length (now (frames .entry))) NotLent))) ⌝ }
+    ensures outcome { λ r. ⌜ r
+        ≡ byRoom (now (out .entry)) (noRoom 1024 (now (text .entry)))
+        (outcomeNumber (readFile 1024 (now (text .entry)) (length (now (frames .entry))) NotLent)) ⌝ }
+    ensures frames { λ r. ⌜ now (frames .exit)
+        ≡ byRoom (now (out .entry)) (now (frames .entry))
+        (framesAfter 1024 (now (text .entry)) (now (frames .entry)) NotLent) ⌝ }
+    ensures out { λ r. ⌜ now (out .exit)
+        ≡ putFrame (now (out .entry)) 0
+        (outcomeFrame (readFile 1024 (now (text .entry)) (length (now (frames .entry))) NotLent)) ⌝ }
 {
     if out.len() < 16 {
         return no_room(1024, text);

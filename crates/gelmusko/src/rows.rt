@@ -1,23 +1,23 @@
 // The rows of a file, and its composes.
-use exported::clamped;
-use exported::no_room;
-use exported::put_outcome;
-use exported::put_row;
-use exported::put_verdict;
+use file_exports::clamped;
+use file_exports::no_room;
+use file_exports::put_outcome;
+use file_exports::put_row;
+use file_exports::put_verdict;
 use file_rows::compose_verdict;
 use file_rows::row_type;
 use file_rows::type_rows;
 use ir::RowNumber;
-use row_rules::Pass;
+use rule_rows::Pass;
 ghost use mathlib.Core.Path.{_≡_};
 ghost use lib.ListN.{length};
 ghost use Rattle.text.specs.declared.AnswerRoom.the-variants.{Lent};
 ghost use Rattle.frames.specs.Bytes.{putFrame};
 ghost use Rattle.frames.specs.Out.{outcomeFrame};
-ghost use Rattle.reader.specs.File.{readFile, framesAfter};
-ghost use Rattle.row_rules.specs.declared.Pass.the-variants.{First};
-ghost use Rattle.reader.specs.Typing.{answersAfter, rowType, answersAfterRow, composeVerdict, answersAfterVerdict};
-ghost use Rattle.exported.specs.Exported.{noRoom, byRoom, outcomeNumber, rowNumber, rowGivenFrame, verdictNumber, verdictGivenFrame};
+ghost use Rattle.file_read.specs.File.{readFile, framesAfter};
+ghost use Rattle.rule_rows.specs.declared.Pass.the-variants.{First};
+ghost use Rattle.file_read.specs.Typing.{answersAfter, rowType, answersAfterRow, composeVerdict, answersAfterVerdict};
+ghost use Rattle.file_exports.specs.Exported.{noRoom, byRoom, outcomeNumber, rowNumber, rowGivenFrame, verdictNumber, verdictGivenFrame};
 
 // Types every row of a file and judges every compose.
 #[no_mangle]
@@ -27,7 +27,18 @@ pub extern "C" fn gelmusko_type_rows(
     answers: &mut [u8],
     out: &mut [u8],
 ) -> u32
-    ensures { λ r. ⌜ (r ≡ byRoom (now (out .entry)) (noRoom 1024 (now (text .entry))) (outcomeNumber (readFile 1024 (now (text .entry)) (length (now (frames .entry))) (Lent (length (now (answers .entry))))))) × (now (frames .exit) ≡ byRoom (now (out .entry)) (now (frames .entry)) (framesAfter 1024 (now (text .entry)) (now (frames .entry)) (Lent (length (now (answers .entry)))))) × (now (answers .exit) ≡ byRoom (now (out .entry)) (now (answers .entry)) (answersAfter First 1024 (now (text .entry)) (length (now (frames .entry))) (now (answers .entry)))) × (now (out .exit) ≡ putFrame (now (out .entry)) 0 (outcomeFrame (readFile 1024 (now (text .entry)) (length (now (frames .entry))) (Lent (length (now (answers .entry))))))) ⌝ }
+    ensures outcome { λ r. ⌜ r
+        ≡ byRoom (now (out .entry)) (noRoom 1024 (now (text .entry))) (outcomeNumber (readFile 1024 (now (text .entry))
+        (length (now (frames .entry))) (Lent (length (now (answers .entry)))))) ⌝ }
+    ensures frames { λ r. ⌜ now (frames .exit)
+        ≡ byRoom (now (out .entry)) (now (frames .entry))
+        (framesAfter 1024 (now (text .entry)) (now (frames .entry)) (Lent (length (now (answers .entry))))) ⌝ }
+    ensures answers { λ r. ⌜ now (answers .exit)
+        ≡ byRoom (now (out .entry)) (now (answers .entry))
+        (answersAfter First 1024 (now (text .entry)) (length (now (frames .entry))) (now (answers .entry))) ⌝ }
+    ensures out { λ r. ⌜ now (out .exit)
+        ≡ putFrame (now (out .entry)) 0 (outcomeFrame (readFile 1024 (now (text .entry)) (length (now (frames .entry)))
+        (Lent (length (now (answers .entry)))))) ⌝ }
 {
     if out.len() < 16 {
         return no_room(1024, text);
@@ -45,7 +56,18 @@ pub extern "C" fn gelmusko_row_type(
     row: u32,
     out: &mut [u8],
 ) -> u32
-    ensures { λ r. ⌜ (r ≡ byRoom (now (out .entry)) (noRoom 1024 (now (text .entry))) (rowNumber (rowType First 1024 (now (text .entry)) (length (now (frames .entry))) (length (now (answers .entry))) (record { 0 = row })))) × (now (frames .exit) ≡ byRoom (now (out .entry)) (now (frames .entry)) (framesAfter 1024 (now (text .entry)) (now (frames .entry)) (Lent (length (now (answers .entry)))))) × (now (answers .exit) ≡ byRoom (now (out .entry)) (now (answers .entry)) (answersAfterRow First 1024 (now (text .entry)) (length (now (frames .entry))) (now (answers .entry)) (record { 0 = row }))) × (now (out .exit) ≡ putFrame (now (out .entry)) 0 (rowGivenFrame (rowType First 1024 (now (text .entry)) (length (now (frames .entry))) (length (now (answers .entry))) (record { 0 = row })))) ⌝ }
+    ensures outcome { λ r. ⌜ r
+        ≡ byRoom (now (out .entry)) (noRoom 1024 (now (text .entry))) (rowNumber (rowType First 1024 (now (text .entry))
+        (length (now (frames .entry))) (length (now (answers .entry))) (record { 0 = row }))) ⌝ }
+    ensures frames { λ r. ⌜ now (frames .exit)
+        ≡ byRoom (now (out .entry)) (now (frames .entry))
+        (framesAfter 1024 (now (text .entry)) (now (frames .entry)) (Lent (length (now (answers .entry))))) ⌝ }
+    ensures answers { λ r. ⌜ now (answers .exit)
+        ≡ byRoom (now (out .entry)) (now (answers .entry)) (answersAfterRow First 1024 (now (text .entry))
+        (length (now (frames .entry))) (now (answers .entry)) (record { 0 = row })) ⌝ }
+    ensures out { λ r. ⌜ now (out .exit)
+        ≡ putFrame (now (out .entry)) 0 (rowGivenFrame (rowType First 1024 (now (text .entry))
+        (length (now (frames .entry))) (length (now (answers .entry))) (record { 0 = row }))) ⌝ }
 {
     if out.len() < 16 {
         return no_room(1024, text);
@@ -70,7 +92,18 @@ pub extern "C" fn gelmusko_compose_verdict(
     row: u32,
     out: &mut [u8],
 ) -> u32
-    ensures { λ r. ⌜ (r ≡ byRoom (now (out .entry)) (noRoom 1024 (now (text .entry))) (verdictNumber (composeVerdict First 1024 (now (text .entry)) (length (now (frames .entry))) (length (now (answers .entry))) (record { 0 = row })))) × (now (frames .exit) ≡ byRoom (now (out .entry)) (now (frames .entry)) (framesAfter 1024 (now (text .entry)) (now (frames .entry)) (Lent (length (now (answers .entry)))))) × (now (answers .exit) ≡ byRoom (now (out .entry)) (now (answers .entry)) (answersAfterVerdict First 1024 (now (text .entry)) (length (now (frames .entry))) (now (answers .entry)) (record { 0 = row }))) × (now (out .exit) ≡ putFrame (now (out .entry)) 0 (verdictGivenFrame (record { 0 = row }) (composeVerdict First 1024 (now (text .entry)) (length (now (frames .entry))) (length (now (answers .entry))) (record { 0 = row })))) ⌝ }
+    ensures outcome { λ r. ⌜ r
+        ≡ byRoom (now (out .entry)) (noRoom 1024 (now (text .entry))) (verdictNumber (composeVerdict First 1024
+        (now (text .entry)) (length (now (frames .entry))) (length (now (answers .entry))) (record { 0 = row }))) ⌝ }
+    ensures frames { λ r. ⌜ now (frames .exit)
+        ≡ byRoom (now (out .entry)) (now (frames .entry))
+        (framesAfter 1024 (now (text .entry)) (now (frames .entry)) (Lent (length (now (answers .entry))))) ⌝ }
+    ensures answers { λ r. ⌜ now (answers .exit)
+        ≡ byRoom (now (out .entry)) (now (answers .entry)) (answersAfterVerdict First 1024 (now (text .entry))
+        (length (now (frames .entry))) (now (answers .entry)) (record { 0 = row })) ⌝ }
+    ensures out { λ r. ⌜ now (out .exit)
+        ≡ putFrame (now (out .entry)) 0 (verdictGivenFrame (record { 0 = row }) (composeVerdict First 1024
+        (now (text .entry)) (length (now (frames .entry))) (length (now (answers .entry))) (record { 0 = row }))) ⌝ }
 {
     if out.len() < 16 {
         return no_room(1024, text);

@@ -1,23 +1,23 @@
 // The types of a file: two compared, a canonical form, a pointer's base.
-use exported::clamped;
-use exported::handed_frame;
-use exported::no_room;
-use exported::put_base;
-use exported::put_canonical;
-use exported::put_sameness;
+use file_exports::clamped;
+use file_exports::handed_frame;
+use file_exports::no_room;
+use file_exports::put_base;
+use file_exports::put_canonical;
+use file_exports::put_sameness;
+use file_pointers::canonical_form;
+use file_pointers::pointer_base;
+use file_read::same_type;
 use ir::TypeNumber;
-use pointer_forms::canonical_form;
-use pointer_forms::pointer_base;
-use reader::same_type;
 ghost use mathlib.Core.Path.{_≡_};
 ghost use lib.ListN.{length};
 ghost use Rattle.answers.specs.Numbers.{samenessSaid, canonicalSaid, baseSaid};
 ghost use Rattle.text.specs.declared.AnswerRoom.the-variants.{NotLent};
 ghost use Rattle.frames.specs.Bytes.{putFrame};
-ghost use Rattle.reader.specs.File.{framesAfter};
-ghost use Rattle.reader.specs.Types.{sameTypes};
-ghost use Rattle.pointer_forms.specs.Forms.{canonicalType, pointerBaseType};
-ghost use Rattle.exported.specs.Exported.{noRoom, byRoom, saidNumber, saidFrame, typeSaidNumber, typeSaidFrame, handedFrame};
+ghost use Rattle.file_read.specs.File.{framesAfter};
+ghost use Rattle.file_read.specs.Types.{sameTypes};
+ghost use Rattle.file_pointers.specs.Forms.{canonicalType, pointerBaseType};
+ghost use Rattle.file_exports.specs.Exported.{noRoom, byRoom, saidNumber, saidFrame, typeSaidNumber, typeSaidFrame, handedFrame};
 
 // Whether two answers of a file, as frames of family 8 or 9, are the same type.
 #[no_mangle]
@@ -28,7 +28,16 @@ pub extern "C" fn gelmusko_same_type(
     right: &[u8],
     out: &mut [u8],
 ) -> u32
-    ensures { λ r. ⌜ (r ≡ byRoom (now (out .entry)) (noRoom 1024 (now (text .entry))) (saidNumber (samenessSaid (sameTypes 1024 (now (text .entry)) (length (now (frames .entry))) (handedFrame (now (left .entry))) (handedFrame (now (right .entry))))))) × (now (frames .exit) ≡ byRoom (now (out .entry)) (now (frames .entry)) (framesAfter 1024 (now (text .entry)) (now (frames .entry)) NotLent)) × (now (out .exit) ≡ putFrame (now (out .entry)) 0 (saidFrame (samenessSaid (sameTypes 1024 (now (text .entry)) (length (now (frames .entry))) (handedFrame (now (left .entry))) (handedFrame (now (right .entry))))))) ⌝ }
+    ensures outcome { λ r. ⌜ r
+        ≡ byRoom (now (out .entry)) (noRoom 1024 (now (text .entry))) (saidNumber (samenessSaid (sameTypes 1024
+        (now (text .entry)) (length (now (frames .entry))) (handedFrame (now (left .entry)))
+        (handedFrame (now (right .entry)))))) ⌝ }
+    ensures frames { λ r. ⌜ now (frames .exit)
+        ≡ byRoom (now (out .entry)) (now (frames .entry))
+        (framesAfter 1024 (now (text .entry)) (now (frames .entry)) NotLent) ⌝ }
+    ensures out { λ r. ⌜ now (out .exit)
+        ≡ putFrame (now (out .entry)) 0 (saidFrame (samenessSaid (sameTypes 1024 (now (text .entry))
+        (length (now (frames .entry))) (handedFrame (now (left .entry))) (handedFrame (now (right .entry)))))) ⌝ }
 {
     if out.len() < 16 {
         return no_room(1024, text);
@@ -47,7 +56,15 @@ pub extern "C" fn gelmusko_canonical_form(
     n: u32,
     out: &mut [u8],
 ) -> u32
-    ensures { λ r. ⌜ (r ≡ byRoom (now (out .entry)) (noRoom 1024 (now (text .entry))) (typeSaidNumber (canonicalSaid (canonicalType 1024 (now (text .entry)) (length (now (frames .entry))) (record { 0 = n }))))) × (now (frames .exit) ≡ byRoom (now (out .entry)) (now (frames .entry)) (framesAfter 1024 (now (text .entry)) (now (frames .entry)) NotLent)) × (now (out .exit) ≡ putFrame (now (out .entry)) 0 (typeSaidFrame (canonicalSaid (canonicalType 1024 (now (text .entry)) (length (now (frames .entry))) (record { 0 = n }))))) ⌝ }
+    ensures outcome { λ r. ⌜ r
+        ≡ byRoom (now (out .entry)) (noRoom 1024 (now (text .entry))) (typeSaidNumber (canonicalSaid
+        (canonicalType 1024 (now (text .entry)) (length (now (frames .entry))) (record { 0 = n })))) ⌝ }
+    ensures frames { λ r. ⌜ now (frames .exit)
+        ≡ byRoom (now (out .entry)) (now (frames .entry))
+        (framesAfter 1024 (now (text .entry)) (now (frames .entry)) NotLent) ⌝ }
+    ensures out { λ r. ⌜ now (out .exit)
+        ≡ putFrame (now (out .entry)) 0 (typeSaidFrame (canonicalSaid
+        (canonicalType 1024 (now (text .entry)) (length (now (frames .entry))) (record { 0 = n })))) ⌝ }
 {
     if out.len() < 16 {
         return no_room(1024, text);
@@ -64,7 +81,15 @@ pub extern "C" fn gelmusko_pointer_base(
     n: u32,
     out: &mut [u8],
 ) -> u32
-    ensures { λ r. ⌜ (r ≡ byRoom (now (out .entry)) (noRoom 1024 (now (text .entry))) (typeSaidNumber (baseSaid (pointerBaseType 1024 (now (text .entry)) (length (now (frames .entry))) (record { 0 = n }))))) × (now (frames .exit) ≡ byRoom (now (out .entry)) (now (frames .entry)) (framesAfter 1024 (now (text .entry)) (now (frames .entry)) NotLent)) × (now (out .exit) ≡ putFrame (now (out .entry)) 0 (typeSaidFrame (baseSaid (pointerBaseType 1024 (now (text .entry)) (length (now (frames .entry))) (record { 0 = n }))))) ⌝ }
+    ensures outcome { λ r. ⌜ r
+        ≡ byRoom (now (out .entry)) (noRoom 1024 (now (text .entry))) (typeSaidNumber
+        (baseSaid (pointerBaseType 1024 (now (text .entry)) (length (now (frames .entry))) (record { 0 = n })))) ⌝ }
+    ensures frames { λ r. ⌜ now (frames .exit)
+        ≡ byRoom (now (out .entry)) (now (frames .entry))
+        (framesAfter 1024 (now (text .entry)) (now (frames .entry)) NotLent) ⌝ }
+    ensures out { λ r. ⌜ now (out .exit)
+        ≡ putFrame (now (out .entry)) 0 (typeSaidFrame
+        (baseSaid (pointerBaseType 1024 (now (text .entry)) (length (now (frames .entry))) (record { 0 = n })))) ⌝ }
 {
     if out.len() < 16 {
         return no_room(1024, text);

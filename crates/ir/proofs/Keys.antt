@@ -77,7 +77,8 @@ rowKind-tag Rk.SubgroupOperationResult = refl
 rowKind-tag Rk.CooperativeLoad = refl
 rowKind-tag Rk.CooperativeMultiplyAdd = refl
 
-pub of-row-kinds : {B : Type 0} (f : RowKind → B) {b : B} (ks : List ℕ) → map (λ (k : ℕ). f (rowKindOf k)) ks ≡ map (λ (k : ℕ). b) ks → (a : RowKind) → OneOf ks (tagOf RowKind′.the-type a) → b ≡ f a
+pub of-row-kinds : {B : Type 0} (f : RowKind → B) {b : B} (ks : List ℕ) → map (λ (k : ℕ). f (rowKindOf k)) ks ≡ map (λ (k : ℕ). b) ks
+    → (a : RowKind) → OneOf ks (tagOf RowKind′.the-type a) → b ≡ f a
 of-row-kinds f ks e a h = of-keys (λ (k : ℕ). f (rowKindOf k)) ks e (tagOf RowKind′.the-type a) h ∙ ap f (rowKind-tag a)
 
 typeKind-tag : (a : TypeKind) → typeKindOf (tagOf TypeKind′.the-type a) ≡ a
@@ -97,7 +98,8 @@ typeKind-tag Tk.AccelerationStructure = refl
 typeKind-tag Tk.RayQuery = refl
 typeKind-tag Tk.BindingArray = refl
 
-pub of-type-kinds : {B : Type 0} (f : TypeKind → B) {b : B} (ks : List ℕ) → map (λ (k : ℕ). f (typeKindOf k)) ks ≡ map (λ (k : ℕ). b) ks → (a : TypeKind) → OneOf ks (tagOf TypeKind′.the-type a) → b ≡ f a
+pub of-type-kinds : {B : Type 0} (f : TypeKind → B) {b : B} (ks : List ℕ) → map (λ (k : ℕ). f (typeKindOf k)) ks ≡ map (λ (k : ℕ). b) ks
+    → (a : TypeKind) → OneOf ks (tagOf TypeKind′.the-type a) → b ≡ f a
 of-type-kinds f ks e a h = of-keys (λ (k : ℕ). f (typeKindOf k)) ks e (tagOf TypeKind′.the-type a) h ∙ ap f (typeKind-tag a)
 
 itemKind-tag : (a : ItemKind) → itemKindOf (tagOf ItemKind′.the-type a) ≡ a
@@ -111,7 +113,8 @@ itemKind-tag Ik.Function = refl
 itemKind-tag Ik.RayIntersection = refl
 itemKind-tag Ik.RayVertexReturn = refl
 
-pub of-item-kinds : {B : Type 0} (f : ItemKind → B) {b : B} (ks : List ℕ) → map (λ (k : ℕ). f (itemKindOf k)) ks ≡ map (λ (k : ℕ). b) ks → (a : ItemKind) → OneOf ks (tagOf ItemKind′.the-type a) → b ≡ f a
+pub of-item-kinds : {B : Type 0} (f : ItemKind → B) {b : B} (ks : List ℕ) → map (λ (k : ℕ). f (itemKindOf k)) ks ≡ map (λ (k : ℕ). b) ks
+    → (a : ItemKind) → OneOf ks (tagOf ItemKind′.the-type a) → b ≡ f a
 of-item-kinds f ks e a h = of-keys (λ (k : ℕ). f (itemKindOf k)) ks e (tagOf ItemKind′.the-type a) h ∙ ap f (itemKind-tag a)
 
 relationalFunction-tag : (a : RelationalFunction) → relationalFunctionOf (tagOf RelationalFunction′.the-type a) ≡ a
@@ -120,8 +123,11 @@ relationalFunction-tag Rf.Any = refl
 relationalFunction-tag Rf.IsNan = refl
 relationalFunction-tag Rf.IsInf = refl
 
-pub of-relational-functions : {B : Type 0} (f : RelationalFunction → B) {b : B} (ks : List ℕ) → map (λ (k : ℕ). f (relationalFunctionOf k)) ks ≡ map (λ (k : ℕ). b) ks → (a : RelationalFunction) → OneOf ks (tagOf RelationalFunction′.the-type a) → b ≡ f a
-of-relational-functions f ks e a h = of-keys (λ (k : ℕ). f (relationalFunctionOf k)) ks e (tagOf RelationalFunction′.the-type a) h ∙ ap f (relationalFunction-tag a)
+pub of-relational-functions : {B : Type 0} (f : RelationalFunction → B) {b : B} (ks : List ℕ)
+    → map (λ (k : ℕ). f (relationalFunctionOf k)) ks ≡ map (λ (k : ℕ). b) ks → (a : RelationalFunction)
+    → OneOf ks (tagOf RelationalFunction′.the-type a) → b ≡ f a
+of-relational-functions f ks e a h =
+    of-keys (λ (k : ℕ). f (relationalFunctionOf k)) ks e (tagOf RelationalFunction′.the-type a) h ∙ ap f (relationalFunction-tag a)
 
 imageQuery-tag : (a : ImageQuery) → imageQueryOf (tagOf ImageQuery′.the-type a) ≡ a
 imageQuery-tag Iq.Size = refl
@@ -129,5 +135,6 @@ imageQuery-tag Iq.NumLevels = refl
 imageQuery-tag Iq.NumLayers = refl
 imageQuery-tag Iq.NumSamples = refl
 
-pub of-image-queries : {B : Type 0} (f : ImageQuery → B) {b : B} (ks : List ℕ) → map (λ (k : ℕ). f (imageQueryOf k)) ks ≡ map (λ (k : ℕ). b) ks → (a : ImageQuery) → OneOf ks (tagOf ImageQuery′.the-type a) → b ≡ f a
+pub of-image-queries : {B : Type 0} (f : ImageQuery → B) {b : B} (ks : List ℕ)
+    → map (λ (k : ℕ). f (imageQueryOf k)) ks ≡ map (λ (k : ℕ). b) ks → (a : ImageQuery) → OneOf ks (tagOf ImageQuery′.the-type a) → b ≡ f a
 of-image-queries f ks e a h = of-keys (λ (k : ℕ). f (imageQueryOf k)) ks e (tagOf ImageQuery′.the-type a) h ∙ ap f (imageQuery-tag a)

@@ -10,7 +10,8 @@ use mathlib.Core.Logic.{_⊎_, inl, inr, _↔_}
 use native.Mathlib.Decide.{decLe}
 use lib.ListN.{length, getD, List·getD-eq-default}
 use Rattle.ir.proofs.Tables.{upFrom, at-place}
-use Rattle.ir.specs.Numbers.{typeKinds, typeKindOf, typeKindNumber, itemKinds, itemKindOf, itemKindNumber, rowKinds, rowKindOf, rowKindNumber, vectorSizes, vectorSizeOf, vectorSizeNumber, cooperativeRoles, cooperativeRoleOf, cooperativeRoleNumber, scalarKinds, scalarKindOf, scalarKindNumber, imageDimensions, imageDimensionOf, imageDimensionNumber, storageFormats, storageFormatOf, storageFormatNumber, literals, literalOf, literalNumber, binaryOperators, binaryOperatorOf, binaryOperatorNumber, relationalFunctions, relationalFunctionOf, relationalFunctionNumber, imageQueries, imageQueryOf, imageQueryNumber, cooperativeSizeOf, cooperativeSizeNumber, flagOf, flagNumber, accessOf, accessNumber, spaceOf, spaceNumber, spaceAccess}
+use Rattle.ir.specs.Numbers.{typeKinds, typeKindOf, typeKindNumber, itemKinds, itemKindOf, rowKinds, rowKindOf, rowKindNumber, vectorSizes, vectorSizeOf, vectorSizeNumber, cooperativeRoles, cooperativeRoleOf, cooperativeRoleNumber, scalarKinds, scalarKindOf, scalarKindNumber, imageDimensions, imageDimensionOf, imageDimensionNumber, storageFormats, storageFormatOf, storageFormatNumber, literals, literalOf, literalNumber, binaryOperators, binaryOperatorOf, binaryOperatorNumber, relationalFunctions, relationalFunctionOf, relationalFunctionNumber, imageQueries, imageQueryOf, imageQueryNumber, cooperativeSizeOf, cooperativeSizeNumber, flagOf, flagNumber, accessOf, accessNumber, spaceOf, spaceNumber, spaceAccess}
+use Rattle.ir.specs.ForProofs.{itemKindNumber}
 use Rattle.ir.specs.declared.AddressSpace.{AddressSpace}
 use Rattle.ir.specs.declared.BinaryOperator.{BinaryOperator}
 use Rattle.ir.specs.declared.CooperativeRole.{CooperativeRole}
@@ -42,10 +43,12 @@ use Rattle.ir.specs.declared.TypeKind.the-variants as TypeKind′
 use Rattle.ir.specs.declared.VectorSize.the-variants as VectorSize′
 
 -- the rule of a table whose cases are numbered from b on
-numbered : {A : Type 0} (num : A → ℕ) (d : A) (l : List A) (b : ℕ) → map num l ≡ upFrom b (length l) → (k : ℕ) → b ≤ k → k < b + length l → num (getD l (k - b) d) ≡ k
+numbered : {A : Type 0} (num : A → ℕ) (d : A) (l : List A) (b : ℕ) → map num l ≡ upFrom b (length l) → (k : ℕ) → b ≤ k → k < b + length l
+    → num (getD l (k - b) d) ≡ k
 numbered num d l b e k h g = at-place num d l b e (k - b) (omega arith) ∙ omega arith
 
-numbered₀ : {A : Type 0} (num : A → ℕ) (d : A) (l : List A) → map num l ≡ upFrom 0 (length l) → (k : ℕ) → k < length l → num (getD l k d) ≡ k
+numbered₀ : {A : Type 0} (num : A → ℕ) (d : A) (l : List A) → map num l ≡ upFrom 0 (length l) → (k : ℕ) → k < length l
+    → num (getD l k d) ≡ k
 numbered₀ num d l e k h = at-place num d l 0 e k h ∙ zero-add k
 
 pub typeKind-number : (k : ℕ) → k < 15 → typeKindNumber (typeKindOf k) ≡ k
@@ -159,7 +162,8 @@ pub flag-back : (q : Bool) → flagOf (flagNumber q) ≡ q
 flag-back true = refl
 flag-back false = refl
 
-access-of : (l s a : Bool) → accessOf (accessNumber (record { load = l; store = s; atomic = a })) ≡ record { load = l; store = s; atomic = a }
+access-of : (l s a : Bool)
+    → accessOf (accessNumber (record { load = l; store = s; atomic = a })) ≡ record { load = l; store = s; atomic = a }
 access-of true true true = refl
 access-of true true false = refl
 access-of true false true = refl
@@ -185,7 +189,8 @@ space-back AddressSpace′.RayPayload = refl
 space-back AddressSpace′.IncomingRayPayload = refl
 
 -- the first case stands for the numbers outside 1 to n: it is given exactly there
-first-case : {A : Type 0} (num : A → ℕ) (d : A) (l : List A) → map num l ≡ upFrom 0 (length l) → num d ≡ 0 → (k : ℕ) → getD l k d ≡ d → (k ≡ 0) ⊎ (length l ≤ k)
+first-case : {A : Type 0} (num : A → ℕ) (d : A) (l : List A) → map num l ≡ upFrom 0 (length l) → num d ≡ 0 → (k : ℕ) → getD l k d ≡ d
+    → (k ≡ 0) ⊎ (length l ≤ k)
 first-case num d l e z k h = go (decLe (length l) k)
   where
     go : Dec (length l ≤ k) → (k ≡ 0) ⊎ (length l ≤ k)

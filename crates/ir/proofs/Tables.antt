@@ -40,7 +40,9 @@ pub past-from {ℓ} : {A : Type ℓ} (b : ℕ) (l : List A) (d : A) (k : ℕ) �
 past-from b l d k r = go (decLe b k)
   where
     go : Dec (b ≤ k) → d ≡ cond (leb b k) (getD l (k - b) d) d
-    go (yes le) = let h : b + length l ≤ k = above b (length l) k le r in rw (le-leb b k le) (sym (List·getD-eq-default l d {n = k - b} (omega arith)))
+    go (yes le) =
+        let h : b + length l ≤ k = above b (length l) k le r in
+        rw (le-leb b k le) (sym (List·getD-eq-default l d {n = k - b} (omega arith)))
     go (no nle) = rw (lt-leb b k (omega arith))
 
 -- the numbers from b on, n of them
@@ -49,7 +51,8 @@ upFrom b zero = []
 upFrom b (suc n) = b ∷ upFrom (suc b) n
 
 -- a table whose cases are numbered from b on, as one computed test shows, has at place i the case with number b + i
-pub at-place : {A : Type 0} (num : A → ℕ) (d : A) (l : List A) (b : ℕ) → map num l ≡ upFrom b (length l) → (i : ℕ) → i < length l → num (getD l i d) ≡ b + i
+pub at-place : {A : Type 0} (num : A → ℕ) (d : A) (l : List A) (b : ℕ) → map num l ≡ upFrom b (length l) → (i : ℕ) → i < length l
+    → num (getD l i d) ≡ b + i
 at-place num d [] b e i h = let g : i < 0 = h in absurd (omega arith)
 at-place num d (x ∷ l) b e zero h = let q : num x ≡ b = cc in rw (add-zero b) q
 at-place num d (x ∷ l) b e (suc i) h =

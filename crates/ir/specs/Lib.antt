@@ -1,3 +1,4 @@
 pub mod Numbers
 pub mod Scalars
 pub mod TypeMethods
+pub mod ForProofs

@@ -73,17 +73,6 @@ itemKinds =
 abbrev pub itemKindOf : ℕ → ItemKind
 itemKindOf k = getD itemKinds k ItemKind′.Unknown
 
-abbrev pub itemKindNumber : ItemKind → ℕ
-itemKindNumber ItemKind′.Unknown = 0
-itemKindNumber ItemKind′.Constant = 1
-itemKindNumber ItemKind′.Override = 2
-itemKindNumber ItemKind′.GlobalVariable = 3
-itemKindNumber ItemKind′.FunctionArgument = 4
-itemKindNumber ItemKind′.LocalVariable = 5
-itemKindNumber ItemKind′.Function = 6
-itemKindNumber ItemKind′.RayIntersection = 7
-itemKindNumber ItemKind′.RayVertexReturn = 8
-
 -- rows, kinds 1 to 34 in `Expression` order ("The file", 4); 0 and every number past 34 are unknown
 abbrev pub rowKinds : List RowKind
 rowKinds =

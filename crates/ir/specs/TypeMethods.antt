@@ -1,12 +1,10 @@
--- Methods of a type's inner form (document 01, "Port order", type_methods.rs): its scalar, and of a pointer the space and what it points to. WGSL has no value
--- pointers; the source decides.
+-- Methods of a type's inner form (document 01, "Port order", type_methods.rs): its scalar, and of a pointer what it points to. WGSL has no value pointers; the
+-- source decides.
 use Rattle.ir.specs.declared.Scalar.{Scalar}
 use Rattle.ir.specs.declared.OptionVectorSize.{OptionVectorSize}
 use Rattle.ir.specs.declared.OptionVectorSize.the-variants as Ov
 use Rattle.ir.specs.declared.OptionScalar.{OptionScalar}
 use Rattle.ir.specs.declared.OptionScalar.the-variants as Os
-use Rattle.ir.specs.declared.OptionAddressSpace.{OptionAddressSpace}
-use Rattle.ir.specs.declared.OptionAddressSpace.the-variants as Oa
 use Rattle.ir.specs.declared.TypeInner.{TypeInner}
 use Rattle.ir.specs.declared.TypeInner.the-variants as Ti
 use Rattle.ir.specs.declared.TypeResolution.the-variants as Tr
@@ -29,23 +27,6 @@ scalarIn (Ti.Sampler q) = Os.None
 scalarIn (Ti.AccelerationStructure q) = Os.None
 scalarIn (Ti.RayQuery q) = Os.None
 scalarIn (Ti.BindingArray b z) = Os.None
-
--- the source's `pointer_space`
-abbrev pub pointerSpace : TypeInner → OptionAddressSpace
-pointerSpace (Ti.Scalar k) = Oa.None
-pointerSpace (Ti.Vector z k) = Oa.None
-pointerSpace (Ti.Matrix c r k) = Oa.None
-pointerSpace (Ti.CooperativeMatrix c r k o) = Oa.None
-pointerSpace (Ti.Atomic k) = Oa.None
-pointerSpace (Ti.Pointer b p) = Oa.Some p
-pointerSpace (Ti.ValuePointer z k p) = Oa.Some p
-pointerSpace (Ti.Array b z t) = Oa.None
-pointerSpace (Ti.Struct m n t) = Oa.None
-pointerSpace (Ti.Image d a c) = Oa.None
-pointerSpace (Ti.Sampler q) = Oa.None
-pointerSpace (Ti.AccelerationStructure q) = Oa.None
-pointerSpace (Ti.RayQuery q) = Oa.None
-pointerSpace (Ti.BindingArray b z) = Oa.None
 
 -- what a value pointer points to: a scalar, or a vector where it has a size
 abbrev pub valueBase : OptionVectorSize → Scalar → TypeInner

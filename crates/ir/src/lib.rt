@@ -1,7 +1,7 @@
 // The declarations of the source (ir/mod.rs), its names and its order, in the forms that document 01 asks for: a number type
 // for each arena in the place of Handle<T>, enums by value, and an enum of its own for each Option.
+pub mod methods;
 pub mod numbers;
-pub mod type_methods;
 
 // The number of a type, counted from 0 within family 1.
 pub struct TypeNumber(pub u16);

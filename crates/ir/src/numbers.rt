@@ -17,7 +17,9 @@ use super::TypeKind;
 use super::VectorSize;
 ghost use mathlib.Core.Path.{_≡_};
 ghost use Prim.Native.Nat.{_≤_};
-ghost use Rattle.ir.specs.Numbers.{typeKindOf, itemKindOf, rowKindOf, vectorSizeOf, vectorSizeNumber, cooperativeRoleOf, cooperativeRoleNumber, scalarKindOf, scalarKindNumber, imageDimensionOf, imageDimensionNumber, storageFormatOf, storageFormatNumber, literalOf, binaryOperatorOf, relationalFunctionOf, imageQueryOf, flagNumber, cooperativeSizeOf, cooperativeSizeNumber, accessOf, accessNumber, spaceOf, spaceNumber, spaceAccess};
+ghost use lib.Dec.{eqb};
+ghost use Rattle.ir.specs.declared.RowKind.the-variants.{Compose};
+ghost use Rattle.ir.specs.Numbers.{typeKindOf, itemKindOf, rowKindOf, rowKindNumber, vectorSizeOf, vectorSizeNumber, cooperativeRoleOf, cooperativeRoleNumber, scalarKindOf, scalarKindNumber, imageDimensionOf, imageDimensionNumber, storageFormatOf, storageFormatNumber, literalOf, binaryOperatorOf, relationalFunctionOf, imageQueryOf, flagNumber, cooperativeSizeOf, cooperativeSizeNumber, accessOf, accessNumber, spaceOf, spaceNumber, spaceAccess};
 
 impl TypeKind {
     pub fn from_number(n: u8) -> Self
@@ -61,6 +63,13 @@ impl ItemKind {
             _ => ItemKind::Unknown,
         }
     }
+}
+
+// Whether a row of this kind is a Compose.
+pub fn is_compose(kind: u8) -> bool
+    ensures { λ r. ⌜ r ≡ eqb kind (rowKindNumber Compose) ⌝ }
+{
+    kind == 5
 }
 
 impl RowKind {

@@ -4,9 +4,9 @@
 // A case is a line of 53 bytes: the name with blanks up to 40, a blank, the frame buffer's length in 5 digits, a blank, the
 // text's length in 5 digits, a line feed. The text follows, and one line feed more.
 use answers::Outcome;
-use encoding::write_text;
+use file_read::read_file;
 use libc::STDOUT_FILENO;
-use reader::read_file;
+use text_encode::write_text;
 ghost use Prim.Native.Nat.{_≤_};
 
 // The number that the 5 digits from `at` on spell.

@@ -6,12 +6,12 @@
 // of 32 digits for each pair, and one line feed more.
 use answers::Outcome;
 use answers::Sameness;
-use decoding::read_text;
 use file_lines::type_text;
+use file_read::same_type;
 use frames::frame_at;
 use libc::STDOUT_FILENO;
-use reader::same_type;
 use text::AnswerRoom;
+use text_decode::read_text;
 ghost use Prim.Native.Nat.{_≤_};
 
 // The number that the 5 digits from `at` on spell.

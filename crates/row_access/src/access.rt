@@ -7,19 +7,19 @@ use ir::Scalar;
 use ir::TypeInner;
 use ir::TypeNumber;
 use ir::VectorSize;
-use row_values::invalid_access;
-use row_values::invalid_scalar;
-use row_values::invalid_sub_access;
-use row_values::invalid_vector;
-use row_values::numbered;
-use row_values::pointer_type;
-use row_values::scalar_type;
-use row_values::value_pointer_type;
-use row_values::vector_type;
+use row_operands::values::invalid_access;
+use row_operands::values::invalid_scalar;
+use row_operands::values::invalid_sub_access;
+use row_operands::values::invalid_vector;
+use row_operands::values::numbered;
+use row_operands::values::pointer_type;
+use row_operands::values::scalar_type;
+use row_operands::values::value_pointer_type;
+use row_operands::values::vector_type;
 ghost use mathlib.Core.Path.{_≡_};
 ghost use Rattle.rule.specs.Answers.{value, told};
-ghost use Rattle.row_rules.specs.Access.{accessComponent, accessInto, accessThrough, splatOf, swizzleOf};
-ghost use Rattle.row_rules.specs.Answered.{toResult};
+ghost use Rattle.rule_rows.specs.Access.{accessComponent, accessInto, accessThrough, splatOf, swizzleOf};
+ghost use Rattle.rule_rows.specs.Answered.{toResult};
 
 // A component of what a value pointer points at.
 fn access_component(

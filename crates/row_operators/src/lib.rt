@@ -1,3 +1,5 @@
-// What follows for a row from the forms that its rule has looked into: the source's ResolveContext::resolve (proc/typifier.rs), arm by arm.
-// Here comparisons, logical operators, IsNan, IsInf and As.
-pub mod operators;
+// Binary but Multiply, Relational and As: proc/typifier.rs, lines 560 to 564, 623 to 660, 666 to 684 and 733 to 773. `reads` reads the operand and looks into
+// its type; `by_form` says what follows from the form.
+pub mod by_form;
+pub mod by_operator;
+pub mod reads;

@@ -26,7 +26,8 @@ use Rattle.rule.specs.Answers.{TypeAnswer, Typed, Result, told, newer, t
 
 module _ (f : Frame) (below : Below f) where
   -- a type number
-  number-again : (eqb (byte f 0) 8 && (eqb (byte f 1) 0 && fitsAll numberLayout f)) ≡ true → typeAnswerFrame (A.number (record { 0 = half f 2 })) ≡ f
+  number-again : (eqb (byte f 0) 8 && (eqb (byte f 1) 0 && fitsAll numberLayout f)) ≡ true
+      → typeAnswerFrame (A.number (record { 0 = half f 2 })) ≡ f
   number-again h =
       let e : byte f 0 ≡ 8 = eqb-true _ _ (and-first _ (eqb (byte f 1) 0 && fitsAll numberLayout f) h) in
       let r = and-second (eqb (byte f 0) 8) _ h in
@@ -35,11 +36,13 @@ module _ (f : Frame) (below : Below f) where
       ∙ laid-back (number 2 ∷ []) f below (and-second (eqb (byte f 1) 0) _ r)
 
   -- a value
-  value-again : (eqb (byte f 0) 9 && fitsAll (typeLayout (typeKindOf (byte f 1))) f) ≡ true → (t : TypeForm) → typeOf f ≡ t → typeAnswerFrame (A.valued f t) ≡ f
+  value-again : (eqb (byte f 0) 9 && fitsAll (typeLayout (typeKindOf (byte f 1))) f) ≡ true → (t : TypeForm) → typeOf f ≡ t
+      → typeAnswerFrame (A.valued f t) ≡ f
   unfolding typeOf
   value-again h (Tf.Known t) q =
       let e : byte f 0 ≡ 9 = eqb-true _ _ (and-first _ (fitsAll (typeLayout (typeKindOf (byte f 1))) f) h) in
-      let known : typeKindOf (byte f 1) ≡ Tk.Unknown → ⊥ = λ u. (let z : _≡_ {A = ℕ} 0 1 = cc (ap (λ (k : TypeKind). typeAs k f) u) in omega arith) in
+      let known : typeKindOf (byte f 1) ≡ Tk.Unknown → ⊥ =
+      λ u. (let z : _≡_ {A = ℕ} 0 1 = cc (ap (λ (k : TypeKind). typeAs k f) u) in omega arith) in
       ap (formFrame 9) (sym q) ∙ ap (λ (b : ℕ). formFrame b (typeOf f)) (sym e) ∙ type-again f below known (and-second (eqb (byte f 0) 9) _ h)
   value-again h Tf.Unknown q = refl
 
@@ -47,7 +50,9 @@ module _ (f : Frame) (below : Below f) where
   pub type-choice : typeAnswerFrame (typeAnswerOf f) ≡ f
   type-choice =
       by-test (λ (a : TypeAnswer). typeAnswerFrame a ≡ f) (eqb (byte f 0) 8 && (eqb (byte f 1) 0 && fitsAll numberLayout f)) number-again
-      (λ _. by-test (λ (a : TypeAnswer). typeAnswerFrame a ≡ f) (eqb (byte f 0) 9 && fitsAll (typeLayout (typeKindOf (byte f 1))) f) (λ h. value-again h (typeOf f) refl) (λ _. refl))
+      (λ _.
+      by-test (λ (a : TypeAnswer). typeAnswerFrame a ≡ f) (eqb (byte f 0) 9 && fitsAll (typeLayout (typeKindOf (byte f 1))) f)
+      (λ h. value-again h (typeOf f) refl) (λ _. refl))
 
   -- any frame, as a row's answer
   pub row-choice : rowFrame (rowAnswerOf f) ≡ f

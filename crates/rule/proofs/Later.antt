@@ -10,7 +10,8 @@ use Rattle.ir.specs.declared.RowNumber.{RowNumber}
 use Rattle.rule.specs.Answers.{Typed, Place, Result, told, newer}
 use Rattle.rule.specs.Things.{Thing, Seen, Sight}
 use Rattle.rule.specs.Rule.{Rule, done, come, past, Answers, Step, step, Reading, Readings, run, follow, met, placed, after, stop}
-use Rattle.rule.specs.Claim.{inOrder, absent, among, amongReadings, answers, readings, ours, later, reading, Right}
+use Rattle.rule.specs.Claim.{inOrder, absent, among, amongReadings, answers, readings, ours, later, reading}
+use Rattle.rule.specs.ForProofs.{Right}
 
 module _ (sight : Sight) where
   -- a reading, our outcome and a later reader's fit together
@@ -29,7 +30,8 @@ module _ (sight : Sight) where
   met-first [] ys e = refl
   met-first (step p c ∷ xs) ys e = go (sight c) refl (met-first xs ys)
     where
-      go : (s : Option (Seen c)) → sight c ≡ s → (met sight xs ≡ none → met sight (xs ++ ys) ≡ met sight ys) → met sight ((step p c ∷ xs) ++ ys) ≡ met sight ys
+      go : (s : Option (Seen c)) → sight c ≡ s → (met sight xs ≡ none → met sight (xs ++ ys) ≡ met sight ys)
+          → met sight ((step p c ∷ xs) ++ ys) ≡ met sight ys
       go none q h = absurd (let z : _≡_ {A = ℕ} 0 1 = cc (met-newer p c xs q) in omega arith)
       go (some s) q h = met-known p c (xs ++ ys) s q ∙ h (sym (met-known p c xs s q) ∙ e)
 
@@ -42,12 +44,14 @@ module _ (sight : Sight) where
   met-placed at [] = refl
   met-placed at (step p c ∷ xs) = go (sight c) refl (met-placed at xs)
     where
-      go : (s : Option (Seen c)) → sight c ≡ s → met sight (placed at xs) ≡ moved at (met sight xs) → met sight (placed at (step p c ∷ xs)) ≡ moved at (met sight (step p c ∷ xs))
+      go : (s : Option (Seen c)) → sight c ≡ s → met sight (placed at xs) ≡ moved at (met sight xs)
+          → met sight (placed at (step p c ∷ xs)) ≡ moved at (met sight (step p c ∷ xs))
       go none q h = rw (q, met)
       go (some s) q h = rw (q, met) h
 
   -- a rule goes on after a part of its reading that meets nothing
-  longer : {A : Type 0} (xs : List Step) {ys : List Step} {e : Option A} {o l : Result A} → met sight xs ≡ none → Fit ys e o l → Fit (xs ++ ys) e o l
+  longer : {A : Type 0} (xs : List Step) {ys : List Step} {e : Option A} {o l : Result A} → met sight xs ≡ none → Fit ys e o l
+      → Fit (xs ++ ys) e o l
   longer xs {ys} z (ends a h) = ends a (met-first xs ys z ∙ h)
   longer xs {ys} z (stops p l h) = stops p l (met-first xs ys z ∙ h)
 
@@ -105,5 +109,6 @@ module _ (sight : Sight) where
     rows (suc n) = next-row _ _ _ (rows n) (fits _ _ _ (λ r. at-row (rows n) (r .0)) (choice n) (rules n))
 
     -- THE CLAIM: of every rule over the rows of a file, for every choice
-    pub claim : (n : ℕ) {A : Type 0} (c : Result A) (rule : Rule A) → Right sight (reading sight rules n rule) (ours sight rules n rule) (later sight rules choice n c rule)
+    pub claim : (n : ℕ) {A : Type 0} (c : Result A) (rule : Rule A)
+        → Right sight (reading sight rules n rule) (ours sight rules n rule) (later sight rules choice n c rule)
     claim n c rule = right _ _ _ _ (fits _ _ _ (λ r. at-row (rows n) (r .0)) c rule)

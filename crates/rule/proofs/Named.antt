@@ -32,7 +32,8 @@ use Rattle.archive.proofs.Checked.{Holds}
 use Rattle.archive.proofs.Ranks.{begins}
 use Rattle.archive.proofs.Files.{from-start}
 use Rattle.rule.specs.Answers.{number}
-use Rattle.archive.specs.Access.{typeIn, typeAt, rowIn, rowAt}
+use Rattle.archive.specs.Access.{typeIn, typeAt, rowIn}
+use Rattle.archive.specs.ForProofs.{rowAt}
 use Rattle.rule.specs.Things.{listed, itemType, itemSpace, itemResult, maybeItem, Shown, constant, override, compose, functionArgument, globalVariable, localVariable, callResult, rayQueryVertexPositions, rayQueryGetIntersection, kind, form, Form, seeForm, seeRow, see}
 
 -- an item of a rank between two kinds is of the first
@@ -47,13 +48,15 @@ kind-of j f l h a b = go (eqb (f .b0) 3) a b
 last-kind : (f : Frame) → isKnown f ≡ true → 776 ≤ rankOf f → rankOf f < 1024 → f .b1 ≡ 8
 last-kind f k a b = go (eqb (f .b0) 3) a b (and-second (leb 1 (f .b0) && ltb (f .b0) 6) _ k)
   where
-    go : (e : Bool) → 776 ≤ cond e (768 + f .b1) (256 * f .b0) → cond e (768 + f .b1) (256 * f .b0) < 1024 → (not e || (leb 1 (f .b1) && ltb (f .b1) 9)) ≡ true → f .b1 ≡ 8
+    go : (e : Bool) → 776 ≤ cond e (768 + f .b1) (256 * f .b0) → cond e (768 + f .b1) (256 * f .b0) < 1024
+        → (not e || (leb 1 (f .b1) && ltb (f .b1) 9)) ≡ true → f .b1 ≡ 8
     go true a b k = omega (arith, ltb-true (f .b1) 9 (and-second (leb 1 (f .b1)) _ k))
     go false a b k = absurd (omega arith)
 
 module _ (fr : List ℕ) (ordered : Holds orderOk fr) where
   -- the frame k of the items of kind j, which are followed by those of the next rank
-  item-at : (j k : ℕ) → 1 ≤ j → j ≤ 8 → start fr (768 + j) ≤ k → k < start fr (769 + j) → itemOf (frameAt fr k) ≡ itemAs (itemKindOf j) (frameAt fr k)
+  item-at : (j k : ℕ) → 1 ≤ j → j ≤ 8 → start fr (768 + j) ≤ k → k < start fr (769 + j)
+      → itemOf (frameAt fr k) ≡ itemAs (itemKindOf j) (frameAt fr k)
   unfolding itemOf
   item-at j k l h a b =
       let w : k < frameCount fr = omega (arith, begins fr (769 + j) .within) in
@@ -65,7 +68,8 @@ module _ (fr : List ℕ) (ordered : Holds orderOk fr) where
   last-item k a b =
       let w : k < frameCount fr = omega (arith, begins fr 1024 .within) in
       ap (λ (x : ℕ). itemAs (itemKindOf x) (frameAt fr k))
-      (last-kind (frameAt fr k) (and-first (isKnown (frameAt fr k)) _ (ordered k w)) (from-start fr ordered 776 k w .0 a) (begins fr 1024 .lower k b))
+      (last-kind (frameAt fr k) (and-first (isKnown (frameAt fr k)) _ (ordered k w)) (from-start fr ordered 776 k w .0 a)
+      (begins fr 1024 .lower k b))
 
   module _ (n : RowNumber) (here : isRow (startsOf fr) n ≡ true) where
     -- the frame of the row
@@ -83,68 +87,100 @@ module _ (fr : List ℕ) (ordered : Holds orderOk fr) where
     pub constant-named : byte at 1 ≡ 2 → half at 2 < startsOf fr .overrides - startsOf fr .constants
         → let g = frameAt fr (startsOf fr .constants + half at 2) in see fr (kind n) ≡ some (constant (record { 0 = half g 2 }))
     unfolding startsOf
-    constant-named e h = row-at 2 e ∙ ap (λ (x : Item). some (constant (itemType x))) (item-at 1 _ (omega arith) (omega arith) (omega arith) (omega arith))
+    constant-named e h =
+        row-at 2 e ∙ ap (λ (x : Item). some (constant (itemType x))) (item-at 1 _ (omega arith) (omega arith) (omega arith) (omega arith))
 
     pub override-named : byte at 1 ≡ 3 → half at 2 < startsOf fr .globals - startsOf fr .overrides
         → let g = frameAt fr (startsOf fr .overrides + half at 2) in see fr (kind n) ≡ some (override (record { 0 = half g 2 }))
     unfolding startsOf
-    override-named e h = row-at 3 e ∙ ap (λ (x : Item). some (override (itemType x))) (item-at 2 _ (omega arith) (omega arith) (omega arith) (omega arith))
+    override-named e h =
+        row-at 3 e ∙ ap (λ (x : Item). some (override (itemType x))) (item-at 2 _ (omega arith) (omega arith) (omega arith) (omega arith))
 
     pub global-named : byte at 1 ≡ 11 → half at 2 < startsOf fr .arguments - startsOf fr .globals
-        → let g = frameAt fr (startsOf fr .globals + half at 2) in see fr (kind n) ≡ some (globalVariable (record { 0 = half g 2 }) (spaceOf (byte g 6) (byte g 7)))
+        → let g =
+        frameAt fr (startsOf fr .globals + half at 2) in
+        see fr (kind n) ≡ some (globalVariable (record { 0 = half g 2 }) (spaceOf (byte g 6) (byte g 7)))
     unfolding startsOf
-    global-named e h = row-at 11 e ∙ ap (λ (x : Item). some (globalVariable (itemType x) (itemSpace x))) (item-at 3 _ (omega arith) (omega arith) (omega arith) (omega arith))
+    global-named e h =
+        row-at 11 e
+        ∙ ap (λ (x : Item). some (globalVariable (itemType x) (itemSpace x)))
+        (item-at 3 _ (omega arith) (omega arith) (omega arith) (omega arith))
 
     pub local-named : byte at 1 ≡ 12 → half at 2 < startsOf fr .functions - startsOf fr .locals
         → let g = frameAt fr (startsOf fr .locals + half at 2) in see fr (kind n) ≡ some (localVariable (record { 0 = half g 2 }))
     unfolding startsOf
-    local-named e h = row-at 12 e ∙ ap (λ (x : Item). some (localVariable (itemType x))) (item-at 5 _ (omega arith) (omega arith) (omega arith) (omega arith))
+    local-named e h =
+        row-at 12 e
+        ∙ ap (λ (x : Item). some (localVariable (itemType x))) (item-at 5 _ (omega arith) (omega arith) (omega arith) (omega arith))
 
     pub function-named : byte at 1 ≡ 24 → half at 2 < startsOf fr .intersections - startsOf fr .functions
-        → let g = frameAt fr (startsOf fr .functions + half at 2) in see fr (kind n) ≡ some (callResult (resultOf (byte g 4) (half g 2)))
+        → let g =
+        frameAt fr (startsOf fr .functions + half at 2) in
+        see fr (kind n) ≡ some (callResult (resultOf (byte g 4) (record { 0 = half g 2 })))
     unfolding startsOf
-    function-named e h = row-at 24 e ∙ ap (λ (x : Item). some (callResult (itemResult x))) (item-at 6 _ (omega arith) (omega arith) (omega arith) (omega arith))
+    function-named e h =
+        row-at 24 e
+        ∙ ap (λ (x : Item). some (callResult (itemResult x))) (item-at 6 _ (omega arith) (omega arith) (omega arith) (omega arith))
 
     -- AN ARGUMENT, where there is one of that number
     pub argument-named : byte at 1 ≡ 10 → word at 12 < startsOf fr .locals - startsOf fr .arguments
-        → let g = frameAt fr (startsOf fr .arguments + word at 12) in see fr (kind n) ≡ some (functionArgument (word at 12) (some (record { 0 = half g 2 })))
+        → let g =
+        frameAt fr (startsOf fr .arguments + word at 12) in
+        see fr (kind n) ≡ some (functionArgument (word at 12) (some (record { 0 = half g 2 })))
     unfolding startsOf
     argument-named e h =
         row-at 10 e
-        ∙ ap (λ (b : Bool). some (functionArgument (word at 12) (cond b (some (itemType (itemOf (frameAt fr (startsOf fr .arguments + word at 12))))) none))) (lt-ltb _ _ h)
-        ∙ ap (λ (x : Item). some (functionArgument (word at 12) (some (itemType x)))) (item-at 4 _ (omega arith) (omega arith) (omega arith) (omega arith))
+        ∙ ap
+        (λ (b : Bool).
+        some (functionArgument (word at 12) (cond b (some (itemType (itemOf (frameAt fr (startsOf fr .arguments + word at 12))))) none)))
+        (lt-ltb _ _ h)
+        ∙ ap (λ (x : Item). some (functionArgument (word at 12) (some (itemType x))))
+        (item-at 4 _ (omega arith) (omega arith) (omega arith) (omega arith))
 
-    pub no-argument : byte at 1 ≡ 10 → startsOf fr .locals - startsOf fr .arguments ≤ word at 12 → see fr (kind n) ≡ some (functionArgument (word at 12) none)
+    pub no-argument : byte at 1 ≡ 10 → startsOf fr .locals - startsOf fr .arguments ≤ word at 12
+        → see fr (kind n) ≡ some (functionArgument (word at 12) none)
     no-argument e h =
         row-at 10 e
-        ∙ ap (λ (b : Bool). some (functionArgument (word at 12) (cond b (some (itemType (itemOf (frameAt fr (startsOf fr .arguments + word at 12))))) none))) (le-ltb _ _ h)
+        ∙ ap
+        (λ (b : Bool).
+        some (functionArgument (word at 12) (cond b (some (itemType (itemOf (frameAt fr (startsOf fr .arguments + word at 12))))) none)))
+        (le-ltb _ _ h)
 
     -- A SPECIAL TYPE, where there is one
     pub intersection-named : byte at 1 ≡ 30 → 0 < startsOf fr .«vertex_returns» - startsOf fr .intersections
-        → let g = frameAt fr (startsOf fr .intersections + 0) in see fr (kind n) ≡ some (rayQueryGetIntersection (some (record { 0 = half g 2 })))
+        → let g =
+        frameAt fr (startsOf fr .intersections + 0) in see fr (kind n) ≡ some (rayQueryGetIntersection (some (record { 0 = half g 2 })))
     unfolding startsOf
     intersection-named e h =
         row-at 30 e ∙ ap (λ (b : Bool). some (rayQueryGetIntersection (cond b (some (itemType (itemOf (frameAt fr (startsOf fr .intersections + 0))))) none))) (lt-ltb _ _ h)
-        ∙ ap (λ (x : Item). some (rayQueryGetIntersection (some (itemType x)))) (item-at 7 _ (omega arith) (omega arith) (omega arith) (omega arith))
+        ∙ ap (λ (x : Item). some (rayQueryGetIntersection (some (itemType x))))
+        (item-at 7 _ (omega arith) (omega arith) (omega arith) (omega arith))
 
-    pub no-intersection : byte at 1 ≡ 30 → startsOf fr .«vertex_returns» - startsOf fr .intersections ≤ 0 → see fr (kind n) ≡ some (rayQueryGetIntersection none)
+    pub no-intersection : byte at 1 ≡ 30 → startsOf fr .«vertex_returns» - startsOf fr .intersections ≤ 0
+        → see fr (kind n) ≡ some (rayQueryGetIntersection none)
     no-intersection e h =
         row-at 30 e ∙ ap (λ (b : Bool). some (rayQueryGetIntersection (cond b (some (itemType (itemOf (frameAt fr (startsOf fr .intersections + 0))))) none))) (le-ltb _ _ h)
 
     pub vertex-return-named : byte at 1 ≡ 28 → 0 < startsOf fr .rows - startsOf fr .«vertex_returns»
-        → let g = frameAt fr (startsOf fr .«vertex_returns» + 0) in see fr (kind n) ≡ some (rayQueryVertexPositions (some (record { 0 = half g 2 })))
+        → let g =
+        frameAt fr (startsOf fr .«vertex_returns» + 0) in
+        see fr (kind n) ≡ some (rayQueryVertexPositions (some (record { 0 = half g 2 })))
     unfolding startsOf
     vertex-return-named e h =
         row-at 28 e ∙ ap (λ (b : Bool). some (rayQueryVertexPositions (cond b (some (itemType (itemOf (frameAt fr (startsOf fr .«vertex_returns» + 0))))) none))) (lt-ltb _ _ h)
         ∙ ap (λ (x : Item). some (rayQueryVertexPositions (some (itemType x)))) (last-item _ (omega arith) (omega arith))
 
-    pub no-vertex-return : byte at 1 ≡ 28 → startsOf fr .rows - startsOf fr .«vertex_returns» ≤ 0 → see fr (kind n) ≡ some (rayQueryVertexPositions none)
+    pub no-vertex-return : byte at 1 ≡ 28 → startsOf fr .rows - startsOf fr .«vertex_returns» ≤ 0
+        → see fr (kind n) ≡ some (rayQueryVertexPositions none)
     no-vertex-return e h =
         row-at 28 e ∙ ap (λ (b : Bool). some (rayQueryVertexPositions (cond b (some (itemType (itemOf (frameAt fr (startsOf fr .«vertex_returns» + 0))))) none))) (le-ltb _ _ h)
 
     -- COMPONENTS: the rows in b2-3 of the frames of the range
     pub components-named : byte at 1 ≡ 5
-        → see fr (kind n) ≡ some (compose (record { 0 = half at 2 }) (listed (λ (i : ℕ). record { 0 = half (frameAt fr (startsOf fr .components + word at 12 + i)) 2 }) (half at 4)))
+        → see fr (kind n) ≡ some (compose (record {
+          0 =
+              half at 2;
+        }) (listed (λ (i : ℕ). record { 0 = half (frameAt fr (startsOf fr .components + word at 12 + i)) 2 }) (half at 4)))
     unfolding componentOf
     components-named e = row-at 5 e
 

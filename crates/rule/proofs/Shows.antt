@@ -35,7 +35,8 @@ use Rattle.archive.specs.declared.Starts.{Starts}
 use Rattle.archive.specs.Starts.{startsOf}
 use Rattle.archive.specs.Names.{isType, isRow}
 use Rattle.rule.specs.Answers.{TypeAnswer, number, value, malformed}
-use Rattle.archive.specs.Access.{typeIn, typeAt, rowIn, rowAt}
+use Rattle.archive.specs.Access.{typeIn, typeAt, rowIn}
+use Rattle.archive.specs.ForProofs.{rowAt}
 use Rattle.rule.specs.declared.Fault.{Fault}
 use Rattle.rule.specs.declared.Fault.the-variants as Fa
 use Rattle.rule.specs.Things.{shown, kind, form, texels, inRange, valueFault, faultOf, soundForm, seeForm, see}
@@ -84,7 +85,8 @@ module _ (fr : List ℕ) where
   binding-count-first b = refl
 
   -- and a value that gets neither shows itself
-  pub value-shows : (t : TypeInner) → valueFault (startsOf fr) t ≡ Fa.Sound → see fr (form (value t)) ≡ some (record { inner = t; members = [] })
+  pub value-shows : (t : TypeInner) → valueFault (startsOf fr) t ≡ Fa.Sound
+      → see fr (form (value t)) ≡ some (record { inner = t; members = [] })
   value-shows (Ti.Scalar x0) e = refl
   value-shows (Ti.Vector x0 x1) e = refl
   value-shows (Ti.Matrix x0 x1 x2) e = refl

@@ -12,7 +12,8 @@ use Rattle.rule.specs.Claim.{among, answers, ours, later, reading}
 use Rattle.rule.proofs.Later.{claim}
 
 module _ (less more : Sight) (wider : (c : Thing) (s : Seen c) → less c ≡ some s → more c ≡ some s) where
-  one-rule : {A : Type 0} (earlier : Answers) (new : Place → Result A) (v : Result A) (rule : Rule A) → run more earlier new rule ≡ v → run less earlier (λ p. v) rule ≡ v
+  one-rule : {A : Type 0} (earlier : Answers) (new : Place → Result A) (v : Result A) (rule : Rule A) → run more earlier new rule ≡ v
+      → run less earlier (λ p. v) rule ≡ v
   one-rule earlier new v (done a) e = e
   one-rule earlier new v (come p c k) e = go (less c) refl (λ s. one-rule earlier new v (k s))
     where
@@ -38,7 +39,8 @@ module _ (less more : Sight) (wider : (c : Thing) (s : Seen c) → less c ≡ so
         rw (all-rows n) (ap (λ (a : Result Typed). answers more rules (λ m. newer) n ++ (a ∷ []))
         (one-rule (among (answers more rules (λ m. newer) n)) newer (fresh n) (rules n) refl))
 
-    pub carried : {A : Type 0} (n : ℕ) (rule : Rule A) → met less (reading less rules n rule) ≡ none → ours less rules n rule ≡ ours more rules n rule
+    pub carried : {A : Type 0} (n : ℕ) (rule : Rule A) → met less (reading less rules n rule) ≡ none
+        → ours less rules n rule ≡ ours more rules n rule
     unfolding fresh
     carried n rule h =
         claim less rules fresh n (ours more rules n rule) rule .same h

@@ -10,8 +10,6 @@ use Rattle.ir.specs.declared.TypeForm.{TypeForm}
 use Rattle.ir.specs.declared.TypeForm.the-variants as Tf
 use Rattle.ir.specs.declared.TypeResolution.{TypeResolution}
 use Rattle.ir.specs.declared.TypeResolution.the-variants as Tr
-use Rattle.ir.specs.declared.OptionTypeResolution.{OptionTypeResolution}
-use Rattle.ir.specs.declared.OptionTypeResolution.the-variants as Ot
 use Rattle.ir.specs.Numbers.{typeKindOf}
 use Rattle.answers.specs.Numbers.{at, refusalValues}
 use Rattle.answers.specs.declared.Refusal.{Refusal}
@@ -34,12 +32,6 @@ pub data TypeAnswer : Type 0 where
 abbrev pub resolved : TypeResolution → TypeAnswer
 resolved (Tr.Handle n) = number n
 resolved (Tr.Value t) = value t
-
--- the resolution that an answer is; none where it is malformed
-abbrev pub resolution : TypeAnswer → OptionTypeResolution
-resolution (number n) = Ot.Some (Tr.Handle n)
-resolution (value t) = Ot.Some (Tr.Value t)
-resolution (malformed f) = Ot.None
 
 -- a row's answer other than newer: a type, or a refusal, family 10, of ours or as a later reader chose it
 pub data Typed : Type 0 where

@@ -1,15 +1,13 @@
--- The rows of a file in order, and what the claim about a later reader says of one outcome (document 01, "A row's type"). For any rules.
+-- The rows of a file in order: an outcome of ours, a later reader's, and its reading (document 01, "A row's type"). For any rules.
 use Prim.Native.Nat.{ℕ, zero, suc}
-use mathlib.Core.Path.{_≡_}
-use mathlib.Core.Logic.{_↔_}
 use mathlib.Core.List.{List, [], _∷_, _++_}
-use mathlib.Core.Option.{Option, none, some}
+use mathlib.Core.Option.{Option, some}
 use lib.ListN.{getD}
 use Rattle.ir.specs.declared.RowNumber.{RowNumber}
 use Rattle.answers.specs.declared.Refusal.the-variants.{MissingSpecialType}
 use Rattle.rule.specs.Answers.{Typed, refused, Place, Result, told, newer}
 use Rattle.rule.specs.Things.{Sight}
-use Rattle.rule.specs.Rule.{Rule, Answers, Step, Reading, Readings, run, follow, met}
+use Rattle.rule.specs.Rule.{Rule, Answers, Step, Reading, Readings, run, follow}
 
 -- each item made from those before it: the first n
 abbrev pub inOrder : {B : Type 0} → (List B → ℕ → B) → ℕ → List B
@@ -43,10 +41,3 @@ later sight rules choice n c rule = run sight (among (answers sight rules (λ m 
 
 abbrev pub reading : {A : Type 0} → Sight → (ℕ → Rule Typed) → ℕ → Rule A → List Step
 reading sight rules n rule = follow sight (amongReadings (readings sight rules n)) rule .steps
-
--- an outcome that a reader gives is right by the reading of the rule, against a later reader's
-pub record Right (sight : Sight) {A : Type 0} (steps : List Step) (ours theirs : Result A) : Type 0 where
-  -- where the reading meets nothing newer, the two are equal in every field
-  pub same : met sight steps ≡ none → ours ≡ theirs
-  -- ours is newer, naming p, exactly where the reading meets a newer thing at p
-  pub exactly : (p : Place) → (ours ≡ newer p) ↔ (met sight steps ≡ some p)

@@ -6,6 +6,7 @@ use mathlib.Core.List.{List, [], _∷_, _++_}
 use mathlib.Core.Option.{Option, none, some}
 use lib.Dec.{ltb, eqb}
 use Rattle.ir.specs.declared.TypeNumber.{TypeNumber}
+use Rattle.ir.specs.declared.ItemNumber.{ItemNumber}
 use Rattle.ir.specs.declared.RowNumber.{RowNumber}
 use Rattle.ir.specs.declared.VectorSize.{VectorSize}
 use Rattle.ir.specs.declared.ScalarKind.{ScalarKind}
@@ -92,8 +93,8 @@ itemResult (It.RayVertexReturn t) = Fr.None
 itemResult It.Unknown = Fr.None
 
 -- the type of an item that may be missing: item n of those from frame `first` up to frame `last`
-abbrev pub maybeItem : List ℕ → ℕ → ℕ → ℕ → Option TypeNumber
-maybeItem fr first last n = cond (ltb n (last - first)) (some (itemType (itemAt fr (first + n)))) none
+abbrev pub maybeItem : List ℕ → ℕ → ℕ → ItemNumber → Option TypeNumber
+maybeItem fr first last n = cond (ltb (n .0) (last - first)) (some (itemType (itemAt fr (first + n .0)))) none
 
 -- WHAT A ROW SHOWS, with what it names: items by their types, an argument and a special type where there is one, components by their rows
 
@@ -138,7 +139,7 @@ shown fr s (Ex.Access m) = some (access m)
 shown fr s (Ex.AccessIndex m i) = some (accessIndex m i)
 shown fr s (Ex.Splat z m) = some (splat z m)
 shown fr s (Ex.Swizzle z m) = some (swizzle z m)
-shown fr s (Ex.FunctionArgument i) = some (functionArgument i (maybeItem fr (s .arguments) (s .locals) i))
+shown fr s (Ex.FunctionArgument i) = some (functionArgument i (maybeItem fr (s .arguments) (s .locals) (record { 0 = i })))
 shown fr s (Ex.GlobalVariable i) = let g = itemAt fr (s .globals + i .0) in some (globalVariable (itemType g) (itemSpace g))
 shown fr s (Ex.LocalVariable i) = some (localVariable (itemType (itemAt fr (s .locals + i .0))))
 shown fr s (Ex.Load m) = some (load m)
@@ -156,9 +157,9 @@ shown fr s (Ex.CallResult i) = some (callResult (itemResult (itemAt fr (s .funct
 shown fr s (Ex.AtomicResult t) = some (atomicResult t)
 shown fr s (Ex.WorkGroupUniformLoadResult t) = some (workGroupUniformLoadResult t)
 shown fr s Ex.ArrayLength = some arrayLength
-shown fr s Ex.RayQueryVertexPositions = some (rayQueryVertexPositions (maybeItem fr (s .«vertex_returns») (s .rows) 0))
+shown fr s Ex.RayQueryVertexPositions = some (rayQueryVertexPositions (maybeItem fr (s .«vertex_returns») (s .rows) (record { 0 = 0 })))
 shown fr s Ex.RayQueryProceedResult = some rayQueryProceedResult
-shown fr s Ex.RayQueryGetIntersection = some (rayQueryGetIntersection (maybeItem fr (s .intersections) (s .«vertex_returns») 0))
+shown fr s Ex.RayQueryGetIntersection = some (rayQueryGetIntersection (maybeItem fr (s .intersections) (s .«vertex_returns») (record { 0 = 0 })))
 shown fr s Ex.SubgroupBallotResult = some subgroupBallotResult
 shown fr s (Ex.SubgroupOperationResult t) = some (subgroupOperationResult t)
 shown fr s (Ex.CooperativeLoad c r o m) = some (cooperativeLoad c r o m)

@@ -33,10 +33,12 @@ module _ (f : ℕ → ℕ) where
   pub build-more : (n : ℕ) (d : List ℕ) → n < length d → set (build f n ++ drop n d) n (f n) ≡ build f (n + 1) ++ drop (n + 1) d
   unfolding build
   build-more n d l =
-      rw (add-one, drop-cons d n 0) (set-at (build f n) (getD d n 0) (drop (suc n) d) (f n) n (length-build n) ∙ sym (append-snoc (build f n) (f n) (drop (suc n) d)))
+      rw (add-one, drop-cons d n 0)
+      (set-at (build f n) (getD d n 0) (drop (suc n) d) (f n) n (length-build n) ∙ sym (append-snoc (build f n) (f n) (drop (suc n) d)))
 
   -- a turn of a loop that fills a buffer: d₀ is the buffer where the loop begins, d as the turn begins
-  pub build-turn : (d₀ d : List ℕ) (i v : ℕ) → d ≡ build f i ++ drop i d₀ → i < length d₀ → v ≡ f i → set d i v ≡ build f (i + 1) ++ drop (i + 1) d₀
+  pub build-turn : (d₀ d : List ℕ) (i v : ℕ) → d ≡ build f i ++ drop i d₀ → i < length d₀ → v ≡ f i
+      → set d i v ≡ build f (i + 1) ++ drop (i + 1) d₀
   build-turn d₀ d i v e l ev = rw (e, ev) (build-more i d₀ l)
 
   pub sum-zero : 0 ≡ sumBelow f 0

@@ -9,7 +9,8 @@ use native.Mathlib.Numerals.{add-one}
 use native.Mathlib.Omega.{arith}
 use lib.Dec.{leb}
 use borrow.Author.Tests.{leb-true, leb-false, le-leb, lt-leb}
-use Rattle.scan.specs.Lowest.{orElse, lowest, allBelow, lowerOf}
+use Rattle.scan.specs.Lowest.{orElse, lowest, allBelow}
+use Rattle.scan.specs.ForProofs.{lowerOf}
 use Rattle.scan.specs.declared.Found.{Found}
 use Rattle.scan.specs.declared.Found.the-variants.{At, Nothing}
 
@@ -67,7 +68,8 @@ module _ (ok : ℕ → Bool) where
   none-all zero k none l = absurd (omega arith)
   none-all (suc n) k none l = go (lowest ok n) (ok n) (λ e lt. none-all n k e lt) refl none
     where
-      go : (f : Found) (b : Bool) → (f ≡ Nothing → k < n → ok k ≡ true) → ok n ≡ b → orElse f (cond b Nothing (At n)) ≡ Nothing → ok k ≡ true
+      go : (f : Found) (b : Bool) → (f ≡ Nothing → k < n → ok k ≡ true) → ok n ≡ b → orElse f (cond b Nothing (At n)) ≡ Nothing
+          → ok k ≡ true
       go (At j) b below eb e = absurd (let z : _≡_ {A = ℕ} 0 1 = cc in omega arith)
       go Nothing false below eb e = absurd (let z : _≡_ {A = ℕ} 0 1 = cc in omega arith)
       go Nothing true below eb e =
@@ -79,7 +81,8 @@ module _ (ok : ℕ → Bool) where
   found-at zero p e = absurd (let z : _≡_ {A = ℕ} 0 1 = cc in omega arith)
   found-at (suc n) p e = go (lowest ok n) (ok n) (λ h. found-at n p h) refl refl e
     where
-      go : (f : Found) (b : Bool) → (lowest ok n ≡ At p → LowestAt ok n p) → lowest ok n ≡ f → ok n ≡ b → orElse f (cond b Nothing (At n)) ≡ At p → LowestAt ok (suc n) p
+      go : (f : Found) (b : Bool) → (lowest ok n ≡ At p → LowestAt ok n p) → lowest ok n ≡ f → ok n ≡ b
+          → orElse f (cond b Nothing (At n)) ≡ At p → LowestAt ok (suc n) p
       go (At j) b below ef eb h =
           let q : j ≡ p = cc in
           let r = below (ef ∙ ap At q) in

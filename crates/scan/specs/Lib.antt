@@ -1,2 +1,3 @@
 pub mod Lowest
 pub mod Lists
+pub mod ForProofs

@@ -1,7 +1,6 @@
 -- The lowest index that fails a test. Document 01, "Numbers handed back": each check runs over the whole file, lowest frame named.
 use Prim.Native.Nat.{ℕ, zero, suc}
 use mathlib.Core.Bool.{Bool, cond, _&&_, true}
-use lib.Dec.{leb}
 use Rattle.scan.specs.declared.Found.{Found}
 use Rattle.scan.specs.declared.Found.the-variants.{At, Nothing}
 
@@ -19,9 +18,3 @@ lowest ok (suc n) = orElse (lowest ok n) (cond (ok n) Nothing (At n))
 unfoldable pub allBelow : (ℕ → Bool) → ℕ → Bool
 allBelow ok zero = true
 allBelow ok (suc n) = allBelow ok n && ok n
-
--- the lower of two places
-abbrev pub lowerOf : Found → Found → Found
-lowerOf (At i) (At j) = cond (leb i j) (At i) (At j)
-lowerOf (At i) Nothing = At i
-lowerOf Nothing f = f

@@ -1,6 +1,6 @@
 // The lowest place that fails a test: what every check of a file looks for.
 ghost use mathlib.Core.Path.{_≡_};
-ghost use Rattle.scan.specs.Lowest.{lowerOf};
+ghost use Rattle.scan.specs.ForProofs.{lowerOf};
 
 pub enum Found {
     At(usize),

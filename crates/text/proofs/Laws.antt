@@ -47,7 +47,8 @@ Bytes l = (i : ℕ) → getD l i 0 < 256
 -- the limit that holds is 1,024 or less
 pub most-small : (limit : ℕ) → mostFrames limit ≤ 1024
 unfolding mostFrames
-most-small limit = by-test (λ m. m ≤ 1024) (leb 1 limit && leb limit 1024) (λ e. leb-true _ _ (and-second (leb 1 limit) _ e)) (λ e. omega arith)
+most-small limit =
+    by-test (λ m. m ≤ 1024) (leb 1 limit && leb limit 1024) (λ e. leb-true _ _ (and-second (leb 1 limit) _ e)) (λ e. omega arith)
 
 -- which it is: the limit handed in from 1 to 1,024, and 1,024 for 0 and for any higher one
 pub most-given : (limit : ℕ) → 1 ≤ limit → limit ≤ 1024 → mostFrames limit ≡ limit
@@ -118,13 +119,15 @@ module _ (t : List ℕ) (f : ℕ) (room : AnswerRoom) where
 -- ---- each outcome, both ways
 module _ (limit : ℕ) (t : List ℕ) (f : ℕ) (room : AnswerRoom) where
   -- what holds in each of the four cases holds of what reading gives
-  pub by-read : (P : Outcome → Type 0) → (33 * mostFrames limit < length t → P (Long (mostFrames limit))) → ((k : ℕ) → TornAt limit t k → P (Torn k))
+  pub by-read : (P : Outcome → Type 0) → (33 * mostFrames limit < length t → P (Long (mostFrames limit)))
+      → ((k : ℕ) → TornAt limit t k → P (Torn k))
       → (TooSmall limit t f room → P Short) → (Readable limit t f room (lineCount t) → P (Accepted (lineCount t))) → P (readText limit t f room)
   unfolding readText
   by-read P long torn short accepted =
       by-test P (ltb (33 * mostFrames limit) (length t)) (λ e. long (ltb-true _ _ e)) (λ e. go (ltb-false _ _ e) (lowest (lineOk t) (lineCount t)) refl)
     where
-      go : length t ≤ 33 * mostFrames limit → (o : Found) → lowest (lineOk t) (lineCount t) ≡ o → P (afterTorn o (cond (tooShort t f room) Short (Accepted (lineCount t))))
+      go : length t ≤ 33 * mostFrames limit → (o : Found) → lowest (lineOk t) (lineCount t) ≡ o
+          → P (afterTorn o (cond (tooShort t f room) Short (Accepted (lineCount t))))
       go l (At k) e = torn k (record { within = l; line = found-at (lineOk t) (lineCount t) k e })
       go l Nothing e =
           let w : Whole t = λ k. none-all (lineOk t) (lineCount t) k e in
@@ -166,11 +169,13 @@ module _ (limit : ℕ) (t : List ℕ) (f : ℕ) (room : AnswerRoom) where
     by-read (λ r. r ≡ Accepted n → Readable limit t f room n) (λ l e. never (cc)) (λ k r e. never (cc)) (λ r e. never (cc))
         (λ r e. let q : lineCount t ≡ n = cc in rw q at r),
     λ r. let a : 16 * lineCount t ≤ f = rw (← r .count) (r .frames) in
-        rw (le-ltb (33 * mostFrames limit) (length t) (r .within), lowest-all (lineOk t) (lineCount t) (r .whole), both-fit t f room a (r .answers), ← r .count),
+        rw
+        (le-ltb (33 * mostFrames limit) (length t) (r .within), lowest-all (lineOk t) (lineCount t) (r .whole), both-fit t f room a (r .answers), ← r .count),
   )
 
 -- a text within two limits reads alike at either
-pub alike-within : (limit other : ℕ) (t : List ℕ) (f : ℕ) (room : AnswerRoom) → length t ≤ 33 * mostFrames limit → length t ≤ 33 * mostFrames other
+pub alike-within : (limit other : ℕ) (t : List ℕ) (f : ℕ) (room : AnswerRoom) → length t ≤ 33 * mostFrames limit
+    → length t ≤ 33 * mostFrames other
     → readText limit t f room ≡ readText other t f room
 unfolding readText
 alike-within limit other t f room a b = rw (le-ltb (33 * mostFrames limit) (length t) a, le-ltb (33 * mostFrames other) (length t) b)

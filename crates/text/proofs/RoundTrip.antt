@@ -31,7 +31,12 @@ module _ (v : ℕ) (small : v < 16) where
       by-test (λ c. isDigit c ≡ true) (ltb v 10)
       (λ a. let l = ltb-true v 10 a in rw (le-leb 48 (48 + v) (omega arith), lt-ltb (48 + v) 58 (omega arith)))
       (λ b. let l = ltb-false v 10 b in
-      rw (le-leb 48 (87 + v) (omega arith), le-ltb (87 + v) 58 (omega arith), le-leb 97 (87 + v) (omega arith), lt-ltb (87 + v) 103 (omega arith)))
+      rw (
+        le-leb 48 (87 + v) (omega arith),
+        le-ltb (87 + v) 58 (omega arith),
+        le-leb 97 (87 + v) (omega arith),
+        lt-ltb (87 + v) 103 (omega arith),
+      ))
 
   -- that stands for it
   pub value-of-digit : digitValue (digitOf v) ≡ v
@@ -95,14 +100,16 @@ module _ (fr : List ℕ) (n : ℕ) (bytes : Bytes fr) where
       ext-getD 0 (decoded (textOf fr n) n) fr (length-decoded (textOf fr n) n ∙ sym len) (λ i h.
       let l : i < 16 * n = rw length-decoded at h in
       let e : 16 * (i / 16) + i % 16 ≡ i = omega arith in
-      let d = decoded-at (textOf fr n) n (i / 16) (i % 16) (omega arith) (omega arith) ∙ text-byte (i / 16) (omega arith) (i % 16) (omega arith) in
+      let d =
+      decoded-at (textOf fr n) n (i / 16) (i % 16) (omega arith) (omega arith) ∙ text-byte (i / 16) (omega arith) (i % 16) (omega arith) in
       rw e at d)
 
   -- and are accepted where they fit
   pub read-written : (limit f : ℕ) → n ≤ mostFrames limit → 16 * n ≤ f → readText limit (textOf fr n) f NotLent ≡ Accepted n
   read-written limit f m fits =
       accepted-when limit (textOf fr n) f NotLent n .1
-      (record { within = omega (arith, length-text fr n); whole = λ k l. text-whole k (omega (arith, count-text fr n)); count = sym (count-text fr n); frames = fits; answers = tt })
+      (record
+      { within = omega (arith, length-text fr n); whole = λ k l. text-whole k (omega (arith, count-text fr n)); count = sym (count-text fr n); frames = fits; answers = tt })
 
 -- ---- a text, read and written
 module _ {limit : ℕ} {t : List ℕ} {f : ℕ} {room : AnswerRoom} {n : ℕ} (r : Readable limit t f room n) where

@@ -51,7 +51,9 @@ module _ (f : ℕ → ℕ) (d d₀ : List ℕ) (i : ℕ) (e : d ≡ build f i ++
   -- past those it is as it was
   pub past : (m : ℕ) → drop (i + m) d ≡ drop (i + m) d₀
   past m =
-      rw e (ap (λ j. drop (j + m) (build f i ++ drop i d₀)) (sym (length-build f i)) ∙ drop-append-add (build f i) (drop i d₀) m ∙ drop-drop m i d₀)
+      rw e
+      (ap (λ j. drop (j + m) (build f i ++ drop i d₀)) (sym (length-build f i)) ∙ drop-append-add (build f i) (drop i d₀) m
+      ∙ drop-drop m i d₀)
 
   -- where an inner loop begins
   pub begun : d ≡ build f (i + 0) ++ drop (i + 0) d

@@ -7,13 +7,32 @@ use borrow.Author.Needs.{needs}
 use Rattle.archive.specs.declared.Starts.{Starts}
 use Rattle.archive.specs.Starts.{startsOf, rowCount}
 use Rattle.rule.specs.Things.{see}
-use Rattle.answering.specs.Outputs.{outputs}
-use Rattle.answering.proofs.Bytes.{bytes-length}
-use Rattle.reader.proofs.Row.{few-rows}
+use Rattle.rule_answers.specs.Outputs.{outputs}
+use Rattle.rule_answers.proofs.Bytes.{bytes-length}
+use Rattle.file_read.proofs.Row.{few-rows}
 use Rattle.file_rows.proofs.answer_all.Statement.{statement}
 use Rattle.file_rows.proofs.answer_all.Tie as tie
 
 pub answer-all-spec : {M : Type 1} → statement M
 answer-all-spec =
     tie.close
-    (tie.spec (λ c κs. search needs) (λ c. search needs) (λ c κs. (c .before .before .before .before .before .pre, c .before .before .find-starts .ensures, rw (c .before .before .find-starts .ensures) (few-rows (c .before .before .before .before .before .args .pass) (c .before .before .before .before .before .args .frames .now) (length (c .before .before .before .before .before .args .answers .now)) (c .before .before .before .before .before .pre)))) (λ c. search needs) (λ c. (omega (arith, c .before .before .before .answer-rows .ensures .0, bytes-length (outputs (c .before .before .before .before .before .before .before .before .before .args .pass) (see (c .before .before .before .before .before .before .before .before .before .args .frames .now)) (rowCount (startsOf (c .before .before .before .before .before .before .before .before .before .args .frames .now)))), ap (λ (z : Starts). length (outputs (c .before .before .before .before .before .before .before .before .before .args .pass) (see (c .before .before .before .before .before .before .before .before .before .args .frames .now)) (rowCount z))) (c .before .before .before .before .before .before .find-starts .ensures)), c .before .before .before .answer-rows .ensures .1)))
+    (tie.spec
+    (λ c κs. search needs)
+    (λ c. search needs)
+    (λ c κs.
+    let a = c .before .before .before .before .before .args in
+    let starts = c .before .before .find-starts in
+    let ready = c .before .before .before .before .before .pre in
+    (ready, (starts .ensures, rw (starts .ensures) (few-rows (a .pass) (a .frames .now) (length (a .answers .now)) ready))))
+    (λ c. search needs)
+    (λ c.
+    let a = c .before .before .before .before .before .before .before .before .before .args in
+    let rows = c .before .before .before .answer-rows in (
+      omega (
+        arith,
+        rows .ensures .0,
+        bytes-length (outputs (a .pass) (see (a .frames .now)) (rowCount (startsOf (a .frames .now)))),
+        ap (λ (z : Starts). length (outputs (a .pass) (see (a .frames .now)) (rowCount z))) (c .before .before .before .before .before .before .find-starts .ensures),
+      ),
+      rows .ensures .1 .0,
+    )))

@@ -6,10 +6,10 @@ use native.Mathlib.Omega.{arith}
 use lib.Seq.{length-take-le}
 use borrow.Author.Needs.{needs}
 use Rattle.answers.specs.declared.Outcome.{Outcome}
-use Rattle.reader.specs.File.{overFile}
-use Rattle.reader.specs.Typing.{answersWritten, VerdictGiven, verdictGiven, ifJudged, composeVerdict, answersAfterVerdict}
-use Rattle.reader.proofs.Over.{refused-over, part-fits, over-part}
-use Rattle.reader.proofs.Ready.{ready-part}
+use Rattle.file_read.specs.File.{overFile}
+use Rattle.file_read.specs.Typing.{answersWritten, VerdictGiven, verdictGiven, ifJudged, composeVerdict, answersAfterVerdict}
+use Rattle.file_read.proofs.Over.{refused-over, part-fits, over-part}
+use Rattle.file_read.proofs.Ready.{ready-part}
 use Rattle.file_rows.proofs.compose_verdict.Statement.{statement}
 use Rattle.file_rows.proofs.compose_verdict.Tie as tie
 
@@ -18,18 +18,94 @@ unfolding composeVerdict answersAfterVerdict
 returns c =
     let e = c .before .before .before .before .before .read-with .ensures in
     let g = c .before .before .before .before .before .before .before .before .before .before .args in
-    let q = (sym (c .before .before .frames-in .ensures) ∙ c .enum-told .given .1) in
-    (refused-over VerdictGiven.notAccepted (verdictGiven (g .pass) (g .row)) (g .text .now) (c .before .before .before .before .before .read-with .result) q ∙ ap (overFile VerdictGiven.notAccepted (verdictGiven (g .pass) (g .row)) (g .text .now)) (e .0), e .1, refused-over (λ (o : Outcome). g .answers .now) (λ (x : List ℕ). ifJudged (answersWritten (g .pass) (g .answers .now) x) (g .answers .now) (verdictGiven (g .pass) (g .row) x)) (g .text .now) (c .before .before .before .before .before .read-with .result) q ∙ ap (overFile (λ (o : Outcome). g .answers .now) (λ (x : List ℕ). ifJudged (answersWritten (g .pass) (g .answers .now) x) (g .answers .now) (verdictGiven (g .pass) (g .row) x)) (g .text .now)) (e .0))
+    let q = (sym (c .before .before .frames-in .ensures) ∙ c .enum-told .given .1) in (
+      refused-over VerdictGiven.notAccepted (verdictGiven (g .pass) (g .row)) (g .text .now)
+          (c .before .before .before .before .before .read-with .result) q
+          ∙ ap (overFile VerdictGiven.notAccepted (verdictGiven (g .pass) (g .row)) (g .text .now)) (e .0),
+      (
+        e .1,
+        refused-over (λ (o : Outcome). g .answers .now)
+            (λ (x : List ℕ). ifJudged (answersWritten (g .pass) (g .answers .now) x) (g .answers .now) (verdictGiven (g .pass) (g .row) x))
+            (g .text .now) (c .before .before .before .before .before .read-with .result) q
+            ∙ ap
+            (overFile (λ (o : Outcome). g .answers .now)
+            (λ (x : List ℕ). ifJudged (answersWritten (g .pass) (g .answers .now) x) (g .answers .now) (verdictGiven (g .pass) (g .row) x))
+            (g .text .now))
+            (e .0),
+      ),
+    )
 
 returns-2 : tie.Need-returns-2
 unfolding composeVerdict answersAfterVerdict
 returns-2 c =
     let e = c .before .before .before .before .before .before .before .before .before .before .before .read-with .ensures in
-    let g = c .before .before .before .before .before .before .before .before .before .before .before .before .before .before .before .before .args in
-    let q = (sym (c .before .before .before .before .before .before .before .before .frames-in .ensures) ∙ c .before .before .before .before .before .before .n .given .1) in
-    (c .before .before .judge-one .ensures .0 ∙ over-part (g .limit) (g .text .now) (g .frames .now) _ _ (c .before .before .before .before .before .before .n .given .0 .0) _ (e .0) (e .1) q VerdictGiven.notAccepted (verdictGiven (g .pass) (g .row)), e .1, c .before .before .judge-one .ensures .1 ∙ over-part (g .limit) (g .text .now) (g .frames .now) _ _ (c .before .before .before .before .before .before .n .given .0 .0) _ (e .0) (e .1) q (λ (o : Outcome). g .answers .now) (λ (x : List ℕ). ifJudged (answersWritten (g .pass) (g .answers .now) x) (g .answers .now) (verdictGiven (g .pass) (g .row) x)))
+    let g =
+    c .before .before .before .before .before .before .before .before .before .before .before .before .before .before .before .before .args
+    in
+    let q =
+    (sym (c .before .before .before .before .before .before .before .before .frames-in .ensures)
+    ∙ c .before .before .before .before .before .before .n .given .1)
+    in (
+      c .before .before .judge-one .ensures .0
+          ∙ over-part (g .limit) (g .text .now) (g .frames .now) _ _ (c .before .before .before .before .before .before .n .given .0 .0) _
+          (e .0)
+          (e .1) q VerdictGiven.notAccepted (verdictGiven (g .pass) (g .row)),
+      (
+        e .1,
+        c .before .before .judge-one .ensures .1
+            ∙ over-part (g .limit) (g .text .now) (g .frames .now) _ _ (c .before .before .before .before .before .before .n .given .0 .0) _
+            (e .0)
+            (e .1) q (λ (o : Outcome). g .answers .now)
+            (λ (x : List ℕ). ifJudged (answersWritten (g .pass) (g .answers .now) x) (g .answers .now) (verdictGiven (g .pass) (g .row) x)),
+      ),
+    )
 
 pub compose-verdict-spec : {M : Type 1} → statement M
 compose-verdict-spec =
     tie.close
-    (tie.spec (λ c κs. search needs) (λ c κs. search needs) (λ c. search needs) (λ c. search needs) (λ c. omega (arith, part-fits (c .before .before .before .before .before .before .before .before .before .before .before .args .limit) (c .before .before .before .before .before .before .before .before .before .before .before .args .text .now) (c .before .before .before .before .before .before .before .before .before .before .before .args .frames .now) _ _ (c .before .n .given .0 .0) _ (c .before .before .before .before .before .before .read-with .ensures .0) (c .before .before .before .before .before .before .read-with .ensures .1) (sym (c .before .before .before .frames-in .ensures) ∙ c .before .n .given .1))) (λ c. part-fits (c .before .before .before .before .before .before .before .before .before .before .before .args .limit) (c .before .before .before .before .before .before .before .before .before .before .before .args .text .now) (c .before .before .before .before .before .before .before .before .before .before .before .args .frames .now) _ _ (c .before .n .given .0 .0) _ (c .before .before .before .before .before .before .read-with .ensures .0) (c .before .before .before .before .before .before .read-with .ensures .1) (sym (c .before .before .before .frames-in .ensures) ∙ c .before .n .given .1)) (λ c. sym (length-take-le _ _ (part-fits (c .before .before .before .before .before .before .before .before .before .before .before .before .args .limit) (c .before .before .before .before .before .before .before .before .before .before .before .before .args .text .now) (c .before .before .before .before .before .before .before .before .before .before .before .before .args .frames .now) _ _ (c .before .before .n .given .0 .0) _ (c .before .before .before .before .before .before .before .read-with .ensures .0) (c .before .before .before .before .before .before .before .read-with .ensures .1) (sym (c .before .before .before .before .frames-in .ensures) ∙ c .before .before .n .given .1)))) (λ c κs. ready-part (c .before .before .before .before .before .before .before .before .before .before .before .before .before .args .pass) (c .before .before .before .before .before .before .before .before .before .before .before .before .before .args .limit) (c .before .before .before .before .before .before .before .before .before .before .before .before .before .args .text .now) (c .before .before .before .before .before .before .before .before .before .before .before .before .before .args .frames .now) _ (c .before .before .before .before .before .before .before .before .before .before .before .before .before .args .answers .now) (c .before .before .before .n .given .0 .0) _ (c .before .before .before .before .before .before .before .before .read-with .ensures .0) (c .before .before .before .before .before .before .before .before .read-with .ensures .1) (sym (c .before .before .before .before .before .frames-in .ensures) ∙ c .before .before .before .n .given .1)) (λ c. search needs) returns (λ c. search needs) (λ c. search needs) returns-2)
+    (tie.spec
+    (λ c κs. search needs)
+    (λ c κs. search needs)
+    (λ c. search needs)
+    (λ c. search needs)
+    (λ c.
+    omega (
+      arith,
+      part-fits (c .before .before .before .before .before .before .before .before .before .before .before .args .limit)
+          (c .before .before .before .before .before .before .before .before .before .before .before .args .text .now)
+          (c .before .before .before .before .before .before .before .before .before .before .before .args .frames .now) _ _
+          (c .before .n .given .0 .0) _ (c .before .before .before .before .before .before .read-with .ensures .0)
+          (c .before .before .before .before .before .before .read-with .ensures .1)
+          (sym (c .before .before .before .frames-in .ensures) ∙ c .before .n .given .1),
+    ))
+    (λ c.
+    part-fits (c .before .before .before .before .before .before .before .before .before .before .before .args .limit)
+    (c .before .before .before .before .before .before .before .before .before .before .before .args .text .now)
+    (c .before .before .before .before .before .before .before .before .before .before .before .args .frames .now) _ _
+    (c .before .n .given .0 .0) _ (c .before .before .before .before .before .before .read-with .ensures .0)
+    (c .before .before .before .before .before .before .read-with .ensures .1)
+    (sym (c .before .before .before .frames-in .ensures) ∙ c .before .n .given .1))
+    (λ c.
+    sym
+    (length-take-le _ _
+    (part-fits (c .before .before .before .before .before .before .before .before .before .before .before .before .args .limit)
+    (c .before .before .before .before .before .before .before .before .before .before .before .before .args .text .now)
+    (c .before .before .before .before .before .before .before .before .before .before .before .before .args .frames .now) _ _
+    (c .before .before .n .given .0 .0) _ (c .before .before .before .before .before .before .before .read-with .ensures .0)
+    (c .before .before .before .before .before .before .before .read-with .ensures .1)
+    (sym (c .before .before .before .before .frames-in .ensures) ∙ c .before .before .n .given .1))))
+    (λ c κs.
+    ready-part (c .before .before .before .before .before .before .before .before .before .before .before .before .before .args .pass)
+    (c .before .before .before .before .before .before .before .before .before .before .before .before .before .args .limit)
+    (c .before .before .before .before .before .before .before .before .before .before .before .before .before .args .text .now)
+    (c .before .before .before .before .before .before .before .before .before .before .before .before .before .args .frames .now) _
+    (c .before .before .before .before .before .before .before .before .before .before .before .before .before .args .answers .now)
+    (c .before .before .before .n .given .0 .0) _
+    (c .before .before .before .before .before .before .before .before .read-with .ensures .0)
+    (c .before .before .before .before .before .before .before .before .read-with .ensures .1)
+    (sym (c .before .before .before .before .before .frames-in .ensures) ∙ c .before .before .before .n .given .1))
+    (λ c. search needs)
+    returns
+    (λ c. search needs)
+    (λ c. search needs)
+    returns-2)

@@ -8,13 +8,13 @@ use lib.Seq.{length-take-le}
 use borrow.Author.Needs.{needs}
 use Rattle.answers.specs.declared.Outcome.{Outcome}
 use Rattle.frames.specs.Bytes.{frameCount}
-use Rattle.row_rules.specs.declared.Pass.{Pass}
-use Rattle.answering.specs.Outputs.{outputBytes}
-use Rattle.reader.specs.File.{overFile}
-use Rattle.reader.specs.Typing.{answersWritten, answersAfter, outputCount}
-use Rattle.reader.proofs.Over.{refused-over, part-fits, over-part}
-use Rattle.reader.proofs.Ready.{ready-part}
-use Rattle.reader.proofs.Typed.{whole-frames}
+use Rattle.rule_rows.specs.declared.Pass.{Pass}
+use Rattle.rule_answers.specs.Outputs.{outputBytes}
+use Rattle.file_read.specs.File.{overFile}
+use Rattle.file_read.specs.Typing.{answersWritten, answersAfter, outputCount}
+use Rattle.file_read.proofs.Over.{refused-over, part-fits, over-part}
+use Rattle.file_read.proofs.Ready.{ready-part}
+use Rattle.file_read.proofs.Typed.{whole-frames}
 use Rattle.file_rows.proofs.type_file.Statement.{statement}
 use Rattle.file_rows.proofs.type_file.Tie as tie
 
@@ -32,25 +32,93 @@ returns c =
     let q = (sym (c .before .before .frames-in .ensures) ∙ c .enum-told .given .1) in
     record {
       outcome = e .0;
-      outputs = refused-over none (counted (g .pass)) (g .text .now) (c .before .before .before .before .before .read-with .result) q ∙ ap (overFile none (counted (g .pass)) (g .text .now)) (e .0);
+      outputs =
+          refused-over none (counted (g .pass)) (g .text .now) (c .before .before .before .before .before .read-with .result) q
+          ∙ ap (overFile none (counted (g .pass)) (g .text .now)) (e .0);
       frames = e .1;
-      answers = refused-over (λ (o : Outcome). g .answers .now) (λ (x : List ℕ). answersWritten (g .pass) (g .answers .now) x) (g .text .now) (c .before .before .before .before .before .read-with .result) q ∙ ap (overFile (λ (o : Outcome). g .answers .now) (λ (x : List ℕ). answersWritten (g .pass) (g .answers .now) x) (g .text .now)) (e .0);
+      answers =
+          refused-over (λ (o : Outcome). g .answers .now) (λ (x : List ℕ). answersWritten (g .pass) (g .answers .now) x) (g .text .now)
+          (c .before .before .before .before .before .read-with .result) q
+          ∙ ap (overFile (λ (o : Outcome). g .answers .now) (λ (x : List ℕ). answersWritten (g .pass) (g .answers .now) x) (g .text .now))
+          (e .0);
     }
 
 returns-2 : tie.Need-returns-2
 unfolding answersAfter outputCount
 returns-2 c =
     let e = c .before .before .before .before .before .before .before .before .before .before .before .read-with .ensures in
-    let g = c .before .before .before .before .before .before .before .before .before .before .before .before .before .before .before .before .args in
-    let q = (sym (c .before .before .before .before .before .before .before .before .frames-in .ensures) ∙ c .before .before .before .before .before .before .n .given .1) in
+    let g =
+    c .before .before .before .before .before .before .before .before .before .before .before .before .before .before .before .before .args
+    in
+    let q =
+    (sym (c .before .before .before .before .before .before .before .before .frames-in .ensures)
+    ∙ c .before .before .before .before .before .before .n .given .1)
+    in
     record {
       outcome = e .0;
-      outputs = omega (arith, c .before .before .answer-all .ensures .0, whole-frames (g .pass) (take (16 * c .before .before .before .before .before .before .n .given .0 .0) (c .before .before .before .before .before .before .before .before .before .before .before .read-with .last .1 .1 .0))) ∙ over-part (g .limit) (g .text .now) (g .frames .now) _ _ (c .before .before .before .before .before .before .n .given .0 .0) _ (e .0) (e .1) q none (counted (g .pass));
+      outputs =
+          omega (
+            arith,
+            c .before .before .answer-all .ensures .0,
+            whole-frames (g .pass)
+                (take (16 * c .before .before .before .before .before .before .n .given .0 .0)
+                (c .before .before .before .before .before .before .before .before .before .before .before .read-with .last .1 .1 .0)),
+          )
+          ∙ over-part (g .limit) (g .text .now) (g .frames .now) _ _ (c .before .before .before .before .before .before .n .given .0 .0) _
+          (e .0) (e .1) q none (counted (g .pass));
       frames = e .1;
-      answers = c .before .before .answer-all .ensures .1 ∙ over-part (g .limit) (g .text .now) (g .frames .now) _ _ (c .before .before .before .before .before .before .n .given .0 .0) _ (e .0) (e .1) q (λ (o : Outcome). g .answers .now) (λ (x : List ℕ). answersWritten (g .pass) (g .answers .now) x);
+      answers =
+          c .before .before .answer-all .ensures .1
+          ∙ over-part (g .limit) (g .text .now) (g .frames .now) _ _ (c .before .before .before .before .before .before .n .given .0 .0) _
+          (e .0) (e .1) q (λ (o : Outcome). g .answers .now) (λ (x : List ℕ). answersWritten (g .pass) (g .answers .now) x);
     }
 
 pub type-file-spec : {M : Type 1} → statement M
 type-file-spec =
     tie.close
-    (tie.spec (λ c κs. search needs) (λ c κs. search needs) (λ c. search needs) (λ c. search needs) (λ c. omega (arith, part-fits (c .before .before .before .before .before .before .before .before .before .before .before .args .limit) (c .before .before .before .before .before .before .before .before .before .before .before .args .text .now) (c .before .before .before .before .before .before .before .before .before .before .before .args .frames .now) _ _ (c .before .n .given .0 .0) _ (c .before .before .before .before .before .before .read-with .ensures .0) (c .before .before .before .before .before .before .read-with .ensures .1) (sym (c .before .before .before .frames-in .ensures) ∙ c .before .n .given .1))) (λ c. part-fits (c .before .before .before .before .before .before .before .before .before .before .before .args .limit) (c .before .before .before .before .before .before .before .before .before .before .before .args .text .now) (c .before .before .before .before .before .before .before .before .before .before .before .args .frames .now) _ _ (c .before .n .given .0 .0) _ (c .before .before .before .before .before .before .read-with .ensures .0) (c .before .before .before .before .before .before .read-with .ensures .1) (sym (c .before .before .before .frames-in .ensures) ∙ c .before .n .given .1)) (λ c. sym (length-take-le _ _ (part-fits (c .before .before .before .before .before .before .before .before .before .before .before .before .args .limit) (c .before .before .before .before .before .before .before .before .before .before .before .before .args .text .now) (c .before .before .before .before .before .before .before .before .before .before .before .before .args .frames .now) _ _ (c .before .before .n .given .0 .0) _ (c .before .before .before .before .before .before .before .read-with .ensures .0) (c .before .before .before .before .before .before .before .read-with .ensures .1) (sym (c .before .before .before .before .frames-in .ensures) ∙ c .before .before .n .given .1)))) (λ c κs. ready-part (c .before .before .before .before .before .before .before .before .before .before .before .before .before .args .pass) (c .before .before .before .before .before .before .before .before .before .before .before .before .before .args .limit) (c .before .before .before .before .before .before .before .before .before .before .before .before .before .args .text .now) (c .before .before .before .before .before .before .before .before .before .before .before .before .before .args .frames .now) _ (c .before .before .before .before .before .before .before .before .before .before .before .before .before .args .answers .now) (c .before .before .before .n .given .0 .0) _ (c .before .before .before .before .before .before .before .before .read-with .ensures .0) (c .before .before .before .before .before .before .before .before .read-with .ensures .1) (sym (c .before .before .before .before .before .frames-in .ensures) ∙ c .before .before .before .n .given .1)) (λ c. search needs) returns (λ c. search needs) (λ c. search needs) returns-2)
+    (tie.spec
+    (λ c κs. search needs)
+    (λ c κs. search needs)
+    (λ c. search needs)
+    (λ c. search needs)
+    (λ c.
+    omega (
+      arith,
+      part-fits (c .before .before .before .before .before .before .before .before .before .before .before .args .limit)
+          (c .before .before .before .before .before .before .before .before .before .before .before .args .text .now)
+          (c .before .before .before .before .before .before .before .before .before .before .before .args .frames .now) _ _
+          (c .before .n .given .0 .0) _ (c .before .before .before .before .before .before .read-with .ensures .0)
+          (c .before .before .before .before .before .before .read-with .ensures .1)
+          (sym (c .before .before .before .frames-in .ensures) ∙ c .before .n .given .1),
+    ))
+    (λ c.
+    part-fits (c .before .before .before .before .before .before .before .before .before .before .before .args .limit)
+    (c .before .before .before .before .before .before .before .before .before .before .before .args .text .now)
+    (c .before .before .before .before .before .before .before .before .before .before .before .args .frames .now) _ _
+    (c .before .n .given .0 .0) _ (c .before .before .before .before .before .before .read-with .ensures .0)
+    (c .before .before .before .before .before .before .read-with .ensures .1)
+    (sym (c .before .before .before .frames-in .ensures) ∙ c .before .n .given .1))
+    (λ c.
+    sym
+    (length-take-le _ _
+    (part-fits (c .before .before .before .before .before .before .before .before .before .before .before .before .args .limit)
+    (c .before .before .before .before .before .before .before .before .before .before .before .before .args .text .now)
+    (c .before .before .before .before .before .before .before .before .before .before .before .before .args .frames .now) _ _
+    (c .before .before .n .given .0 .0) _ (c .before .before .before .before .before .before .before .read-with .ensures .0)
+    (c .before .before .before .before .before .before .before .read-with .ensures .1)
+    (sym (c .before .before .before .before .frames-in .ensures) ∙ c .before .before .n .given .1))))
+    (λ c κs.
+    ready-part (c .before .before .before .before .before .before .before .before .before .before .before .before .before .args .pass)
+    (c .before .before .before .before .before .before .before .before .before .before .before .before .before .args .limit)
+    (c .before .before .before .before .before .before .before .before .before .before .before .before .before .args .text .now)
+    (c .before .before .before .before .before .before .before .before .before .before .before .before .before .args .frames .now) _
+    (c .before .before .before .before .before .before .before .before .before .before .before .before .before .args .answers .now)
+    (c .before .before .before .n .given .0 .0) _
+    (c .before .before .before .before .before .before .before .before .read-with .ensures .0)
+    (c .before .before .before .before .before .before .before .before .read-with .ensures .1)
+    (sym (c .before .before .before .before .before .frames-in .ensures) ∙ c .before .before .before .n .given .1))
+    (λ c. search needs)
+    returns
+    (λ c. search needs)
+    (λ c. search needs)
+    returns-2)

@@ -11,4 +11,20 @@ use Rattle.replay_answers.proofs.one.Tie as tie
 pub one-spec : {M : Type 1} → statement M
 one-spec =
     tie.close
-    (tie.spec (λ c. search needs) (λ c κs. search needs) (λ c. search needs) (λ c κs. search needs) (λ c κs. search needs) (λ c. search needs) (λ c. search needs) (λ c. search needs) (λ c κs. search needs) (λ c. search needs) (λ c. search needs) (λ c. sym (length-take-le _ _ (rw (length-replicate {A = ℕ} 40000 0) (omega arith)))) (λ c. search needs) (λ c. sym (length-take-le _ _ (rw (length-replicate {A = ℕ} 40000 0) (omega arith)))) (λ c κs. search needs) (λ c. search needs))
+    (tie.spec
+    (λ c. search needs)
+    (λ c κs. search needs)
+    (λ c. search needs)
+    (λ c κs. search needs)
+    (λ c κs. search needs)
+    (λ c. search needs)
+    (λ c. search needs)
+    (λ c. search needs)
+    (λ c κs. search needs)
+    (λ c. search needs)
+    (λ c. search needs)
+    (λ c. sym (length-take-le _ _ (rw (length-replicate {A = ℕ} 40000 0) (omega arith))))
+    (λ c. search needs)
+    (λ c. sym (length-take-le _ _ (rw (length-replicate {A = ℕ} 40000 0) (omega arith))))
+    (λ c κs. search needs)
+    (λ c. search needs))

@@ -18,4 +18,9 @@ image-class-spec =
     (λ c. rw (c .before .match .keys2))
     (λ c. rw (c .match .keys3))
     (λ c. rw (c .before .before .match .keys4, c .from-number3 .ensures, c .before .from-number2 .ensures))
-    (λ c. let f = c .before .args .self in past (Ic.Sampled (scalarKindOf (f .b5)) (flagOf (f .b6)) ∷ Ic.Depth (flagOf (f .b6)) ∷ Ic.External ∷ Ic.Storage (storageFormatOf (f .b5)) (accessOf (f .b7)) ∷ []) _ _ (c .match .rest)))
+    (λ c.
+    let f = c .before .args .self in
+    past
+    (Ic.Sampled (scalarKindOf (f .b5)) (flagOf (f .b6)) ∷ Ic.Depth (flagOf (f .b6)) ∷ Ic.External ∷ Ic.Storage (storageFormatOf (f .b5))
+    (accessOf (f .b7)) ∷ [])
+    _ _ (c .match .rest)))

@@ -1,26 +1,73 @@
 -- `gelmusko_row_type`: as `row_type`, where the out-slice has room; the number handed on gives what the number handed in asks for. Assumes nothing.
 use mathlib.Core.Path.{ap, _∙_}
-use Rattle.row_rules.specs.declared.Pass.the-variants.{First}
+use Rattle.rule_rows.specs.declared.Pass.the-variants.{First}
 use Rattle.gelmusko.proofs.Laws.{is-small, has-room, not-put, row-clamped, answers-clamped}
 use Rattle.frames.specs.Bytes.{putFrame}
 use lib.ListN.{length}
-use Rattle.exported.specs.Exported.{rowNumber, rowGivenFrame}
+use Rattle.file_exports.specs.Exported.{rowNumber, rowGivenFrame}
 use borrow.Author.Needs.{needs}
 use Rattle.gelmusko.proofs.rows.gelmusko_row_type.Statement.{statement}
 use Rattle.gelmusko.proofs.rows.gelmusko_row_type.Tie as tie
 
 returns : tie.Need-returns
-returns c =
-    (c .no-room .ensures ∙ is-small (c .before .before .before .before .before .before .args .out .now) _ _ (c .before .if1 .taken), is-small (c .before .before .before .before .before .before .args .out .now) _ _ (c .before .if1 .taken), is-small (c .before .before .before .before .before .before .args .out .now) _ _ (c .before .if1 .taken), not-put (c .before .before .before .before .before .before .args .out .now) _ (c .before .if1 .taken))
+returns c = (
+  c .no-room .ensures ∙ is-small (c .before .before .before .before .before .before .args .out .now) _ _ (c .before .if1 .taken),
+  (
+    is-small (c .before .before .before .before .before .before .args .out .now) _ _ (c .before .if1 .taken),
+    (
+      is-small (c .before .before .before .before .before .before .args .out .now) _ _ (c .before .if1 .taken),
+      not-put (c .before .before .before .before .before .before .args .out .now) _ (c .before .if1 .taken),
+    ),
+  ),
+)
 
 returns-2 : tie.Need-returns-2
 returns-2 c =
-    let g = c .before .before .before .before .before .before .before .before .before .before .before .before .before .before .before .before .before .args in
+    let g =
+    c .before .before .before .before .before .before .before .before .before .before .before .before .before .before .before .before
+    .before .args in
     let p = c .before .before .put-row .ensures in
-    let e = c .before .before .before .before .before .before .before .before .row-type .ensures in
-    (p .0 ∙ ap rowNumber (e .0 ∙ row-clamped First 1024 (g .text .now) (length (g .frames .now)) (length (g .answers .now)) (g .row) (c .before .before .before .before .before .before .before .before .before .clamped .result) (c .before .before .before .before .before .before .before .before .before .clamped .ensures)) ∙ has-room (g .out .now) _ _ (c .before .before .before .before .before .before .before .before .before .before .before .before .if1 .left), e .1 ∙ has-room (g .out .now) _ _ (c .before .before .before .before .before .before .before .before .before .before .before .before .if1 .left), e .2 ∙ answers-clamped First 1024 (g .text .now) (length (g .frames .now)) (g .answers .now) (g .row) (c .before .before .before .before .before .before .before .before .before .clamped .result) (c .before .before .before .before .before .before .before .before .before .clamped .ensures) ∙ has-room (g .out .now) _ _ (c .before .before .before .before .before .before .before .before .before .before .before .before .if1 .left), p .1 ∙ ap (putFrame (g .out .now) 0) (ap rowGivenFrame (e .0 ∙ row-clamped First 1024 (g .text .now) (length (g .frames .now)) (length (g .answers .now)) (g .row) (c .before .before .before .before .before .before .before .before .before .clamped .result) (c .before .before .before .before .before .before .before .before .before .clamped .ensures))))
+    let e = c .before .before .before .before .before .before .before .before .row-type .ensures in (
+      p .0
+          ∙ ap rowNumber
+          (e .0
+          ∙ row-clamped First 1024 (g .text .now) (length (g .frames .now)) (length (g .answers .now)) (g .row)
+          (c .before .before .before .before .before .before .before .before .before .clamped .result)
+          (c .before .before .before .before .before .before .before .before .before .clamped .ensures))
+          ∙ has-room (g .out .now) _ _
+          (c .before .before .before .before .before .before .before .before .before .before .before .before .if1 .left),
+      (
+        e .1 .0
+            ∙ has-room (g .out .now) _ _
+            (c .before .before .before .before .before .before .before .before .before .before .before .before .if1 .left),
+        (
+          e .1 .1
+              ∙ answers-clamped First 1024 (g .text .now) (length (g .frames .now)) (g .answers .now) (g .row)
+              (c .before .before .before .before .before .before .before .before .before .clamped .result)
+              (c .before .before .before .before .before .before .before .before .before .clamped .ensures)
+              ∙ has-room (g .out .now) _ _
+              (c .before .before .before .before .before .before .before .before .before .before .before .before .if1 .left),
+          p .1
+              ∙ ap (putFrame (g .out .now) 0)
+              (ap rowGivenFrame
+              (e .0
+              ∙ row-clamped First 1024 (g .text .now) (length (g .frames .now)) (length (g .answers .now)) (g .row)
+              (c .before .before .before .before .before .before .before .before .before .clamped .result)
+              (c .before .before .before .before .before .before .before .before .before .clamped .ensures))),
+        ),
+      ),
+    )
 
 pub gelmusko-row-type-spec : {M : Type 1} → statement M
 gelmusko-row-type-spec =
     tie.close
-    (tie.spec (λ c κs. tt) returns (λ c κs. tt) (λ c κs. tt) (λ c κs. tt) (λ c. search needs) (λ c. search needs) (λ c. search needs) returns-2)
+    (tie.spec
+    (λ c κs. tt)
+    returns
+    (λ c κs. tt)
+    (λ c κs. tt)
+    (λ c κs. tt)
+    (λ c. search needs)
+    (λ c. search needs)
+    (λ c. search needs)
+    returns-2)

@@ -16,4 +16,10 @@ rest = of-each (search needs)
 pub pointer-base-type-spec : {M : Type 1} → statement M
 pointer-base-type-spec =
     tie.close
-    (tie.spec (λ c. c .match .keys1) (λ c. c .match .keys2) (λ c κs. tt) (λ c. rw (c .before .self .given .1)) (λ c. rw (c .before .before .self2 .given .1, c .value-base .ensures)) (λ c. rest .at (c .before .args .self) (c .match .keys3)))
+    (tie.spec
+    (λ c. c .match .keys1)
+    (λ c. c .match .keys2)
+    (λ c κs. tt)
+    (λ c. rw (c .before .self .given .1))
+    (λ c. rw (c .before .before .self2 .given .1, c .value-base .ensures))
+    (λ c. rest .at (c .before .args .self) (c .match .keys3)))

@@ -5,7 +5,7 @@ use borrow.Author.Needs.{needs}
 use mathlib.Core.List.{[], _∷_}
 use Rattle.ir.specs.declared.TypeInner.the-variants as Ti
 use Rattle.ir.proofs.Others.{Others, kindsBut, of-each}
-use Rattle.ir.specs.TypeMethods.{pointerSpace}
+use Rattle.ir.specs.ForProofs.{pointerSpace}
 use Rattle.ir.proofs.TypeInner.pointer_space.Statement.{statement}
 use Rattle.ir.proofs.TypeInner.pointer_space.Tie as tie
 
@@ -16,4 +16,9 @@ rest = of-each (search needs)
 pub pointer-space-spec : {M : Type 1} → statement M
 pointer-space-spec =
     tie.close
-    (tie.spec (λ c. c .match .keys1) (λ c. c .match .keys2) (λ c. rw (c .before .self .given .1)) (λ c. rw (c .before .self2 .given .1)) (λ c. rest .at (c .before .args .self) (c .match .keys3)))
+    (tie.spec
+    (λ c. c .match .keys1)
+    (λ c. c .match .keys2)
+    (λ c. rw (c .before .self .given .1))
+    (λ c. rw (c .before .self2 .given .1))
+    (λ c. rest .at (c .before .args .self) (c .match .keys3)))

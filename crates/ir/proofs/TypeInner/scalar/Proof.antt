@@ -16,4 +16,13 @@ rest = of-each (search needs)
 pub scalar-spec : {M : Type 1} → statement M
 scalar-spec =
     tie.close
-    (tie.spec (λ c. c .match .keys1) (λ c. c .match .keys2) (λ c. c .match .keys3) (λ c. c .match .keys4) (λ c. rw (c .before .self .given .1)) (λ c. rw (c .before .self2 .given .1)) (λ c. rw (c .before .self3 .given .1)) (λ c. rw (c .before .self4 .given .1)) (λ c. rest .at (c .before .args .self) (c .match .keys5)))
+    (tie.spec
+    (λ c. c .match .keys1)
+    (λ c. c .match .keys2)
+    (λ c. c .match .keys3)
+    (λ c. c .match .keys4)
+    (λ c. rw (c .before .self .given .1))
+    (λ c. rw (c .before .self2 .given .1))
+    (λ c. rw (c .before .self3 .given .1))
+    (λ c. rw (c .before .self4 .given .1))
+    (λ c. rest .at (c .before .args .self) (c .match .keys5)))

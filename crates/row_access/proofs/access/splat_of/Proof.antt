@@ -6,7 +6,7 @@ use mathlib.Core.List.{[], _∷_}
 use Rattle.ir.specs.declared.TypeInner.the-variants as Ti
 use Rattle.ir.proofs.Others.{Others, kindsBut, of-each}
 use Rattle.rule.specs.Answers.{told}
-use Rattle.row_rules.specs.Access.{splatOf}
+use Rattle.rule_rows.specs.Access.{splatOf}
 use Rattle.ir.specs.declared.RowNumber.{RowNumber}
 use Rattle.ir.specs.declared.VectorSize.{VectorSize}
 use Rattle.row_access.proofs.access.splat_of.Statement.{statement}
@@ -19,4 +19,11 @@ rest a b = of-each (search needs)
 pub splat-of-spec : {M : Type 1} → statement M
 splat-of-spec =
     tie.close
-    (tie.spec (λ c. c .match .keys1) (λ c κs. tt) (λ c κs. tt) (λ c. rw (c .before .before .t .given .1, c .vector-type .ensures)) (λ c. c .invalid-scalar .ensures ∙ rest (c .before .before .args .size) (c .before .before .args .value) .at (c .before .before .args .t) (c .before .match .keys2)))
+    (tie.spec
+    (λ c. c .match .keys1)
+    (λ c κs. tt)
+    (λ c κs. tt)
+    (λ c. rw (c .before .before .t .given .1, c .vector-type .ensures))
+    (λ c.
+    c .invalid-scalar .ensures
+    ∙ rest (c .before .before .args .size) (c .before .before .args .value) .at (c .before .before .args .t) (c .before .match .keys2)))

@@ -1,1 +1,0 @@
-// No code yet: what typing a whole file hands back stands in specs/.

@@ -1,0 +1,10 @@
+-- `may_follow`: the tests of the definition. Assumes nothing.
+use mathlib.Core.Path.{refl}
+use Rattle.archive_access.proofs.order.may_follow.Statement.{statement}
+use Rattle.archive_access.proofs.order.may_follow.Tie as tie
+
+pub may-follow-spec : {M : Type 1} → statement M
+may-follow-spec =
+    tie.close
+    (tie.spec
+    (λ c. refl))

@@ -1,0 +1,57 @@
+-- Small texts and their lines for people, each the whole text and all of its lines, written by hand (docs/EXPLAIN.md).
+use Prim.Native.Nat.{ℕ}
+use Prim.Native.String.{String}
+use mathlib.Core.List.{List, [], _∷_}
+use Rattle.case_file.specs.Table.{paper, composes, noCount}
+
+-- a text, an output buffer's length, and what of the lines is written into it
+pub record Case : Type 0 where
+  pub text : List String
+  pub room : ℕ
+  pub said : List String
+
+-- with room for all
+abbrev whole : List String → List String → Case
+whole t s = record { text = t; room = 4096; said = s }
+
+-- values of: a scalar of three bytes; a storage image; a pointer to a struct in storage; a struct
+abbrev values : List String
+values =
+    "01010000020300000000000000000000" ∷
+    "010a0200031100020000000000000000" ∷
+    "01090000000000000000000000000000" ∷
+    "01060200000004030000000000000000" ∷
+    "04040000000000000000000000000000" ∷
+    "04040100000000000000000000000000" ∷
+    "04040200000000000000000000000000" ∷
+    "04040300000000000000000000000000" ∷ []
+
+-- THE CASES
+abbrev pub table : List Case
+table =
+    whole paper
+    ("row 0  ptr<function, vec3<f32>>" ∷
+    "row 1  value_ptr<function, f32>" ∷
+    "row 2  f32" ∷
+    "row 3  ptr<function, type 2>" ∷
+    "row 4  refused 22 newer: met at row 4" ∷
+    "row 5  refused 10 bound: operand row 0, index 3" ∷ [])
+    ∷ whole composes
+    ("row 0  f32  (type 0)" ∷
+    "row 1  vec3<f32>  (type 1)" ∷
+    "row 2  vec4<f32>  (type 2)" ∷
+    "row 2  verdict: passes" ∷
+    "row 3  vec4<f32>  (type 2)" ∷
+    "row 3  verdict: 31 count: expected 4, given 6" ∷ [])
+    ∷ whole values
+    ("row 0  float(3 bytes)  (type 0)" ∷
+    "row 1  texture_storage_2d<rgba8unorm, write>  (type 1)" ∷
+    "row 2  struct  (type 2)" ∷
+    "row 3  ptr<storage, type 2, read_write>  (type 3)" ∷ [])
+    ∷ whole noCount ("line 2: number 5, field: a byte is outside its values" ∷ [])
+    ∷ whole ("0101" ∷ []) ("line 1: number 2, torn: not 32 digits and a line feed" ∷ [])
+    ∷ whole [] []
+    -- room for two whole lines and a part of the third: 32 + 32 bytes, and 10 of 11
+    ∷ record { text = paper; room = 74; said = "row 0  ptr<function, vec3<f32>>" ∷ "row 1  value_ptr<function, f32>" ∷ [] }
+    ∷ record { text = noCount; room = 53; said = [] }
+    ∷ []

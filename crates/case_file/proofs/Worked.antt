@@ -1,0 +1,78 @@
+-- Every case of the table is what the definitions cited by the contracts of `type_text`, `read_file`, `type_rows`, `row_type`, `compose_verdict`, `same_type`,
+-- `canonical_form` and `pointer_base` give: both sides compute to the same. Assumes nothing.
+use mathlib.Core.Path.{_≡_, refl}
+use mathlib.Core.List.{List, map}
+use Prim.Native.Nat.{ℕ}
+use lib.ListN.{length}
+use Rattle.scan.specs.Lowest.{lowest, allBelow}
+use Rattle.scan.specs.Lists.{build, sumBelow}
+use Rattle.text.specs.declared.AnswerRoom.{AnswerRoom}
+use Rattle.text.specs.declared.AnswerRoom.the-variants.{NotLent, Lent}
+use Rattle.text.specs.Hex.{digitValue, digitOf}
+use Rattle.text.specs.Lines.{lineOk, byteOf, charOf}
+use Rattle.text.specs.Reading.{answerFrames, tooShort, mostFrames, readText}
+use Rattle.frames.specs.Bytes.{frameAt}
+use Rattle.frames.specs.Forms.{typeOf, itemOf, rowOf, memberOf, componentOf, fieldsFit}
+use Rattle.archive.specs.Order.{orderOk}
+use Rattle.archive.specs.Starts.{start, startsOf}
+use Rattle.archive.specs.Names.{namesOk}
+use Rattle.archive.specs.Parts.{earlyOk}
+use Rattle.archive.specs.Checks.{indexOk, checkFrames}
+use Rattle.archive.specs.Access.{typeIn, rowIn}
+use Rattle.rule.specs.Things.{listed}
+use Rattle.rule_types.specs.Canonical.{equalTypes, identical, canonicalTypeIn, pointerBaseIn}
+use Rattle.rule_types.specs.Comparison.{sameIn, sameType}
+use Rattle.rule_rows.specs.declared.Pass.the-variants.{First}
+use Rattle.rule_compose.specs.Verdict.{eachPart, vectorParts}
+use Rattle.rule_answers.specs.Outputs.{outputs, framesBytes}
+use Rattle.file_read.specs.File.{readFile, framesAfter}
+use Rattle.file_read.specs.Types.{sameTypes}
+use Rattle.file_read.specs.Typing.{answersAfter, rowType, answersAfterRow, composeVerdict, answersAfterVerdict, typedText}
+use Rattle.file_pointers.specs.Forms.{canonicalType, pointerBaseType}
+use Rattle.case_file.specs.Table.{Asked, print, read, types, row, verdict, same, canonical, base}
+use Rattle.case_file.specs.Table.{Answered, printed, outcome, typesAre, rowIs, verdictIs, sameness, canonicalIs, baseIs, Case, table}
+
+abbrev Output : Type 0
+Output = Answered × List ℕ
+
+-- what is answered, by `reader`'s definitions, which the contracts of the public functions cite
+abbrev answered : Case → Asked → Answered
+answered c print = printed (typedText First 1024 (c .text))
+answered c (types an) =
+    typesAre (readFile 1024 (c .text) (length (c .lent)) (Lent (length an))) (answersAfter First 1024 (c .text) (length (c .lent)) an)
+answered c (row n an) =
+    rowIs (rowType First 1024 (c .text) (length (c .lent)) (length an) (record {
+      0 =
+          n;
+    })) (answersAfterRow First 1024 (c .text) (length (c .lent)) an (record { 0 = n }))
+answered c (verdict n an) =
+    verdictIs (composeVerdict First 1024 (c .text) (length (c .lent)) (length an) (record {
+      0 =
+          n;
+    })) (answersAfterVerdict First 1024 (c .text) (length (c .lent)) an (record { 0 = n }))
+answered c read = outcome (readFile 1024 (c .text) (length (c .lent)) NotLent)
+answered c (same l r) = sameness (sameTypes 1024 (c .text) (length (c .lent)) l r)
+answered c (canonical n) = canonicalIs (canonicalType 1024 (c .text) (length (c .lent)) (record { 0 = n }))
+answered c (base n) = baseIs (pointerBaseType 1024 (c .text) (length (c .lent)) (record { 0 = n }))
+
+-- the answer buffer lent
+abbrev roomOf : Asked → AnswerRoom
+roomOf print = NotLent
+roomOf read = NotLent
+roomOf (types an) = Lent (length an)
+roomOf (row n an) = Lent (length an)
+roomOf (verdict n an) = Lent (length an)
+roomOf (same l r) = NotLent
+roomOf (canonical n) = NotLent
+roomOf (base n) = NotLent
+
+-- and the frame buffer after it
+abbrev given : Case → Output
+given c = (answered c (c .asked), framesAfter 1024 (c .text) (c .lent) (roomOf (c .asked)))
+
+abbrev wanted : Case → Output
+wanted c = (c .answer, c .after)
+
+worked : map given table ≡ map wanted table
+unfolding lowest allBelow build sumBelow digitValue lineOk byteOf answerFrames tooShort mostFrames readText frameAt typeOf itemOf rowOf memberOf componentOf fieldsFit orderOk start startsOf namesOk earlyOk indexOk checkFrames readFile framesAfter listed typeIn equalTypes identical sameIn sameType sameTypes canonicalTypeIn pointerBaseIn canonicalType pointerBaseType rowIn eachPart vectorParts outputs framesBytes digitOf charOf answersAfter rowType answersAfterRow composeVerdict answersAfterVerdict typedText
+worked = refl

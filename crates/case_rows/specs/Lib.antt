@@ -1,0 +1,4 @@
+pub mod Lines
+pub mod Reads
+pub mod AccessCases
+pub mod Cases

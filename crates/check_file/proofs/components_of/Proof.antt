@@ -1,0 +1,17 @@
+-- `components_of`: the numbers that `last` and `second` ensure. Assumes nothing.
+use borrow.Author.Needs.{needs}
+use Rattle.check_file.proofs.components_of.Statement.{statement}
+use Rattle.check_file.proofs.components_of.Tie as tie
+
+pub components-of-spec : {M : Type 1} → statement M
+components-of-spec =
+    tie.close
+    (tie.spec
+    (λ c κs. tt)
+    (λ c. search needs)
+    (λ c. search needs)
+    (λ c κs. tt)
+    (λ c. search needs)
+    (λ c. search needs)
+    (λ c κs. tt)
+    (λ c. rw (c .least .ensures, c .before .second .ensures, c .before .before .before .before .last .ensures)))

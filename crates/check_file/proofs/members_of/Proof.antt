@@ -1,0 +1,17 @@
+-- `members_of`: the numbers that `named` and `second` ensure. Assumes nothing.
+use borrow.Author.Needs.{needs}
+use Rattle.check_file.proofs.members_of.Statement.{statement}
+use Rattle.check_file.proofs.members_of.Tie as tie
+
+pub members-of-spec : {M : Type 1} → statement M
+members-of-spec =
+    tie.close
+    (tie.spec
+    (λ c κs. tt)
+    (λ c. search needs)
+    (λ c. search needs)
+    (λ c κs. tt)
+    (λ c. search needs)
+    (λ c. search needs)
+    (λ c κs. tt)
+    (λ c. rw (c .least .ensures, c .before .second .ensures, c .before .before .before .before .named .ensures)))

@@ -1,5 +1,0 @@
-pub mod Verdict
-pub mod Rows
-pub mod Judged
-pub mod Cases
-pub mod Shown

@@ -1,0 +1,25 @@
+-- The lines of a text are those of its fault, or of all that is handed back. From the laws of typing a file. Assumes nothing.
+use Prim.Native.Nat.{ℕ, _*_}
+use mathlib.Core.Path.{_≡_, sym, ap, _∙_}
+use mathlib.Core.List.{List}
+use lib.ListN.{length, take}
+use Rattle.rule_rows.specs.declared.Pass.the-variants.{First}
+use Rattle.file_read.specs.declared.OptionUsize.the-variants as Ou
+use Rattle.file_read.specs.declared.TypedFile.{TypedFile}
+use Rattle.file_read.specs.File.{overFile}
+use Rattle.file_read.specs.Typing.{HandsBack}
+use Rattle.file_read.specs.ForProofs.{framesIn}
+use Rattle.file_read.proofs.Over.{refused-over}
+use Rattle.file_read.proofs.Typed.{handed-over, largest}
+use Rattle.explain_file.specs.Explained.{faultLines, answerLines, fileLines, linesOf}
+
+-- after a call of `type_file` with buffers of the largest sizes
+module _ {t fr an last out : List ℕ} {r : TypedFile} (h : HandsBack First 1024 t fr an r last out) (ef : length fr ≡ 16384) (ea : length an ≡ 32768) where
+  pub refused-lines : framesIn (r .outcome) ≡ Ou.None → faultLines (r .outcome) ≡ linesOf t
+  unfolding linesOf
+  refused-lines en = refused-over faultLines fileLines t (r .outcome) en ∙ ap (overFile faultLines fileLines t) (largest h ef ea)
+
+  pub accepted-lines : {n : ℕ} → framesIn (r .outcome) ≡ Ou.Some n
+      → answerLines (take (16 * n) last) (take (16 * r .outputs) out) ≡ linesOf t
+  unfolding linesOf
+  accepted-lines en = handed-over h en faultLines answerLines ∙ ap (overFile faultLines fileLines t) (sym (h .outcome) ∙ largest h ef ea)

@@ -1,0 +1,81 @@
+-- A file explained to people (docs/EXPLAIN.md): as the typing program prints (document 01, "Cases"), a line for each row and one more after a compose, and one line for a file that
+-- is not accepted, in words.
+use Prim.Native.Nat.{ℕ, zero, suc, _+_}
+use mathlib.Core.Bool.{cond}
+use mathlib.Core.List.{List, [], _++_}
+use lib.Dec.{eqb, leb}
+use lib.ListN.{length}
+use Rattle.ir.specs.declared.RowNumber.{RowNumber}
+use Rattle.answers.specs.declared.Outcome.{Outcome}
+use Rattle.text.specs.declared.AnswerRoom.the-variants.{Lent}
+use Rattle.frames.specs.declared.Frame.{Frame}
+use Rattle.frames.specs.Bytes.{frameCount, frameAt}
+use Rattle.frames.specs.Out.{outcomeFrame}
+use Rattle.rule_rows.specs.declared.Pass.the-variants.{First}
+use Rattle.rule_answers.specs.Outputs.{outputBytes}
+use Rattle.file_read.specs.File.{overFile, readFile}
+use Rattle.explain_lines.specs.Answers.{lineOf, faultOf}
+
+-- LINES, by their places
+
+-- how many, and each
+pub record Lines : Type 0 where
+  pub count : ℕ
+  pub line : ℕ → List ℕ
+
+-- the first n lines, one after the other
+unfoldable pub joined : (ℕ → List ℕ) → ℕ → List ℕ
+joined f zero = []
+joined f (suc n) = joined f n ++ f n
+
+-- how many of the first n lines fit into so many bytes, one after the other
+unfoldable pub fitting : (ℕ → List ℕ) → ℕ → ℕ → ℕ
+fitting f zero room = 0
+fitting f (suc n) room = cond (leb (length (joined f (suc n))) room) (suc n) (fitting f n room)
+
+-- all of them, one after the other
+abbrev pub allOf : Lines → List ℕ
+allOf l = joined (l .line) (l .count)
+
+-- how many bytes of lines are written into a buffer of so many bytes: as many whole lines as fit
+abbrev pub fitted : Lines → ℕ → ℕ
+fitted l room = length (joined (l .line) (fitting (l .line) (l .count) room))
+
+-- A FILE'S LINES
+
+-- the next row, after an answer or a verdict
+unfoldable pub nextRow : RowNumber → Frame → RowNumber
+nextRow row f = cond (eqb (f .b0) 11) row (record { 0 = row .0 + 1 })
+
+-- the next row before frame k of what is handed back
+unfoldable pub rowAt : List ℕ → ℕ → RowNumber
+rowAt an zero = record { 0 = 0 }
+rowAt an (suc k) = nextRow (rowAt an k) (frameAt an k)
+
+-- line k: of frame k of what is handed back, `an`, in a file whose frames are `fr`
+abbrev pub lineAt : List ℕ → List ℕ → ℕ → List ℕ
+lineAt fr an k = lineOf fr (rowAt an k) (frameAt an k)
+
+-- a line for each frame handed back
+abbrev pub answerLines : List ℕ → List ℕ → Lines
+answerLines fr an = record { count = frameCount an; line = lineAt fr an }
+
+-- those of an accepted file, whose frames these are
+abbrev pub fileLines : List ℕ → Lines
+fileLines fr = answerLines fr (outputBytes First fr)
+
+-- that of a file that is not accepted
+abbrev pub faultLines : Outcome → Lines
+faultLines o = record { count = 1; line = λ (k : ℕ). faultOf (outcomeFrame o) }
+
+-- those of a text, with buffers of the largest sizes that a file asks for
+unfoldable pub linesOf : List ℕ → Lines
+linesOf t = overFile faultLines fileLines t (readFile 1024 t 16384 (Lent 32768))
+
+-- THE TEXT for people
+abbrev pub explained : List ℕ → List ℕ
+explained t = allOf (linesOf t)
+
+-- how many of its bytes fit whole lines into an output buffer of so many bytes
+abbrev pub explainedIn : List ℕ → ℕ → ℕ
+explainedIn t room = fitted (linesOf t) room

@@ -1,0 +1,4 @@
+pub mod Answers
+pub mod LinesForProofs
+pub mod Types
+pub mod ForProofs

@@ -1,7 +1,0 @@
--- `item_at`: the frame of that place. Assumes nothing.
-use borrow.Author.Needs.{needs}
-use Rattle.families.proofs.item_at.Statement.{statement}
-use Rattle.families.proofs.item_at.Tie as tie
-
-pub item-at-spec : {M : Type 1} → statement M
-item-at-spec = tie.close (tie.spec (λ c. search needs) (λ c κs. tt) (λ c κs. tt) (λ c. rw (c .item-of .ensures, c .before .frame-after .ensures)))

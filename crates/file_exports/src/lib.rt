@@ -1,0 +1,199 @@
+// What is handed back to a caller in C or Rust, as a number and a frame at the front of the out-slice.
+use answers::CanonicalType;
+use answers::ComposeVerdict;
+use answers::Outcome;
+use answers::PointerBase;
+use answers::RowType;
+use answers::Sameness;
+use frames::Frame;
+use frames::frame_at;
+use frames::put_frame;
+use frames_answers::types::resolution_frame;
+use frames_answers::write::answer_frame;
+use frames_answers::write::newer_frame;
+use frames_answers::write::outcome_frame;
+use frames_answers::write::verdict_frame;
+use ir::RowNumber;
+use text::AnswerRoom;
+use text_decode::read_text;
+ghost use mathlib.Core.Path.{_≡_};
+ghost use Prim.Native.Nat.{min};
+ghost use Rattle.answers.specs.Numbers.{at, samenessSaid, canonicalSaid, baseSaid};
+ghost use Rattle.frames.specs.Bytes.{putFrame};
+ghost use Rattle.frames.specs.Out.{refusedFrame, outcomeFrame};
+ghost use Rattle.file_read.specs.Typing.{toGiven, toVerdict};
+ghost use Rattle.file_exports.specs.Exported.{shortNumber, noRoom, outcomeNumber, rowNumber, rowGivenFrame, verdictNumber, verdictGivenFrame, saidNumber, saidFrame, typeSaidNumber, typeSaidFrame, handedFrame};
+
+// A number handed in, as a row's or a type's number has it: no file has 65,535 of either, so a greater one is out of range as that is.
+pub fn clamped(n: u32) -> u16
+    ensures { λ r. ⌜ r ≡ min n 65535 ⌝ }
+{
+    if n < 65535 { n as u16 } else { 65535 }
+}
+
+// A frame handed in; zeros, which are of no family, where it has another length than 16.
+pub fn handed_frame(s: &[u8]) -> Frame
+    ensures { λ r. ⌜ r ≡ handedFrame (now (s .entry)) ⌝ }
+{
+    if s.len() == 16 {
+        frame_at(s, 0)
+    } else {
+        frame_at(s, s.len())
+    }
+}
+
+// Number 1 or 2, else 3.
+fn short_number(o: Outcome) -> u32
+    ensures { λ r. ⌜ r ≡ shortNumber o ⌝ }
+{
+    match o {
+        Outcome::Accepted { frames: _ } => 3,
+        Outcome::Long { limit: _ } => 1,
+        Outcome::Torn { line: _ } => 2,
+        Outcome::Short => 3,
+        Outcome::Order { frame: _ } => 3,
+        Outcome::Field { frame: _ } => 3,
+        Outcome::Index { frame: _ } => 3,
+    }
+}
+
+// What is returned where the out-slice is too small: numbers 1 and 2 are the text's whatever is lent, so nothing is lent here.
+pub fn no_room(limit: u32, text: &[u8]) -> u32
+    ensures { λ r. ⌜ r ≡ noRoom limit (now (text .entry)) ⌝ }
+{
+    let mut none = [0u8; 0];
+    let read = read_text(limit, text, &mut none, AnswerRoom::NotLent);
+    short_number(read)
+}
+
+// A file's number; 0 where it is accepted.
+fn outcome_number(o: Outcome) -> u32
+    ensures { λ r. ⌜ r ≡ outcomeNumber o ⌝ }
+{
+    match o {
+        Outcome::Accepted { frames: _ } => 0,
+        Outcome::Long { limit: _ } => 1,
+        Outcome::Torn { line: _ } => 2,
+        Outcome::Short => 3,
+        Outcome::Order { frame: _ } => 4,
+        Outcome::Field { frame: _ } => 5,
+        Outcome::Index { frame: _ } => 6,
+    }
+}
+
+// What reading or typing a file gives.
+pub fn put_outcome(out: &mut [u8], o: Outcome) -> u32
+    ensures { λ r. ⌜ (r ≡ outcomeNumber o) × (now (out .exit) ≡ putFrame (now (out .entry)) 0 (outcomeFrame o)) ⌝ }
+{
+    put_frame(out, 0, outcome_frame(o));
+    outcome_number(o)
+}
+
+// Number 5, 6 or 22, each with place 0.
+fn put_field(out: &mut [u8]) -> u32
+    ensures { λ r. ⌜ (r ≡ 5) × (now (out .exit) ≡ putFrame (now (out .entry)) 0 (refusedFrame (at 5 0))) ⌝ }
+{
+    put_frame(out, 0, outcome_frame(Outcome::Field { frame: 0 }));
+    5
+}
+
+fn put_index(out: &mut [u8]) -> u32
+    ensures { λ r. ⌜ (r ≡ 6) × (now (out .exit) ≡ putFrame (now (out .entry)) 0 (refusedFrame (at 6 0))) ⌝ }
+{
+    put_frame(out, 0, outcome_frame(Outcome::Index { frame: 0 }));
+    6
+}
+
+fn put_newer(out: &mut [u8]) -> u32
+    ensures { λ r. ⌜ (r ≡ 22) × (now (out .exit) ≡ putFrame (now (out .entry)) 0 (refusedFrame (at 22 0))) ⌝ }
+{
+    put_frame(out, 0, newer_frame(RowNumber(0)));
+    22
+}
+
+// The frame of number 0, and what is said by the number returned.
+fn put_zero(out: &mut [u8], said: u32) -> u32
+    ensures { λ r. ⌜ (r ≡ said) × (now (out .exit) ≡ putFrame (now (out .entry)) 0 (refusedFrame (at 0 0))) ⌝ }
+{
+    put_frame(out, 0, outcome_frame(Outcome::Accepted { frames: 0 }));
+    said
+}
+
+// A row's answer.
+pub fn put_row(out: &mut [u8], given: RowType) -> u32
+    ensures outcome { λ r. ⌜ r ≡ rowNumber (toGiven given) ⌝ }
+    ensures out { λ r. ⌜ now (out .exit) ≡ putFrame (now (out .entry)) 0 (rowGivenFrame (toGiven given)) ⌝ }
+{
+    match given {
+        RowType::Answered(a) => {
+            put_frame(out, 0, answer_frame(a));
+            0
+        }
+        RowType::Index => put_index(out),
+        RowType::NotAccepted(o) => put_outcome(out, o),
+    }
+}
+
+// A compose's verdict.
+pub fn put_verdict(out: &mut [u8], row: RowNumber, given: ComposeVerdict) -> u32
+    ensures outcome { λ r. ⌜ r ≡ verdictNumber (toVerdict given) ⌝ }
+    ensures out { λ r. ⌜ now (out .exit) ≡ putFrame (now (out .entry)) 0 (verdictGivenFrame row (toVerdict given)) ⌝ }
+{
+    match given {
+        ComposeVerdict::Judged(v) => {
+            put_frame(out, 0, verdict_frame(row, v));
+            0
+        }
+        ComposeVerdict::NotCompose => put_index(out),
+        ComposeVerdict::Index => put_index(out),
+        ComposeVerdict::NotAccepted(o) => put_outcome(out, o),
+    }
+}
+
+// What a comparison says.
+pub fn put_sameness(out: &mut [u8], given: Sameness) -> u32
+    ensures outcome { λ r. ⌜ r ≡ saidNumber (samenessSaid given) ⌝ }
+    ensures out { λ r. ⌜ now (out .exit) ≡ putFrame (now (out .entry)) 0 (saidFrame (samenessSaid given)) ⌝ }
+{
+    match given {
+        Sameness::Same => put_zero(out, 0),
+        Sameness::Different => put_zero(out, 256),
+        Sameness::Newer => put_newer(out),
+        Sameness::Field => put_field(out),
+        Sameness::Index => put_index(out),
+        Sameness::NotAccepted(o) => put_outcome(out, o),
+    }
+}
+
+// A canonical form.
+pub fn put_canonical(out: &mut [u8], given: CanonicalType) -> u32
+    ensures outcome { λ r. ⌜ r ≡ typeSaidNumber (canonicalSaid given) ⌝ }
+    ensures out { λ r. ⌜ now (out .exit) ≡ putFrame (now (out .entry)) 0 (typeSaidFrame (canonicalSaid given)) ⌝ }
+{
+    match given {
+        CanonicalType::Form(t) => {
+            put_frame(out, 0, resolution_frame(t));
+            0
+        }
+        CanonicalType::Newer => put_newer(out),
+        CanonicalType::Index => put_index(out),
+        CanonicalType::NotAccepted(o) => put_outcome(out, o),
+    }
+}
+
+// A pointer's base.
+pub fn put_base(out: &mut [u8], given: PointerBase) -> u32
+    ensures outcome { λ r. ⌜ r ≡ typeSaidNumber (baseSaid given) ⌝ }
+    ensures out { λ r. ⌜ now (out .exit) ≡ putFrame (now (out .entry)) 0 (typeSaidFrame (baseSaid given)) ⌝ }
+{
+    match given {
+        PointerBase::Base(t) => {
+            put_frame(out, 0, resolution_frame(t));
+            0
+        }
+        PointerBase::NotPointer => put_zero(out, 257),
+        PointerBase::Newer => put_newer(out),
+        PointerBase::Index => put_index(out),
+        PointerBase::NotAccepted(o) => put_outcome(out, o),
+    }
+}

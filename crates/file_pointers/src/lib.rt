@@ -1,0 +1,45 @@
+// Pointer forms over a file: the canonical form of a type, and a pointer's base. Each checks the file first (document 01, "Numbers handed back").
+use answers::CanonicalType;
+use answers::PointerBase;
+use archive_access::families::find_starts;
+use file_read::OptionUsize;
+use file_read::frames_in;
+use file_read::read_file;
+use ir::TypeNumber;
+ghost use mathlib.Core.Path.{_≡_};
+ghost use lib.ListN.{length};
+ghost use Rattle.text.specs.declared.AnswerRoom.the-variants.{NotLent};
+ghost use Rattle.file_read.specs.File.{framesAfter};
+ghost use Rattle.file_pointers.specs.Forms.{canonicalType, pointerBaseType};
+
+// The canonical form of type n: the value pointer, or n itself. The frame buffer is as `read_file` leaves it.
+pub fn canonical_form(limit: u32, text: &[u8], frames: &mut [u8], n: TypeNumber) -> CanonicalType
+    ensures outcome { λ r. ⌜ r ≡ canonicalType limit (now (text .entry)) (length (now (frames .entry))) n ⌝ }
+    ensures frames { λ r. ⌜ now (frames .exit) ≡ framesAfter limit (now (text .entry)) (now (frames .entry)) NotLent ⌝ }
+{
+    let read = read_file(limit, text, frames);
+    match frames_in(read) {
+        OptionUsize::None => CanonicalType::NotAccepted(read),
+        OptionUsize::Some(k) => {
+            let m = 16 * k;
+            let s = find_starts(&frames[..m]);
+            type_pointers::by_number::canonical_type(&frames[..m], s, n)
+        }
+    }
+}
+
+// The base of type n, or that it is no pointer. The frame buffer is as `read_file` leaves it.
+pub fn pointer_base(limit: u32, text: &[u8], frames: &mut [u8], n: TypeNumber) -> PointerBase
+    ensures outcome { λ r. ⌜ r ≡ pointerBaseType limit (now (text .entry)) (length (now (frames .entry))) n ⌝ }
+    ensures frames { λ r. ⌜ now (frames .exit) ≡ framesAfter limit (now (text .entry)) (now (frames .entry)) NotLent ⌝ }
+{
+    let read = read_file(limit, text, frames);
+    match frames_in(read) {
+        OptionUsize::None => PointerBase::NotAccepted(read),
+        OptionUsize::Some(k) => {
+            let m = 16 * k;
+            let s = find_starts(&frames[..m]);
+            type_pointers::by_number::pointer_base(&frames[..m], s, n)
+        }
+    }
+}

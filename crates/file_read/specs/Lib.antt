@@ -1,0 +1,4 @@
+pub mod File
+pub mod Types
+pub mod Typing
+pub mod ForProofs

@@ -1,0 +1,80 @@
+// Reading a file, and comparing two of its types: the file is checked first (document 01, "Numbers handed back").
+use answers::Outcome;
+use answers::Sameness;
+use archive_access::families::find_starts;
+use check_file::check_frames;
+use frames::Frame;
+use text::AnswerRoom;
+use text_decode::read_text;
+ghost use mathlib.Core.Path.{_≡_};
+ghost use lib.ListN.{length};
+ghost use Rattle.text.specs.declared.AnswerRoom.the-variants.{NotLent};
+ghost use Rattle.file_read.specs.File.{readFile, framesAfter};
+ghost use Rattle.file_read.specs.Types.{sameTypes};
+ghost use Rattle.file_read.specs.ForProofs.{framesIn};
+
+// The number of frames that were accepted, or none.
+pub enum OptionUsize {
+    None,
+    Some(usize),
+}
+
+// What typing a file gives: the outcome, and how many frames are handed back.
+pub struct TypedFile {
+    pub outcome: Outcome,
+    pub outputs: usize,
+}
+
+pub fn frames_in(o: Outcome) -> OptionUsize
+    ensures { λ r. ⌜ r ≡ framesIn o ⌝ }
+{
+    match o {
+        Outcome::Accepted { frames: n } => OptionUsize::Some(n),
+        Outcome::Long { limit: _ } => OptionUsize::None,
+        Outcome::Torn { line: _ } => OptionUsize::None,
+        Outcome::Short => OptionUsize::None,
+        Outcome::Order { frame: _ } => OptionUsize::None,
+        Outcome::Field { frame: _ } => OptionUsize::None,
+        Outcome::Index { frame: _ } => OptionUsize::None,
+    }
+}
+
+// Checks 1 to 6 within a limit of frames, 1 to 1,024, any other counting as 1,024, with the length of the answer buffer where one is lent. Numbers 1 to 3 change no buffer; otherwise the frames stand
+// at the front of the frame buffer, and its bytes past them stay.
+pub fn read_with(limit: u32, text: &[u8], frames: &mut [u8], room: AnswerRoom) -> Outcome
+    ensures outcome { λ r. ⌜ r ≡ readFile limit (now (text .entry)) (length (now (frames .entry))) room ⌝ }
+    ensures frames { λ r. ⌜ now (frames .exit) ≡ framesAfter limit (now (text .entry)) (now (frames .entry)) room ⌝ }
+{
+    let read = read_text(limit, text, frames, room);
+    match frames_in(read) {
+        OptionUsize::None => read,
+        OptionUsize::Some(n) => {
+            let m = 16 * n;
+            check_frames(&frames[..m])
+        }
+    }
+}
+
+// Whether a file is accepted, or the number and place of its fault.
+pub fn read_file(limit: u32, text: &[u8], frames: &mut [u8]) -> Outcome
+    ensures outcome { λ r. ⌜ r ≡ readFile limit (now (text .entry)) (length (now (frames .entry))) NotLent ⌝ }
+    ensures frames { λ r. ⌜ now (frames .exit) ≡ framesAfter limit (now (text .entry)) (now (frames .entry)) NotLent ⌝ }
+{
+    read_with(limit, text, frames, AnswerRoom::NotLent)
+}
+
+// Whether two answers of a file, as frames of family 8 or 9, are the same type. The frame buffer is as `read_file` leaves it.
+pub fn same_type(limit: u32, text: &[u8], frames: &mut [u8], left: Frame, right: Frame) -> Sameness
+    ensures outcome { λ r. ⌜ r ≡ sameTypes limit (now (text .entry)) (length (now (frames .entry))) left right ⌝ }
+    ensures frames { λ r. ⌜ now (frames .exit) ≡ framesAfter limit (now (text .entry)) (now (frames .entry)) NotLent ⌝ }
+{
+    let read = read_file(limit, text, frames);
+    match frames_in(read) {
+        OptionUsize::None => Sameness::NotAccepted(read),
+        OptionUsize::Some(n) => {
+            let m = 16 * n;
+            let s = find_starts(&frames[..m]);
+            type_comparison::handed::same_type(&frames[..m], s, left, right)
+        }
+    }
+}

@@ -1,0 +1,11 @@
+-- `converted`: the test picks the case. Assumes nothing.
+use borrow.Author.Tests.{eq-eqb, ne-eqb}
+use Rattle.frames_rows.proofs.converted.Statement.{statement}
+use Rattle.frames_rows.proofs.converted.Tie as tie
+
+pub converted-spec : {M : Type 1} → statement M
+converted-spec =
+    tie.close
+    (tie.spec
+    (λ c. rw (eq-eqb _ _ (c .if1 .taken)))
+    (λ c. rw (ne-eqb _ _ (c .if1 .left))))

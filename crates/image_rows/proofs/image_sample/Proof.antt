@@ -1,8 +1,0 @@
--- `image_sample`: by the flag. Assumes nothing.
-use Rattle.image_rows.proofs.image_sample.Statement.{statement}
-use Rattle.image_rows.proofs.image_sample.Tie as tie
-
-pub image-sample-spec : {M : Type 1} → statement M
-image-sample-spec =
-    tie.close
-    (tie.spec (λ c κs. tt) (λ c κs. tt) (λ c. rw (c .before .if1 .taken, c .gathered .ensures)) (λ c. rw (c .before .if1 .left, c .sampled .ensures)))

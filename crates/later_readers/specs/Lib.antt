@@ -1,3 +1,0 @@
-pub mod Reader
-pub mod Ours
-pub mod ShutOut

@@ -1,0 +1,4 @@
+pub mod Reader
+pub mod Ours
+pub mod ShutOut
+pub mod ForProofs

@@ -1,7 +1,0 @@
--- `row_form_names`: each arm knows its case, and what its calls ensure. Assumes nothing.
-use Rattle.names.proofs.row_form_names.Statement.{statement}
-use Rattle.names.proofs.row_form_names.Tie as tie
-
-pub row-form-names-spec : {M : Type 1} → statement M
-row-form-names-spec =
-    tie.close (tie.spec (λ c. c .match .keys1) (λ c κs. tt) (λ c. c .match .keys2) (λ c. rw (c .before .before .form .given .1, c .row-names .ensures)) (λ c. rw (c .enum-told .given .1)))

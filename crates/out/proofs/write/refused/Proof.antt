@@ -1,9 +1,0 @@
--- `refused`: the bytes of its numbers, and of the flag. Assumes nothing.
-use borrow.Author.Needs.{needs}
-use Rattle.out.proofs.write.refused.Statement.{statement}
-use Rattle.out.proofs.write.refused.Tie as tie
-
-pub refused-spec : {M : Type 1} → statement M
-refused-spec =
-    tie.close
-    (tie.spec (λ c. search needs) (λ c. search needs) (λ c. search needs) (λ c. search needs) (λ c. search needs) (λ c. search needs) (λ c κs. search needs) (λ c. rw (c .flag-number .ensures .0)))

@@ -1,2 +1,0 @@
-pub mod AccessCases
-pub mod Cases

@@ -1,1 +1,0 @@
-// No code: worked files with the types of their rows stand in specs/, and one proof over them in proofs/.

@@ -1,0 +1,94 @@
+-- Not part of any public statement: for proofs and code only. What the code of a row's rule goes by: earlier answers as they stand in the answer buffer, and
+-- the forms of its operands' types (document 01, "What must change shape": the `past` closure is a part of the answer buffer).
+use Prim.Native.Nat.{ℕ}
+use mathlib.Core.Bool.{cond}
+use mathlib.Core.List.{List}
+use mathlib.Core.Option.{Option, none, some}
+use lib.Dec.{ltb}
+use lib.ListN.{length, getD}
+use Rattle.ir.specs.declared.RowNumber.{RowNumber}
+use Rattle.ir.specs.declared.TypeInner.{TypeInner}
+use Rattle.ir.specs.declared.TypeForm.{TypeForm}
+use Rattle.ir.specs.declared.TypeForm.the-variants as Tf
+use Rattle.answers.specs.declared.Answer.{Answer}
+use Rattle.answers.specs.declared.Answer.the-variants as An
+use Rattle.answers.specs.declared.Refusal.the-variants.{MissingSpecialType}
+use Rattle.frames.specs.Bytes.{frameAt}
+use Rattle.frames.specs.ForProofs.{answerOf}
+use Rattle.archive.specs.declared.Starts.{Starts}
+use Rattle.rule.specs.Answers.{TypeAnswer, resolved, Typed, refused, row, Result, told, newer}
+use Rattle.rule.specs.Things.{Form, memberTypes, soundForm, valueFault, formIn, Shown, seeIn}
+use Rattle.rule.specs.Rule.{Rule, Answers, run}
+use Rattle.answers.specs.declared.Unresolved.{Unresolved}
+use Rattle.answers.specs.declared.Unresolved.the-variants as Un
+use Rattle.row_operands.specs.declared.Looked.{Looked}
+use Rattle.row_operands.specs.declared.Looked.the-variants as Lo
+use Rattle.rule_rows.specs.declared.Pass.{Pass}
+use Rattle.rule_rows.specs.Operators.{product}
+use Rattle.rule_rows.specs.Typed.{resolve}
+use Rattle.rule_rows.specs.Answered.{toResult}
+
+-- row n's answer, at the frame that the table of places has for it; a row that is not typed yet is a fixed refusal, `absent` (rule/specs/Claim.antt)
+unfoldable pub answerIn : List ℕ → List ℕ → RowNumber → Answer
+answerIn answers places n = cond (ltb (n .0) (length places)) (answerOf (frameAt answers (getD places (n .0) 0))) (An.Refused MissingSpecialType)
+
+-- the answers that a rule reads there
+abbrev pub pastIn : List ℕ → List ℕ → Answers
+pastIn answers places n = toResult (answerIn answers places n)
+
+-- what our reader gives by a rule: over the frames of a file, where its families begin, and the answers so far with their places
+unfoldable pub ruled : List ℕ → Starts → List ℕ → List ℕ → Rule Typed → Result Typed
+ruled fr s answers places rule = run (seeIn fr s) (pastIn answers places) newer rule
+
+-- and by the rule of row `here`, whose kind shows this, or nothing
+abbrev pub ruledShown : Pass → List ℕ → Starts → List ℕ → List ℕ → RowNumber → Option Shown → Result Typed
+ruledShown pass fr s answers places here (some x) = ruled fr s answers places (resolve pass here x)
+ruledShown pass fr s answers places here none = newer (row here)
+
+-- a form as it is shown
+abbrev pub formed : List ℕ → Starts → TypeInner → Form
+formed fr s t = record { inner = t; members = memberTypes fr s t }
+
+-- a row that ends with an operand's answer, which holds no type
+abbrev pub endedBy : Unresolved → Result Typed
+endedBy (Un.Refused e) = told (refused e)
+endedBy (Un.Newer r) = newer (row r)
+
+-- AN OPERAND IS READ AND ITS TYPE LOOKED INTO: the form, or the answer that the row ends with
+
+abbrev pub lookedAt : RowNumber → TypeForm → Looked
+lookedAt here (Tf.Known i) = Lo.Seen i
+lookedAt here Tf.Unknown = Lo.Ended (Un.Newer here)
+
+-- a value that an answer's frame holds
+abbrev pub seenBy : Starts → RowNumber → TypeForm → Looked
+seenBy s here (Tf.Known t) = lookedAt here (soundForm t (valueFault s t))
+seenBy s here Tf.Unknown = Lo.Ended (Un.Refused MissingSpecialType)
+
+abbrev pub lookedBy : List ℕ → Starts → RowNumber → Answer → Looked
+lookedBy fr s here (An.Resolved t) = lookedAt here (formIn fr s (resolved t))
+lookedBy fr s here (An.Refused e) = Lo.Ended (Un.Refused e)
+lookedBy fr s here (An.Newer r) = Lo.Ended (Un.Newer r)
+
+unfoldable pub lookedIn : List ℕ → Starts → List ℕ → List ℕ → RowNumber → RowNumber → Looked
+lookedIn fr s answers places here n = lookedBy fr s here (answerIn answers places n)
+
+-- MULTIPLY: left is read, then right, then left is looked into, then right
+
+abbrev pub rightBy : RowNumber → TypeAnswer → TypeInner → TypeAnswer → TypeForm → Result Typed
+rightBy here a x b (Tf.Known y) = told (product a b x y)
+rightBy here a x b Tf.Unknown = newer (row here)
+
+abbrev pub leftBy : List ℕ → Starts → RowNumber → TypeAnswer → TypeAnswer → TypeForm → Result Typed
+leftBy fr s here a b (Tf.Known x) = rightBy here a x b (formIn fr s b)
+leftBy fr s here a b Tf.Unknown = newer (row here)
+
+abbrev pub rightRead : List ℕ → Starts → RowNumber → TypeAnswer → Answer → Result Typed
+rightRead fr s here a (An.Resolved b) = leftBy fr s here a (resolved b) (formIn fr s a)
+rightRead fr s here a (An.Refused e) = told (refused e)
+rightRead fr s here a (An.Newer r) = newer (row r)
+
+abbrev pub leftRead : List ℕ → Starts → RowNumber → Answer → Answer → Result Typed
+leftRead fr s here right (An.Resolved a) = rightRead fr s here (resolved a) right
+leftRead fr s here right (An.Refused e) = told (refused e)
+leftRead fr s here right (An.Newer r) = newer (row r)

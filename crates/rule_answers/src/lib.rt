@@ -1,0 +1,1 @@
+// No code: what typing a whole file hands back stands in specs/.

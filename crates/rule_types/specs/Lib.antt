@@ -1,0 +1,5 @@
+pub mod Canonical
+pub mod Comparison
+pub mod Looks
+pub mod Cases
+pub mod ForProofs

@@ -1,2 +1,0 @@
-// What each line for people says, as pieces (words/specs/Lines.antt), from the bytes of frames.
-pub mod answers;

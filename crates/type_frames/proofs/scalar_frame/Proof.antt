@@ -1,7 +1,0 @@
--- `scalar_frame`: the bytes that its calls ensure. Assumes nothing.
-use borrow.Author.Needs.{needs}
-use Rattle.type_frames.proofs.scalar_frame.Statement.{statement}
-use Rattle.type_frames.proofs.scalar_frame.Tie as tie
-
-pub scalar-frame-spec : {M : Type 1} → statement M
-scalar-frame-spec = tie.close (tie.spec (λ c κs. search needs) (λ c κs. search needs) (λ c. rw (c .packed .ensures, c .before .number .ensures)))

@@ -1,4 +1,0 @@
-pub mod Canonical
-pub mod Comparison
-pub mod Looks
-pub mod Cases
