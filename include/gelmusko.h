@@ -1,35 +1,44 @@
-/* Gelmusko: types of archived shader rows. The functions of libgelmusko.a, which `rt staticlib gelmusko` writes to target/staticlib (x86-64 Linux).
+/* Gelmusko: types of archived shader rows. The functions of libgelmusko.a, which `rt staticlib gelmusko` writes to
+ * target/staticlib (x86-64 Linux).
  *
- * THE FILE. `text` is a whole file: lines of 32 lower-case hexadecimal digits and a line feed, one frame of 16 bytes a line. Any bytes may be handed in; what is no file is
- * refused by its number. docs/RULES.md has the frames and the rules.
+ * THE FILE. `text` is a whole file: lines of 32 lower-case hexadecimal digits and a line feed, one frame of 16 bytes
+ * a line. Any bytes may be handed in; what is no file is refused by its number. docs/RULES.md has the frames and the
+ * rules.
  *
- * SLICES. Each slice is a pointer and a length in bytes. It must point to that many bytes, which the caller may read, and, unless it is const, write. A slice of length 0 is
- * neither read nor written, and its pointer may be null; a null pointer with another length is undefined. Slices that are written (frames, answers, out) may not overlap
- * each other, nor any other slice of the call. Const slices (text, left, right) may overlap each other.
+ * SLICES. Each slice is a pointer and a length in bytes. It must point to that many bytes, which the caller may read,
+ * and, unless it is const, write. A slice of length 0 is neither read nor written, and its pointer may be null; a
+ * null pointer with another length is undefined. Slices that are written (frames, answers, out) may not overlap each
+ * other, nor any other slice of the call. Const slices (text, left, right) may overlap each other.
  *
- * BUFFERS. The caller lends them; the library keeps no pointer and no state, allocates nothing, and may be called from several threads with buffers of their own.
+ * BUFFERS. The caller lends them; the library keeps no pointer and no state, allocates nothing, and may be called
+ * from several threads with buffers of their own.
  *
- *   frames    16 bytes for each line of the text.                   16,384 bytes are enough for every file.
+ *   frames    16 bytes for each line of the text.                    16,384 bytes are enough for every file.
  *   answers   16 bytes for each row and 16 more for each compose.    32,768 bytes are enough for every file.
  *   out       16 bytes: one frame, what the call hands back.
  *
- * A longer buffer is as good; its bytes past what is written stay as they were. After numbers 1 to 3 no byte of `frames` and `answers` is changed. After numbers 4 to 6 of the
- * file `frames` has the frames of the text at its front, and `answers` is as it was. An accepted file leaves its frames there too.
+ * A longer buffer is as good; its bytes past what is written stay as they were. After numbers 1 to 3 no byte of
+ * `frames` and `answers` is changed. After numbers 4 to 6 of the file `frames` has the frames of the text at its
+ * front, and `answers` is as it was. An accepted file leaves its frames there too.
  *
- * WHAT IS RETURNED: 0 (GELMUSKO_GIVEN) where what was asked for was given, and else a number. The frame in out says the same, with its place:
+ * WHAT IS RETURNED: 0 (GELMUSKO_GIVEN) where what was asked for was given, and else a number. The frame in out says
+ * the same, with its place:
  *
  *   b0 = 8    a type of the file: its number in b2-3
  *   b0 = 9    a type by value, laid as a type of the file
- *   b0 = 10   a number in b1, its place in b2-3; number 0 where the file is accepted and nothing else is to be said. For a row's answer 10 to 20 or 22, with an index in
- *             b4-7 and a flag in b8
- *   b0 = 11   a verdict: 0, 22 or 30 to 33 in b1, its compose row in b2-3, expected or component in b4-7, given in b8-11
+ *   b0 = 10   a number in b1, its place in b2-3; number 0 where the file is accepted and nothing else is to be said.
+ *             For a row's answer 10 to 20 or 22, with an index in b4-7 and a flag in b8
+ *   b0 = 11   a verdict: 0, 22 or 30 to 33 in b1, its compose row in b2-3, expected or component in b4-7, given in
+ *             b8-11
  *
- * Numbers of several bytes have their low byte first. An `out` of fewer than 16 bytes is a lent buffer too short: the call returns 1 or 2 if that is the text's, and
- * else 3, and changes nothing at all.
+ * Numbers of several bytes have their low byte first. An `out` of fewer than 16 bytes is a lent buffer too short: the
+ * call returns 1 or 2 if that is the text's, and else 3, and changes nothing at all.
  *
- * Numbers of rows and types count from 0. One that the file does not have, whatever its size, is number 6 with place 0, and `answers` stays as it was.
+ * Numbers of rows and types count from 0. One that the file does not have, whatever its size, is number 6 with place
+ * 0, and `answers` stays as it was.
  *
- * Each function is proved, for all inputs, to return and to leave in each buffer what crates/file_exports/specs says; it ends, and it never traps. */
+ * Each function is proved, for all inputs, to return and to leave in each buffer what crates/file_exports/specs says;
+ * it ends, and it never traps. */
 #ifndef GELMUSKO_H
 #define GELMUSKO_H
 
@@ -47,42 +56,59 @@ extern "C" {
 
 /* what is returned */
 #define GELMUSKO_GIVEN 0u       /* what was asked for; of a comparison: the same type */
-#define GELMUSKO_LONG 1u        /* the text has over 33,792 bytes, so over 1,024 lines; place 1,024 */
+#define GELMUSKO_LONG 1u        /* the text has over 33,792 bytes, as many as 1,024 lines have; place 1,024 */
 #define GELMUSKO_TORN 2u        /* a line is not 32 lower-case digits and a line feed; place: the line, from 0 */
 #define GELMUSKO_SHORT 3u       /* a lent buffer is too short; place 0 */
-#define GELMUSKO_ORDER 4u       /* a frame of unknown family or item kind, out of order, or a second item of kind 7 or 8; place: the frame */
+#define GELMUSKO_ORDER 4u       /* a frame of unknown family or item kind, out of order, or a second item of kind 7
+                                   or 8; place: the frame */
 #define GELMUSKO_FIELD 5u       /* a byte outside its values; place: the frame, or 0 for a frame handed in */
-#define GELMUSKO_INDEX 6u       /* a number out of range or not earlier; place: the frame, or 0 for a number or a frame handed in */
-#define GELMUSKO_NEWER 22u      /* something that this reader does not know; place 0. Only of a comparison, a canonical form or a base */
+#define GELMUSKO_INDEX 6u       /* a number out of range or not earlier; place: the frame, or 0 for a number or a frame
+                                   handed in */
+#define GELMUSKO_NEWER 22u      /* something that this reader does not know; place 0. Only of a comparison, a canonical
+                                   form or a base */
 #define GELMUSKO_DIFFERENT 256u /* a comparison: not the same type. out: b0 = 10, number 0 */
 #define GELMUSKO_NO_POINTER 257u /* a base: the type is no pointer. out: b0 = 10, number 0 */
 
 /* Whether a file is accepted. Returns 0 to 6. out: number 0 to 6. */
-uint32_t gelmusko_read_file(const uint8_t *text, size_t text_len, uint8_t *frames, size_t frames_len, uint8_t *out, size_t out_len);
+uint32_t gelmusko_read_file(const uint8_t *text, size_t text_len, uint8_t *frames, size_t frames_len,
+                            uint8_t *out, size_t out_len);
 
-/* Types every row and judges every compose. Returns 0 to 6. Of an accepted file `answers` has at its front, for each row in order, its answer (b0 = 8, 9 or 10), and after a
- * compose its verdict (b0 = 11); otherwise `answers` stays as it was. out: number 0 to 6. */
-uint32_t gelmusko_type_rows(const uint8_t *text, size_t text_len, uint8_t *frames, size_t frames_len, uint8_t *answers, size_t answers_len, uint8_t *out, size_t out_len);
+/* Types every row and judges every compose. Returns 0 to 6. Of an accepted file `answers` has at its front, for each
+ * row in order, its answer (b0 = 8, 9 or 10), and after a compose its verdict (b0 = 11); otherwise `answers` stays as
+ * it was. out: number 0 to 6. */
+uint32_t gelmusko_type_rows(const uint8_t *text, size_t text_len, uint8_t *frames, size_t frames_len,
+                            uint8_t *answers, size_t answers_len, uint8_t *out, size_t out_len);
 
-/* The answer of one row. Returns 0 also where that answer is a refusal (10 to 20) or 22: it stands in out. Returns 1 to 6 where the file is refused, and 6 where it has no such
- * row. The buffers are left as gelmusko_type_rows leaves them, but `answers` as it was where there is no such row. */
-uint32_t gelmusko_row_type(const uint8_t *text, size_t text_len, uint8_t *frames, size_t frames_len, uint8_t *answers, size_t answers_len, uint32_t row, uint8_t *out, size_t out_len);
+/* The answer of one row. Returns 0 also where that answer is a refusal (10 to 20) or 22: it stands in out. Returns 1
+ * to 6 where the file is refused, and 6 where it has no such row. The buffers are left as gelmusko_type_rows leaves
+ * them, but `answers` as it was where there is no such row. */
+uint32_t gelmusko_row_type(const uint8_t *text, size_t text_len, uint8_t *frames, size_t frames_len,
+                           uint8_t *answers, size_t answers_len, uint32_t row, uint8_t *out, size_t out_len);
 
-/* The verdict on one compose, by its row. Returns 0 also where the verdict is 22 or 30 to 33: it stands in out. Returns 1 to 6 where the file is refused, and 6 where it has no
- * such row, or the row is no compose; `answers` stays as it was then, and is else as gelmusko_type_rows leaves it. */
-uint32_t gelmusko_compose_verdict(const uint8_t *text, size_t text_len, uint8_t *frames, size_t frames_len, uint8_t *answers, size_t answers_len, uint32_t row, uint8_t *out, size_t out_len);
+/* The verdict on one compose, by its row. Returns 0 also where the verdict is 22 or 30 to 33: it stands in out.
+ * Returns 1 to 6 where the file is refused, and 6 where it has no such row, or the row is no compose; `answers` stays
+ * as it was then, and is else as gelmusko_type_rows leaves it. */
+uint32_t gelmusko_compose_verdict(const uint8_t *text, size_t text_len, uint8_t *frames, size_t frames_len,
+                                  uint8_t *answers, size_t answers_len, uint32_t row,
+                                  uint8_t *out, size_t out_len);
 
-/* Whether two types of a file are the same. `left` and `right` are frames of 16 bytes, b0 = 8 or 9, as they are handed back. Returns 0 where they are, 256 where not, 22, 1 to 6
- * where the file is refused, 5 where a frame has another length than 16, is no type number or value, or has a bad byte, and 6 where it names what the file does not have; the
+/* Whether two types of a file are the same. `left` and `right` are frames of 16 bytes, b0 = 8 or 9, as they are handed
+ * back. Returns 0 where they are, 256 where not, 22, 1 to 6 where the file is refused, 5 where a frame has another
+ * length than 16, is no type number or value, or has a bad byte, and 6 where it names what the file does not have; the
  * left frame's 5 or 6 comes before the right one's. out: number 0 to 6 or 22. */
-uint32_t gelmusko_same_type(const uint8_t *text, size_t text_len, uint8_t *frames, size_t frames_len, const uint8_t *left, size_t left_len, const uint8_t *right, size_t right_len, uint8_t *out, size_t out_len);
+uint32_t gelmusko_same_type(const uint8_t *text, size_t text_len, uint8_t *frames, size_t frames_len,
+                            const uint8_t *left, size_t left_len, const uint8_t *right, size_t right_len,
+                            uint8_t *out, size_t out_len);
 
-/* The canonical form of type n: of a pointer to a scalar or a vector the value pointer (b0 = 9), of any other type its own number (b0 = 8). Returns 0 to 6 or 22. */
-uint32_t gelmusko_canonical_form(const uint8_t *text, size_t text_len, uint8_t *frames, size_t frames_len, uint32_t n, uint8_t *out, size_t out_len);
+/* The canonical form of type n: of a pointer to a scalar or a vector the value pointer (b0 = 9), of any other type its
+ * own number (b0 = 8). Returns 0 to 6 or 22. */
+uint32_t gelmusko_canonical_form(const uint8_t *text, size_t text_len, uint8_t *frames, size_t frames_len,
+                                 uint32_t n, uint8_t *out, size_t out_len);
 
-/* The base of type n: of a pointer its base's number (b0 = 8), of a value pointer the scalar or vector by value (b0 = 9). Returns 0 to 6, 22, or 257 where type n is no
- * pointer. */
-uint32_t gelmusko_pointer_base(const uint8_t *text, size_t text_len, uint8_t *frames, size_t frames_len, uint32_t n, uint8_t *out, size_t out_len);
+/* The base of type n: of a pointer its base's number (b0 = 8), of a value pointer the scalar or vector by value
+ * (b0 = 9). Returns 0 to 6, 22, or 257 where type n is no pointer. */
+uint32_t gelmusko_pointer_base(const uint8_t *text, size_t text_len, uint8_t *frames, size_t frames_len,
+                               uint32_t n, uint8_t *out, size_t out_len);
 
 #ifdef __cplusplus
 }
