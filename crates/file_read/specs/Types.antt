@@ -1,4 +1,4 @@
--- Comparison of two types of a file, over its text (document 01, "Comparison" and "Numbers handed back", last paragraph): the file is checked first, and one that is not
+-- Comparison of two types of a file, over its text (document 01, "Same type or not" and "Numbers handed back", last paragraph): the file is checked first, and one that is not
 -- accepted gives its number and place.
 use Prim.Native.Nat.{ℕ}
 use mathlib.Core.List.{List}

@@ -1,4 +1,4 @@
--- The canonical form of a type: the source's canonical_form (document 01, "Comparison"). A pointer to a scalar or a vector is the value pointer of
+-- The canonical form of a type: the source's canonical_form (document 01, "Same type or not"). A pointer to a scalar or a vector is the value pointer of
 -- its base; every other type is its own. WGSL has no value pointers; the source decides. And equality of types and answers, by their frames.
 use Prim.Native.Nat.{ℕ}
 use mathlib.Core.Bool.{Bool, true, false, cond, _&&_}

@@ -1,4 +1,4 @@
--- Worked comparisons over one small file, written by hand from document 01 ("Comparison", "Numbers handed back" and "Cases", P).
+-- Worked comparisons over one small file, written by hand from document 01 ("Same type or not", "Numbers handed back" and "Cases", P).
 use Prim.Native.Nat.{ℕ}
 use mathlib.Core.List.{List, [], _∷_, _++_}
 use Rattle.frames.specs.declared.Frame.{Frame}

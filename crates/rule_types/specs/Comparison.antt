@@ -1,4 +1,4 @@
--- The comparison of two types: the source's compare_types (document 01, "Comparison"; "Numbers handed back", last paragraph).
+-- The comparison of two types: the source's compare_types (document 01, "Same type or not"; "Numbers handed back", last paragraph).
 use mathlib.Core.Bool.{Bool, true, false, _||_}
 use Prim.Native.Nat.{ℕ}
 use mathlib.Core.List.{List, []}

@@ -36,7 +36,7 @@ canonicalThrough fr s Tf.Unknown = Tf.Unknown
 abbrev pub canonicalOf : List ℕ → Starts → TypeAnswer → TypeForm
 canonicalOf fr s a = canonicalThrough fr s (formIn fr s a)
 
--- the source's is_atomic_pointer: a pointer whose base is an atomic; not where the base is of unknown kind
+-- the source's is_atomic_pointer: whether a type is a pointer whose base is an atomic; none where a pointer's base is of unknown kind, as in every look there
 abbrev pub isAtomic : TypeInner → Bool
 isAtomic (Ti.Scalar k) = false
 isAtomic (Ti.Vector z k) = false
@@ -53,12 +53,12 @@ isAtomic (Ti.AccelerationStructure q) = false
 isAtomic (Ti.RayQuery q) = false
 isAtomic (Ti.BindingArray b z) = false
 
-abbrev pub isAtomicForm : TypeForm → Bool
-isAtomicForm (Tf.Known t) = isAtomic t
-isAtomicForm Tf.Unknown = false
+abbrev pub isAtomicForm : TypeForm → OptionBool
+isAtomicForm (Tf.Known t) = Ob.Some (isAtomic t)
+isAtomicForm Tf.Unknown = Ob.None
 
-abbrev pub isAtomicPointer : List ℕ → Starts → TypeInner → Bool
-isAtomicPointer fr s t = ifPointer t (λ b p. isAtomicForm (typeIn fr s b)) false
+abbrev pub isAtomicPointer : List ℕ → Starts → TypeInner → OptionBool
+isAtomicPointer fr s t = ifPointer t (λ b p. isAtomicForm (typeIn fr s b)) (Ob.Some false)
 
 -- yes or no, without the tests for 5 and 6; none where it is newer
 abbrev pub optional : Result Bool → OptionBool

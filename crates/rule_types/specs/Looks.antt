@@ -1,4 +1,4 @@
--- What a comparison looks into, in order, as a table over the shapes of its two answers; written from document 01, "Comparison", and not from the
+-- What a comparison looks into, in order, as a table over the shapes of its two answers; written from document 01, "Same type or not", and not from the
 -- rule: identical answers, and the number of a struct, need no look. Else the left is looked into, and its base if it is a pointer, then the right,
 -- and its base; the reading ends at the first kind that is unknown. Nothing deeper than a pointer's base is looked into.
 use Prim.Native.Nat.{ℕ}

@@ -7,6 +7,7 @@ use ir::TypeForm;
 use ir::TypeInner;
 use ir::TypeResolution;
 use rule_types::CanonicalForm;
+use rule_types::OptionBool;
 use type_forms::form_of;
 ghost use mathlib.Core.Path.{_≡_};
 ghost use Rattle.rule_types.specs.Canonical.{valuePointer, formFound, throughBase, canonicalFormIn};
@@ -22,22 +23,22 @@ fn is_atomic(t: TypeInner) -> bool
     }
 }
 
-fn is_atomic_form(form: TypeForm) -> bool
+fn is_atomic_form(form: TypeForm) -> OptionBool
     ensures { λ r. ⌜ r ≡ isAtomicForm form ⌝ }
 {
     match form {
-        TypeForm::Known(t) => is_atomic(t),
-        TypeForm::Unknown => false,
+        TypeForm::Known(t) => OptionBool::Some(is_atomic(t)),
+        TypeForm::Unknown => OptionBool::None,
     }
 }
 
-// Whether a type is a pointer to an atomic.
-pub fn is_atomic_pointer(t: TypeInner, frames: &[u8], s: Starts) -> bool
+// Whether a type is a pointer to an atomic; none where its base is of unknown kind.
+pub fn is_atomic_pointer(t: TypeInner, frames: &[u8], s: Starts) -> OptionBool
     ensures { λ r. ⌜ r ≡ isAtomicPointer (now (frames .entry)) s t ⌝ }
 {
     match t {
         TypeInner::Pointer { base, space: _ } => is_atomic_form(type_at(frames, s, base)),
-        _ => false,
+        _ => OptionBool::Some(false),
     }
 }
 
