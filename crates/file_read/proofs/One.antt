@@ -31,7 +31,7 @@ use Rattle.row_operands.specs.Past.{answerIn, pastIn}
 use Rattle.rule_compose.specs.Rows.{verdictRule, judged, verdictOf}
 use Rattle.rule_compose.specs.Judged.{toJudged}
 use Rattle.rule_compose.specs.ForProofs.{judgedBy, composeRule}
-use Rattle.law_rows.proofs.InOrder.{in-order-length}
+use Rattle.rule.proofs.InOrder.{in-order-at}
 use Rattle.rule_answers.specs.Outputs.{rowAnswer, rowFrames, outputs, framesBytes, outputBytes}
 use Rattle.rule_answers.specs.ForProofs.{placesOf}
 use Rattle.rule_answers.proofs.Bytes.{bytes-append}
@@ -69,20 +69,6 @@ build-goes-on f m (suc n) h = go (decLe m n) (build-goes-on f m n)
     go : Dec (m ≤ n) → (m ≤ n → GoesOn (build f n) (build f m)) → GoesOn (build f n ++ (f n ∷ [])) (build f m)
     go (yes l) ih = goes-on (build f n) (build f m) (f n ∷ []) (ih l)
     go (no l) ih = let e : m ≡ suc n = omega arith in rw e (record { more = []; is = sym (append-nil (build f n ++ (f n ∷ []))) })
-
--- row m among the first n is made from those before it
-in-order-at : {B : Type 0} (next : List B → ℕ → B) (d : B) (n m : ℕ) → m < n → getD (inOrder next n) m d ≡ next (inOrder next m) m
-in-order-at next d zero m h = absurd (omega arith)
-in-order-at next d (suc n) m h = go (decLt m n) (in-order-at next d n m)
-  where
-    go : Dec (m < n) → (m < n → getD (inOrder next n) m d ≡ next (inOrder next m) m)
-        → getD (inOrder next n ++ (next (inOrder next n) n ∷ [])) m d ≡ next (inOrder next m) m
-    go (yes l) ih = List·getD-append (inOrder next n) (next (inOrder next n) n ∷ []) d m (rw (in-order-length next n) l) ∙ ih l
-    go (no l) ih =
-        let e : m ≡ n = omega arith in
-        rw e
-        (ap (λ (k : ℕ). getD (inOrder next n ++ (next (inOrder next n) n ∷ [])) k d) (sym (in-order-length next n))
-        ∙ getD-append-seam (inOrder next n) (next (inOrder next n) n) [] d)
 
 -- the table is long enough
 pub places-long : (pass : Pass) (fr p rest : List ℕ) (n : ℕ) → p ≡ placesOf pass fr n ++ rest → n ≤ length p

@@ -6,7 +6,6 @@ pub mod Named
 pub mod Seen
 pub mod Made
 pub mod Rules
-pub mod InOrder
 pub mod Range
 pub mod NoDefault
 pub mod ByBytes

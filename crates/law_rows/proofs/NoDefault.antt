@@ -32,7 +32,7 @@ use Rattle.law_rows.proofs.Ranged.{TypedInRange, StepInRange, Each, IfS
 use Rattle.law_rows.proofs.There.{ShownInRange}
 use Rattle.law_rows.proofs.Seen.{each-append, row-seen}
 use Rattle.law_rows.proofs.Rules.{rule-keeps}
-use Rattle.law_rows.proofs.InOrder.{in-order-all, in-order-there}
+use Rattle.rule.proofs.InOrder.{in-order-all, in-order-there}
 use Rattle.law_rows.proofs.Range.{place-later, row-there}
 
 -- READINGS

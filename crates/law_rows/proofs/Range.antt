@@ -21,7 +21,7 @@ use Rattle.rule_rows.specs.declared.Pass.{Pass}
 use Rattle.rule_rows.specs.Typed.{typing}
 use Rattle.law_rows.proofs.Good.{Good}
 use Rattle.law_rows.proofs.Ranged.{TypeInRange, TypedInRange, PlaceInRange, InRange, Within, ends, comes, reads}
-use Rattle.law_rows.proofs.InOrder.{in-order-all}
+use Rattle.rule.proofs.InOrder.{in-order-all}
 use Rattle.law_rows.proofs.Rules.{rule-keeps}
 
 -- ONE RULE

@@ -1,5 +1,7 @@
 pub mod Choices
+pub mod InOrder
 pub mod Later
+pub mod LaterIs
 pub mod Named
 pub mod Shows
 pub mod Wider

@@ -39,3 +39,17 @@ at-within (x ∷ l) (suc i) d e h = at-within l i d e (omega arith)
 pub in-order-there : {B : Type 0} (next : List B → ℕ → B) (n m : ℕ) → m < n → (d e : B)
     → getD (inOrder next n) m d ≡ getD (inOrder next n) m e
 in-order-there next n m l d e = at-within (inOrder next n) m d e (rw (in-order-length next n) l)
+
+-- row m among the first n is made from those before it
+pub in-order-at : {B : Type 0} (next : List B → ℕ → B) (d : B) (n m : ℕ) → m < n → getD (inOrder next n) m d ≡ next (inOrder next m) m
+in-order-at next d zero m h = absurd (omega arith)
+in-order-at next d (suc n) m h = go (decLt m n) (in-order-at next d n m)
+  where
+    go : Dec (m < n) → (m < n → getD (inOrder next n) m d ≡ next (inOrder next m) m)
+        → getD (inOrder next n ++ (next (inOrder next n) n ∷ [])) m d ≡ next (inOrder next m) m
+    go (yes l) ih = List·getD-append (inOrder next n) (next (inOrder next n) n ∷ []) d m (rw (in-order-length next n) l) ∙ ih l
+    go (no l) ih =
+        let e : m ≡ n = omega arith in
+        rw e
+        (ap (λ (k : ℕ). getD (inOrder next n ++ (next (inOrder next n) n ∷ [])) k d) (sym (in-order-length next n))
+        ∙ getD-append-seam (inOrder next n) (next (inOrder next n) n) [] d)
