@@ -1,4 +1,4 @@
-// The declarations of the source (ir/mod.rs), its names and its order, in the forms that document 01 asks for: a number type
+// The declarations of the source (ir/mod.rs, lines 324 to 1916), its names and its order, in the forms that document 01 asks for: a number type
 // for each arena in the place of Handle<T>, enums by value, and an enum of its own for each Option.
 pub mod methods;
 pub mod numbers;
@@ -55,7 +55,7 @@ pub struct Scalar {
     pub width: u8,
 }
 
-// type_methods.rs
+// proc/type_methods.rs, lines 25 to 73
 impl Scalar {
     pub const I16: Self = Self {
         kind: ScalarKind::Sint,
