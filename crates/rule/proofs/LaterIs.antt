@@ -1,6 +1,6 @@
 -- What a later reader is (document 01, "A row's type"): it takes the rows in order, over its own earlier answers; each follows its rule, and where the rule
--- itself comes to a newer thing its answer is the chosen one. Four laws, one for each way that a rule goes on, which `later` has and no other reader. By the
--- definitions. Assumes nothing.
+-- itself comes to a newer thing its answer is the chosen one. Four laws, one for each way that a rule goes on; that of an earlier row is of the rows before
+-- the one in hand. By the definitions. Assumes nothing.
 use Prim.Native.Nat.{ℕ, _<_}
 use mathlib.Core.Path.{_≡_, refl, ap, _∙_}
 use mathlib.Core.Option.{none, some}

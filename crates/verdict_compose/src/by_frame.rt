@@ -1,5 +1,5 @@
 // What the frame of a component's answer shows of its type before any look: that it is the type of an element or a member. Where it does not show it, the
-// answer is compared. Without this test a file of composes takes half as long again as a plain loop may (docs/DECISIONS.md, "Forms").
+// answer is compared. Without this test a file of composes takes about 1.6 of the time of a plain loop (docs/DECISIONS.md, "Forms").
 use archive::Starts;
 use archive_access::families::is_type;
 use frames::Frame;
