@@ -1,5 +1,5 @@
--- The worked example: reading the text, the answer buffer that `type_rows` leaves, the comparisons of `same_type`, the later reader of the choice, and the readings give
--- what stands in the tables. Both sides compute to the same. Assumes nothing.
+-- The worked examples: of each, reading the text, the answer buffer that `type_rows` leaves, the comparisons of `same_type`, the later reader of the choice, and the
+-- readings give what stands in its tables. Both sides compute to the same. Assumes nothing.
 use Prim.Native.Nat.{ℕ, _*_}
 use mathlib.Core.Path.{_≡_, refl}
 use mathlib.Core.List.{List, [], _∷_, _++_, map}
@@ -37,61 +37,81 @@ use Rattle.file_read.specs.Types.{sameTypes}
 use Rattle.file_read.specs.Typing.{answersAfter}
 use Rattle.law_later_readers.specs.Reader.{rowBytes, verdictBytes, saidBytes, comparedBytes, theirs, meets}
 use Rattle.law_later_readers.specs.Ours.{framesFor, answersFor}
-use Rattle.case_later.specs.Worked.{text, choice, Asked, row, verdict, Two, Line, answers, comparisons}
+use Rattle.case_later.specs.Tables.{Asked, row, verdict, Two, Line, Example}
+use Rattle.case_later.specs.Worked as Worked
+use Rattle.case_later.specs.Chosen as Chosen
 
--- THE LATER READER'S, over a file whose frames these are; a row that is no compose has no verdict
+module _ (e : Example) where
+  -- the frames of the file
+  abbrev fr : List ℕ
+  fr = decoded (e .text) (e .frames)
 
-abbrev laterVerdict : List ℕ → ℕ → Option (Rule Judgement) → List ℕ
-laterVerdict fr m (some rule) = verdictBytes m (theirs First fr choice m (chosenJudgement (choice .verdicts m)) rule)
-laterVerdict fr m none = []
+  -- THE LATER READER'S; a row that is no compose has no verdict
 
-abbrev byLater : List ℕ → Asked → List ℕ
-byLater fr (row m) = rowBytes (theirs First fr choice m (rowAnswerOf (choice .rows m)) (typing First m))
-byLater fr (verdict m) = laterVerdict fr m (verdictRule (see fr) m)
+  abbrev laterVerdict : ℕ → Option (Rule Judgement) → List ℕ
+  laterVerdict m (some rule) = verdictBytes m (theirs First fr (e .choice) m (chosenJudgement (e .choice .verdicts m)) rule)
+  laterVerdict m none = []
 
--- WHAT A READING MEETS
+  abbrev byLater : Asked → List ℕ
+  byLater (row m) = rowBytes (theirs First fr (e .choice) m (rowAnswerOf (e .choice .rows m)) (typing First m))
+  byLater (verdict m) = laterVerdict m (verdictRule (see fr) m)
 
-abbrev metByVerdict : List ℕ → ℕ → Option (Rule Judgement) → Option Place
-metByVerdict fr m (some rule) = meets First fr m rule
-metByVerdict fr m none = none
+  -- WHAT A READING MEETS
 
-abbrev metBy : List ℕ → Asked → Option Place
-metBy fr (row m) = meets First fr m (typing First m)
-metBy fr (verdict m) = metByVerdict fr m (verdictRule (see fr) m)
+  abbrev metByVerdict : ℕ → Option (Rule Judgement) → Option Place
+  metByVerdict m (some rule) = meets First fr m rule
+  metByVerdict m none = none
 
--- OF TWO FRAMES, a whole line: ours by `sameTypes`, which the contract of `same_type` cites
-abbrev compared : List ℕ → Two → Line Two
-compared fr q =
-    let rule = handed (typeAnswerOf (q .left)) (typeAnswerOf (q .right)) in
-    record {
-      asked = q;
-      ours = saidBytes (samenessSaid (sameTypes 1024 text (length (framesFor text)) (q .left) (q .right)));
-      theirs = comparedBytes (theirs First fr choice 0 (choice .same (q .left) (q .right)) rule);
-      meets = meets First fr 0 rule;
-    }
+  abbrev metBy : Asked → Option Place
+  metBy (row m) = meets First fr m (typing First m)
+  metBy (verdict m) = metByVerdict m (verdictRule (see fr) m)
 
--- ALL OF IT: reading the text; the answer buffer, by `answersAfter`, which the contract of `type_rows` cites; the later reader's answers; what their readings meet;
--- the comparisons
-abbrev Whole : Type 0
-Whole = Outcome × List ℕ × List (List ℕ) × List (Option Place) × List (Line Two)
+  -- OF TWO FRAMES, a whole line: ours by `sameTypes`, which the contract of `same_type` cites
+  abbrev compared : Two → Line Two
+  compared q =
+      let rule = handed (typeAnswerOf (q .left)) (typeAnswerOf (q .right)) in
+      record {
+        asked = q;
+        ours = saidBytes (samenessSaid (sameTypes 1024 (e .text) (length (framesFor (e .text))) (q .left) (q .right)));
+        theirs = comparedBytes (theirs First fr (e .choice) 0 (e .choice .same (q .left) (q .right)) rule);
+        meets = meets First fr 0 rule;
+      }
 
-abbrev computed : List ℕ → Whole
-computed fr = (
-  readFile 1024 text (16 * lineCount text) (Lent (answerBytes text)),
-  answersAfter First 1024 text (length (framesFor text)) (answersFor text),
-  map (λ (l : Line Asked). byLater fr (l .asked)) answers,
-  map (λ (l : Line Asked). metBy fr (l .asked)) answers,
-  map (λ (l : Line Two). compared fr (l .asked)) comparisons,
-)
+  -- ALL OF IT: reading the text; the answer buffer, by `answersAfter`, which the contract of `type_rows` cites; the later reader's answers; what their readings
+  -- meet; the comparisons
+  abbrev Whole : Type 0
+  Whole = Outcome × List ℕ × List (List ℕ) × List (Option Place) × List (Line Two)
 
-abbrev oursOf : List (Line Asked) → List ℕ
-oursOf [] = []
-oursOf (l ∷ ls) = l .ours ++ oursOf ls
+  abbrev computed : Whole
+  computed = (
+    readFile 1024 (e .text) (16 * lineCount (e .text)) (Lent (answerBytes (e .text))),
+    answersAfter First 1024 (e .text) (length (framesFor (e .text))) (answersFor (e .text)),
+    map (λ (l : Line Asked). byLater (l .asked)) (e .answers),
+    map (λ (l : Line Asked). metBy (l .asked)) (e .answers),
+    map (λ (l : Line Two). compared (l .asked)) (e .comparisons),
+  )
 
-abbrev written : Whole
-written =
-    (Accepted 35, oursOf answers, map (λ (l : Line Asked). l .theirs) answers, map (λ (l : Line Asked). l .meets) answers, comparisons)
+  abbrev oursOf : List (Line Asked) → List ℕ
+  oursOf [] = []
+  oursOf (l ∷ ls) = l .ours ++ oursOf ls
 
-worked : computed (decoded text 35) ≡ written
+  abbrev written : Whole
+  written = (
+    Accepted (e .frames),
+    oursOf (e .answers),
+    map (λ (l : Line Asked). l .theirs) (e .answers),
+    map (λ (l : Line Asked). l .meets) (e .answers),
+    e .comparisons,
+  )
+
+  abbrev IsAsWritten : Type 0
+  IsAsWritten = computed ≡ written
+
+worked : IsAsWritten Worked.example
 unfolding lowest allBelow build sumBelow digitValue digitOf lineOk byteOf charOf answerFrames tooShort mostFrames readText frameAt typeOf itemOf rowOf memberOf componentOf fieldsFit orderOk start startsOf namesOk earlyOk indexOk checkFrames readFile typeIn rowIn listed equalTypes identical sameIn sameType eachPart vectorParts outputs framesBytes sameTypes answersAfter
 worked = refl
+
+-- and with chosen answers that no rule of ours makes
+chosen-worked : IsAsWritten Chosen.example
+unfolding lowest allBelow build sumBelow digitValue digitOf lineOk byteOf charOf answerFrames tooShort mostFrames readText frameAt typeOf itemOf rowOf memberOf componentOf fieldsFit orderOk start startsOf namesOk earlyOk indexOk checkFrames readFile typeIn rowIn listed equalTypes identical sameIn sameType eachPart vectorParts outputs framesBytes sameTypes answersAfter
+chosen-worked = refl

@@ -2,15 +2,12 @@
 -- kind and a Math row, a later reader's choice, and what we give, what the later reader gives and what the reading meets, for every row, compose and some comparisons.
 use Prim.Native.Nat.{ℕ}
 use mathlib.Core.List.{List, [], _∷_, _++_}
-use mathlib.Core.Option.{Option, none, some}
 use lib.ListN.{getD}
 use Rattle.text.specs.Lines.{textOf}
-use Rattle.frames.specs.declared.Frame.{Frame}
-use Rattle.frames.specs.Bytes.{frameAt}
-use Rattle.rule.specs.Answers.{Place, component, composed, nowhere, told, alike}
-use Rattle.rule.specs.Answers as Answers
+use Rattle.rule.specs.Answers.{component, composed, nowhere, told, alike}
 use Rattle.frames.specs.Written.{full, short, plain, indexed, binary, compose, part, numbered, scalar, refusal, bound}
 use Rattle.law_later_readers.specs.Reader.{Choice}
+use Rattle.case_later.specs.Tables.{frame, Asked, row, verdict, Two, Line, known, newer, atRow, judged, two, Example}
 
 -- types 0 to 4: f32, a vector of two of it, kind 200, a pointer to it in Function, an array of two of it
 abbrev types : List ℕ
@@ -36,12 +33,6 @@ components =
     part 0 ++ part 5 ++ part 10 ++ part 10 ++ part 0 ++ part 16 ++ part 5 ++ part 0
     ++ part 6
 
-abbrev pub text : List ℕ
-text = textOf (types ++ locals ++ rows ++ components) 35
-
-abbrev frame : List ℕ → Frame
-frame b = frameAt b 0
-
 -- THE LATER READER'S CHOICE
 
 -- row 4 is a u32, row 5 type 0, row 6 a refusal with a number of its own, row 11 type 1; the others are not asked for, as their rules come to nothing newer
@@ -49,47 +40,12 @@ abbrev chosenRow : ℕ → List ℕ
 chosenRow m = getD ([] ∷ [] ∷ [] ∷ [] ∷ scalar 1 4 ∷ numbered 0 ∷ refusal 99 3 ∷ [] ∷ [] ∷ [] ∷ [] ∷ numbered 1 ∷ []) m []
 
 -- every verdict is number 30 on row 15; every two frames are the same type
-abbrev pub choice : Choice
+abbrev choice : Choice
 choice = record { rows = λ m. frame (chosenRow m); verdicts = λ m. frame (short 11 30 15 0 0 0 0 0); same = λ a b. told alike }
 
 -- THE TABLES
 
--- what is asked of the file: the answer of a row, or the verdict on a compose
-pub data Asked : Type 0 where
-  row verdict : ℕ → Asked
-
--- and of two frames: whether they are the same type
-pub record Two : Type 0 where
-  pub left : Frame
-  pub right : Frame
-
--- what is asked, our bytes, the later reader's, and the place of the newer thing that the reading meets
-pub record Line (A : Type 0) : Type 0 where
-  pub asked : A
-  pub ours : List ℕ
-  pub theirs : List ℕ
-  pub meets : Option Place
-
--- the reading meets none: both give the same
-abbrev known : {A : Type 0} → A → List ℕ → Line A
-known q b = record { asked = q; ours = b; theirs = b; meets = none }
-
--- it meets one: ours, theirs, and its place
-abbrev newer : {A : Type 0} → A → List ℕ → List ℕ → Place → Line A
-newer q b c p = record { asked = q; ours = b; theirs = c; meets = some p }
-
-abbrev atRow : ℕ → Place
-atRow m = Answers.row (record { 0 = m })
-
--- a verdict on row m, with its number and its component
-abbrev judged : ℕ → ℕ → ℕ → List ℕ
-judged m number i = short 11 number m 0 i 0 0 0
-
-abbrev two : List ℕ → List ℕ → Two
-two a b = record { left = frame a; right = frame b }
-
--- every row, and after a compose its verdict, as they stand in the answer buffer
-abbrev pub answers : List (Line Asked)
+abbrev answers : List (Line Asked)
 answers =
     known (row 0) (numbered 0)
     ∷ known (row 1) (short 9 6 1 0 0 0 0 0)
@@ -126,7 +82,7 @@ answers =
     ∷ newer (verdict 18) (judged 18 22 1) (judged 18 33 1) (component 1)
     ∷ []
 
-abbrev pub comparisons : List (Line Two)
+abbrev comparisons : List (Line Two)
 comparisons =
     -- a number and its value; two types
     known (two (numbered 0) (scalar 2 4)) (1 ∷ [])
@@ -137,3 +93,13 @@ comparisons =
     ∷ newer (two (numbered 0) (numbered 3)) (refusal 22 0) (1 ∷ []) nowhere
     ∷ known (two (numbered 5) (numbered 2)) (refusal 6 0)
     ∷ []
+
+abbrev pub example : Example
+example =
+    record {
+      text = textOf (types ++ locals ++ rows ++ components) 35;
+      frames = 35;
+      choice = choice;
+      answers = answers;
+      comparisons = comparisons;
+    }
