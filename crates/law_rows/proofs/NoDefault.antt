@@ -92,12 +92,17 @@ no-default pass fr good =
     follows fr n (amongReadings l) (λ r q. reading-later fr (r .0) n (omega arith) (amongReadings l r) (all (r .0) q))
     (rule-keeps pass fr good n (row-there fr n w)))
 
--- and so of the reading that the claim on later readers speaks of
+-- and so of the readings that a rule over the first n rows comes to
+pub earlier-in-range : (pass : Pass) (fr : List ℕ) → Good fr → (n : ℕ) → n ≤ rowCount (startsOf fr) → (r : RowNumber) → r .0 < n
+    → ReadingInRange fr n (amongReadings (readings (see fr) (typing pass) n) r)
+earlier-in-range pass fr good n w r q =
+    reading-later fr (r .0) n (omega arith) (amongReadings (readings (see fr) (typing pass) n) r) (no-default pass fr good n w (r .0) q)
+
+-- and of the reading that the claim on later readers speaks of
 pub reading-in-range : (pass : Pass) (fr : List ℕ) → Good fr → (n : ℕ) → n < rowCount (startsOf fr)
     → Each (StepInRange fr n) (reading (see fr) (typing pass) n (typing pass n))
 reading-in-range pass fr good n w =
-    let earlier = readings (see fr) (typing pass) n in
-    follows fr n (amongReadings earlier) (λ r q. reading-later fr (r .0) n (omega arith) (amongReadings earlier r) (no-default pass fr good n (omega arith) (r .0) q))
+    follows fr n (amongReadings (readings (see fr) (typing pass) n)) (earlier-in-range pass fr good n (omega arith))
     (rule-keeps pass fr good n (row-there fr n w)) .steps
 
 -- OPERANDS

@@ -2,25 +2,23 @@
 -- to 20, or newer at the row itself or an earlier one. Row by row, since every rule keeps within the file. Assumes nothing.
 use Prim.Native.Nat.{ℕ, _≤_, _<_}
 use native.Mathlib.Omega.{arith}
-use mathlib.Core.Path.{_≡_, refl, ap}
+use mathlib.Core.Path.{_≡_, refl}
 use mathlib.Core.Bool.{true}
 use mathlib.Core.List.{List}
 use mathlib.Core.Option.{Option, none, some}
 use lib.ListN.{getD}
 use borrow.Author.Tests.{lt-ltb}
 use Rattle.ir.specs.declared.RowNumber.{RowNumber}
-use Rattle.archive.specs.declared.Starts.{Starts}
 use Rattle.archive.specs.Starts.{startsOf, rowCount}
 use Rattle.archive.specs.Names.{isRow}
-use Rattle.rule.specs.declared.Fault.the-variants as Fa
-use Rattle.rule.specs.Answers.{TypeAnswer, number, value, malformed, Typed, Place, row, component, composed, nowhere, chosen, Result, told, newer}
-use Rattle.rule.specs.Things.{Seen, inRange, faultOf, see}
+use Rattle.rule.specs.Answers.{Typed, Place, row, component, composed, nowhere, chosen, Result, told, newer}
+use Rattle.rule.specs.Things.{Seen, see}
 use Rattle.rule.specs.Rule.{Rule, come, past, Answers, run}
 use Rattle.rule.specs.Claim.{absent, among, answers, ours}
 use Rattle.rule_rows.specs.declared.Pass.{Pass}
 use Rattle.rule_rows.specs.Typed.{typing}
 use Rattle.law_rows.proofs.Good.{Good}
-use Rattle.law_rows.proofs.Ranged.{TypeInRange, TypedInRange, PlaceInRange, InRange, Within, ends, comes, reads}
+use Rattle.law_rows.proofs.Ranged.{TypedInRange, PlaceInRange, InRange, Within, ends, comes, reads}
 use Rattle.rule.proofs.InOrder.{in-order-all}
 use Rattle.law_rows.proofs.Rules.{rule-keeps}
 
@@ -76,9 +74,3 @@ pub ours-in-range : (pass : Pass) (fr : List ℕ) → Good fr → (n : ℕ) → 
 ours-in-range pass fr good n w =
     let earlier = answers (see fr) (typing pass) (λ m. newer) n in
     runs fr n (among earlier) (λ r q. answer-later fr (r .0) n (omega arith) (among earlier r) (range pass fr good n (omega arith) (r .0) q)) (rule-keeps pass fr good n (row-there fr n w))
-
--- what is in range a comparison gives neither 5 nor 6
-pub in-range-sound : (s : Starts) (a : TypeAnswer) → TypeInRange s a → faultOf s a ≡ Fa.Sound
-in-range-sound s (number t) h = ap inRange h
-in-range-sound s (value t) h = h .0
-in-range-sound s (malformed f) h = absurd h

@@ -6,7 +6,7 @@ use mathlib.Core.Path.{_≡_, refl, sym, ap, _∙_}
 use mathlib.Core.Bool.{Bool, true, false}
 use mathlib.Core.List.{List, [], _∷_, _++_}
 use lib.Dec.{ltb}
-use lib.ListN.{getElem?}
+use lib.ListN.{length, getD, getElem?}
 use borrow.Author.Tests.{ltb-true, lt-ltb}
 use Rattle.scan.proofs.Laws.{by-test}
 use Rattle.ir.specs.declared.TypeNumber.{TypeNumber}
@@ -30,7 +30,7 @@ use Rattle.archive.specs.Access.{typeIn, rowIn}
 use Rattle.archive.proofs.Files.{item-names}
 use Rattle.rule.specs.declared.Fault.the-variants as Fa
 use Rattle.rule.specs.Answers.{TypeAnswer, number, value, malformed}
-use Rattle.rule.specs.Things.{listed, itemType, itemResult, maybeItem, shown, kind, form, isCount, inRange, arrayFault, valueFault, seeForm, seeRow, see}
+use Rattle.rule.specs.Things.{listed, itemType, itemResult, maybeItem, shown, kind, form, isCount, inRange, arrayFault, valueFault, faultOf, seeForm, seeRow, see}
 use Rattle.rule.proofs.Shows.{value-shows}
 use Rattle.law_rows.proofs.Good.{Good, IsItem}
 use Rattle.law_rows.proofs.There.{TypeThere, RowThere, InnerThere, ExpressionThere, ShownInRange}
@@ -52,11 +52,16 @@ module _ {A : Type 0} (P : A → Type 0) where
   each-listed f zero h = tt
   each-listed f (suc n) h = each-append (listed f n) (f n ∷ []) (each-listed f n (λ i l. h i (omega arith))) (h n (omega arith), tt)
 
-  -- an item by its place, where there is one
+  -- an item by its place, where there is one; with what stands for one that is not there
   pub each-at : (l : List A) (i : ℕ) → Each P l → IfSome P (getElem? l i)
   each-at [] i a = tt
   each-at (x ∷ l) zero a = a .0
   each-at (x ∷ l) (suc i) a = each-at l i (a .1)
+
+  pub each-within : (l : List A) (i : ℕ) (d : A) → Each P l → i < length l → P (getD l i d)
+  each-within [] i d a h = absurd (omega arith)
+  each-within (x ∷ l) zero d a h = a .0
+  each-within (x ∷ l) (suc i) d a h = each-within l i d (a .1) (omega arith)
 
 -- a value's base is a type of the file where a comparison gives it neither 5 nor 6
 range-sound : (b : Bool) → inRange b ≡ Fa.Sound → b ≡ true
@@ -83,6 +88,12 @@ value-base s (Ti.Sampler q) e = tt
 value-base s (Ti.AccelerationStructure q) e = tt
 value-base s (Ti.RayQuery q) e = tt
 value-base s (Ti.BindingArray b z) e = array-sound (isCount z) (isType s b) (sizeNames s z) e
+
+-- what is in range a comparison gives neither 5 nor 6
+pub in-range-sound : (s : Starts) (a : TypeAnswer) → TypeInRange s a → faultOf s a ≡ Fa.Sound
+in-range-sound s (number t) h = ap inRange h
+in-range-sound s (value t) h = h .0
+in-range-sound s (malformed f) h = absurd h
 
 module _ (fr : List ℕ) (good : Good fr) where
   -- ITEMS: one of kind j reads as such, and names a type of the file
@@ -174,8 +185,13 @@ module _ (fr : List ℕ) (good : Good fr) where
     form-shows (Tf.Known t) h = inner-shows t h
     form-shows Tf.Unknown h = tt
 
-  -- what a type in range shows is in range
+  -- what a type that a comparison gives neither 5 nor 6 shows is in range
+  pub sound-seen : (a : TypeAnswer) → faultOf (startsOf fr) a ≡ Fa.Sound → IfSome (FormInRange (startsOf fr)) (see fr (form a))
+  sound-seen (number n) e =
+      let here = range-sound (isType (startsOf fr) n) e in form-shows n here (typeIn fr (startsOf fr) n) (type-named fr good n here)
+  sound-seen (value t) e = rw (value-shows fr t e) (record { base = value-base (startsOf fr) t e; members = tt })
+  sound-seen (malformed f) e = never (cc)
+
+  -- and so what a type in range shows
   pub form-seen : (a : TypeAnswer) → TypeInRange (startsOf fr) a → IfSome (FormInRange (startsOf fr)) (see fr (form a))
-  form-seen (number n) here = form-shows n here (typeIn fr (startsOf fr) n) (type-named fr good n here)
-  form-seen (value t) h = rw (value-shows fr t (h .0)) (record { base = value-base (startsOf fr) t (h .0); members = tt })
-  form-seen (malformed f) e = absurd e
+  form-seen a h = sound-seen a (in-range-sound (startsOf fr) a h)

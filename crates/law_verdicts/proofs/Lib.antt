@@ -2,3 +2,4 @@ pub mod Composes
 pub mod Reading
 pub mod Numbers
 pub mod Each
+pub mod NoDefault

@@ -31,7 +31,7 @@ in-order-all P next d limit h (suc n) w m l = go (decLt m n) (λ j q. in-order-a
         rw (e, last) (h n (inOrder next n) (omega arith) ih)
 
 -- within a list, what stands for an item that is not there does not matter
-at-within : {B : Type 0} (l : List B) (i : ℕ) (d e : B) → i < length l → getD l i d ≡ getD l i e
+pub at-within : {B : Type 0} (l : List B) (i : ℕ) (d e : B) → i < length l → getD l i d ≡ getD l i e
 at-within [] i d e h = absurd (omega arith)
 at-within (x ∷ l) zero d e h = refl
 at-within (x ∷ l) (suc i) d e h = at-within l i d e (omega arith)
