@@ -113,7 +113,7 @@ answers =
     ∷ newer (row 2) (refusal 22 2) chosenRefusal (atRow 2)
     ∷ newer (row 3) (refusal 22 2) chosenRefusal (atRow 2)
     ∷ newer (row 4) (refusal 22 2) chosenRefusal (atRow 2)
-    -- a value with a bad byte: passed on; what was passed on looked into
+    -- a value with a bad byte: passed on; what was passed on is looked into, and the choice for that row stands
     ∷ newer (row 5) (refusal 22 5) badByte (atRow 5)
     ∷ newer (row 6) (refusal 22 5) badByte (atRow 5)
     ∷ newer (row 7) (refusal 22 5) (scalar 0 8) (atRow 5)
@@ -131,7 +131,7 @@ answers =
     ∷ newer (row 15) (refusal 22 15) chosen22 (atRow 15)
     ∷ newer (row 16) (refusal 22 15) chosen22 (atRow 15)
     ∷ newer (row 17) (refusal 22 15) chosen22 (atRow 15)
-    -- a struct as a value: passed on, looked into; its member's type is not found
+    -- a struct as a value: passed on; looked into, it is of unknown kind, as a comparison gives it 5, and its member is not found
     ∷ newer (row 18) (refusal 22 18) structValue (atRow 18)
     ∷ newer (row 19) (refusal 22 18) structValue (atRow 18)
     ∷ newer (row 20) (refusal 22 18) (refusal 99 5) (atRow 18)
