@@ -1,5 +1,5 @@
--- Every case of the table is what the definitions cited by the contracts of `type_text`, `read_file`, `type_rows`, `row_type`, `compose_verdict`, `same_type`,
--- `canonical_form` and `pointer_base` give: both sides compute to the same. Assumes nothing.
+-- Every case of the table is what the definitions cited by the contracts of `type_text`, `read_file`, `type_rows`, `type_file`, `row_type`,
+-- `compose_verdict`, `same_type`, `canonical_form` and `pointer_base` give: both sides compute to the same. Assumes nothing.
 use mathlib.Core.Path.{_≡_, refl}
 use mathlib.Core.List.{List, map}
 use Prim.Native.Nat.{ℕ}
@@ -27,7 +27,7 @@ use Rattle.rule_compose.specs.Verdict.{eachPart, vectorParts}
 use Rattle.rule_answers.specs.Outputs.{outputs, framesBytes}
 use Rattle.file_read.specs.File.{readFile, framesAfter}
 use Rattle.file_read.specs.Types.{sameTypes}
-use Rattle.file_read.specs.Typing.{answersAfter, rowType, answersAfterRow, composeVerdict, answersAfterVerdict, typedText}
+use Rattle.file_read.specs.Typing.{answersAfter, outputCount, rowType, answersAfterRow, composeVerdict, answersAfterVerdict, typedText}
 use Rattle.file_pointers.specs.Forms.{canonicalType, pointerBaseType}
 use Rattle.case_file.specs.Table.{Asked, print, read, types, row, verdict, same, canonical, base}
 use Rattle.case_file.specs.Table.{Answered, printed, outcome, typesAre, rowIs, verdictIs, sameness, canonicalIs, baseIs, Case, table}
@@ -35,25 +35,18 @@ use Rattle.case_file.specs.Table.{Answered, printed, outcome, typesAre, 
 abbrev Output : Type 0
 Output = Answered × List ℕ
 
--- what is answered, by `reader`'s definitions, which the contracts of the public functions cite
-abbrev answered : Case → Asked → Answered
-answered c print = printed (typedText First 1024 (c .text))
-answered c (types an) =
-    typesAre (readFile 1024 (c .text) (length (c .lent)) (Lent (length an))) (answersAfter First 1024 (c .text) (length (c .lent)) an)
-answered c (row n an) =
-    rowIs (rowType First 1024 (c .text) (length (c .lent)) (length an) (record {
-      0 =
-          n;
-    })) (answersAfterRow First 1024 (c .text) (length (c .lent)) an (record { 0 = n }))
-answered c (verdict n an) =
-    verdictIs (composeVerdict First 1024 (c .text) (length (c .lent)) (length an) (record {
-      0 =
-          n;
-    })) (answersAfterVerdict First 1024 (c .text) (length (c .lent)) an (record { 0 = n }))
-answered c read = outcome (readFile 1024 (c .text) (length (c .lent)) NotLent)
-answered c (same l r) = sameness (sameTypes 1024 (c .text) (length (c .lent)) l r)
-answered c (canonical n) = canonicalIs (canonicalType 1024 (c .text) (length (c .lent)) (record { 0 = n }))
-answered c (base n) = baseIs (pointerBaseType 1024 (c .text) (length (c .lent)) (record { 0 = n }))
+-- what is answered of a text over a frame buffer of f bytes, by the definitions that the contracts of the public functions cite
+abbrev answered : List ℕ → ℕ → Asked → Answered
+answered t f print = printed (typedText First 1024 t)
+answered t f read = outcome (readFile 1024 t f NotLent)
+answered t f (types an) =
+    typesAre (readFile 1024 t f (Lent (length an))) (outputCount First 1024 t f (length an)) (answersAfter First 1024 t f an)
+answered t f (row n an) = rowIs (rowType First 1024 t f (length an) (record { 0 = n })) (answersAfterRow First 1024 t f an (record { 0 = n }))
+answered t f (verdict n an) =
+    verdictIs (composeVerdict First 1024 t f (length an) (record { 0 = n })) (answersAfterVerdict First 1024 t f an (record { 0 = n }))
+answered t f (same l r) = sameness (sameTypes 1024 t f l r)
+answered t f (canonical n) = canonicalIs (canonicalType 1024 t f (record { 0 = n }))
+answered t f (base n) = baseIs (pointerBaseType 1024 t f (record { 0 = n }))
 
 -- the answer buffer lent
 abbrev roomOf : Asked → AnswerRoom
@@ -68,11 +61,11 @@ roomOf (base n) = NotLent
 
 -- and the frame buffer after it
 abbrev given : Case → Output
-given c = (answered c (c .asked), framesAfter 1024 (c .text) (c .lent) (roomOf (c .asked)))
+given c = (answered (c .text) (length (c .lent)) (c .asked), framesAfter 1024 (c .text) (c .lent) (roomOf (c .asked)))
 
 abbrev wanted : Case → Output
 wanted c = (c .answer, c .after)
 
 worked : map given table ≡ map wanted table
-unfolding lowest allBelow build sumBelow digitValue lineOk byteOf answerFrames tooShort mostFrames readText frameAt typeOf itemOf rowOf memberOf componentOf fieldsFit orderOk start startsOf namesOk earlyOk indexOk checkFrames readFile framesAfter listed typeIn equalTypes identical sameIn sameType sameTypes canonicalTypeIn pointerBaseIn canonicalType pointerBaseType rowIn eachPart vectorParts outputs framesBytes digitOf charOf answersAfter rowType answersAfterRow composeVerdict answersAfterVerdict typedText
+unfolding lowest allBelow build sumBelow digitValue lineOk byteOf answerFrames tooShort mostFrames readText frameAt typeOf itemOf rowOf memberOf componentOf fieldsFit orderOk start startsOf namesOk earlyOk indexOk checkFrames readFile framesAfter listed typeIn equalTypes identical sameIn sameType sameTypes canonicalTypeIn pointerBaseIn canonicalType pointerBaseType rowIn eachPart vectorParts outputs framesBytes digitOf charOf answersAfter outputCount rowType answersAfterRow composeVerdict answersAfterVerdict typedText
 worked = refl

@@ -6,7 +6,7 @@ use mathlib.Core.List.{List, [], _∷_, _++_}
 use lib.Dec.{ltb}
 use lib.ListN.{replicate}
 use Rattle.answers.specs.declared.Outcome.{Outcome}
-use Rattle.answers.specs.declared.Outcome.the-variants.{Accepted, Long, Short, Field}
+use Rattle.answers.specs.declared.Outcome.the-variants.{Accepted, Long, Torn, Short, Order, Field, Index}
 use Rattle.answers.specs.declared.Sameness.{Sameness}
 use Rattle.answers.specs.declared.Sameness.the-variants.{Same, Different}
 use Rattle.answers.specs.declared.CanonicalType.{CanonicalType}
@@ -53,11 +53,11 @@ pub data Asked : Type 0 where
   same : Frame → Frame → Asked
   canonical base : ℕ → Asked
 
--- with the answer buffer after it, where one is lent
+-- with the answer buffer after it, where one is lent; of the rows typed also how many frames are handed back, which `type_file` says
 pub data Answered : Type 0 where
   printed : List ℕ → Answered
   outcome : Outcome → Answered
-  typesAre : Outcome → List ℕ → Answered
+  typesAre : Outcome → ℕ → List ℕ → Answered
   rowIs : RowGiven → List ℕ → Answered
   verdictIs : VerdictGiven → List ℕ → Answered
   sameness : Sameness → Answered
@@ -241,6 +241,83 @@ file =
     "05000000000000000000000000000000" ∷
     "05000100000000000000000000000000" ∷ []
 
+-- FILES THAT ARE NOT ACCEPTED
+
+-- f32, a vec2 of it, row 0 a value of f32, row 1 a vec2 composed from row 0 twice: 6 frames, and 3 answers. A fault may stand in the vec2,
+-- in row 0 or in the last component.
+abbrev pair : String → String → String → List String
+pair vec2 row0 last =
+    "01010000020400000000000000000000" ∷
+    vec2 ∷
+    row0 ∷
+    "04050100020000000000000000000000" ∷
+    "05000000000000000000000000000000" ∷
+    last ∷ []
+
+abbrev sound : List String
+sound = pair "01020200020400000000000000000000" "04040000000000000000000000000000" "05000000000000000000000000000000"
+
+-- number 2 at line 2: a digit in upper case
+abbrev torn : List String
+torn = pair "01020200020400000000000000000000" "0404000000000000000000000000000A" "05000000000000000000000000000000"
+
+-- number 4 at frame 5: a row after a component
+abbrev disordered : List String
+disordered = pair "01020200020400000000000000000000" "04040000000000000000000000000000" "04040000000000000000000000000000"
+
+-- number 5 at frame 1: a vector of 5
+abbrev unfit : List String
+unfit = pair "01020500020400000000000000000000" "04040000000000000000000000000000" "05000000000000000000000000000000"
+
+-- number 6 at frame 5: a component that names its own compose
+abbrev misplaced : List String
+misplaced = pair "01020200020400000000000000000000" "04040000000000000000000000000000" "05000100000000000000000000000000"
+
+-- what `type_rows` (with `type_file`), `row_type` and `compose_verdict` do with a file that is not accepted ("Numbers handed back"): each gives
+-- the file's number and place; no frame is handed back; the answer buffer `an` stays as it was; the frame buffer is `after`. Row 9, which no
+-- file here has, gets the file's own number too.
+abbrev refused : List ℕ → List ℕ → List ℕ → Outcome → List ℕ → List Case
+refused t lent an o after =
+    record { text = t; lent = lent; asked = types an; answer = typesAre o 0 an; after = after }
+    ∷ record { text = t; lent = lent; asked = row 0 an; answer = rowIs (RowGiven.notAccepted o) an; after = after }
+    ∷ record { text = t; lent = lent; asked = row 9 an; answer = rowIs (RowGiven.notAccepted o) an; after = after }
+    ∷ record { text = t; lent = lent; asked = verdict 1 an; answer = verdictIs (VerdictGiven.notAccepted o) an; after = after }
+    ∷ record { text = t; lent = lent; asked = verdict 9 an; answer = verdictIs (VerdictGiven.notAccepted o) an; after = after }
+    ∷ []
+
+-- 1 to 3 change no buffer; 4 to 6 write the frame buffer, whose byte past the frames stays
+abbrev refusals : List Case
+refusals =
+    -- 33,793 bytes, none of them in a whole line: 1 comes before 2
+    refused (replicate 33793 10) (replicate 97 7) (replicate 49 9) (Long 1024) (replicate 97 7)
+    ++ refused (lines torn) (replicate 97 7) (replicate 49 9) (Torn 2) (replicate 97 7)
+    -- with both buffers too small: 2 comes before 3
+    ++ refused (lines torn) (replicate 95 7) (replicate 47 9) (Torn 2) (replicate 95 7)
+    -- a frame buffer, then an answer buffer, one byte too small; the same with a fault of order: 3 comes before 4
+    ++ refused (lines sound) (replicate 95 7) (replicate 49 9) Short (replicate 95 7)
+    ++ refused (lines sound) (replicate 97 7) (replicate 47 9) Short (replicate 97 7)
+    ++ refused (lines disordered) (replicate 97 7) (replicate 63 9) Short (replicate 97 7)
+    -- from here on the frames are written
+    ++ refused (lines disordered) (replicate 97 7) (replicate 65 9) (Order 5) (frames disordered ++ 7 ∷ [])
+    ++ refused (lines unfit) (replicate 97 7) (replicate 49 9) (Field 1) (frames unfit ++ 7 ∷ [])
+    ++ refused (lines misplaced) (replicate 97 7) (replicate 49 9) (Index 5) (frames misplaced ++ 7 ∷ [])
+    -- the line that each prints: number and place
+    ++ prints (lines torn) ("0a020200000000000000000000000000" ∷ [])
+    ∷ prints (lines disordered) ("0a040500000000000000000000000000" ∷ [])
+    ∷ prints (lines unfit) ("0a050100000000000000000000000000" ∷ [])
+    ∷ prints (lines misplaced) ("0a060500000000000000000000000000" ∷ [])
+    -- the same file without a fault is typed
+    ∷ record {
+      text = lines sound;
+      lent = replicate 97 7;
+      asked = types (replicate 49 9);
+      answer =
+          typesAre (Accepted 6) 3
+          (frames ("08000000000000000000000000000000" ∷ "08000100000000000000000000000000" ∷ "0b000100000000000000000000000000" ∷ []) ++ 9 ∷ []);
+      after = frames sound ++ 7 ∷ [];
+    }
+    ∷ []
+
 abbrev pub table : List Case
 table =
     -- the document's file, and its six lines
@@ -279,14 +356,12 @@ table =
     ∷ record { text = lines noCount; lent = replicate 33 7; asked = read; answer = outcome (Field 1); after = frames noCount ++ 7 ∷ [] }
     ∷ record { text = lines (replicate 1025 "01010000020400000000000000000000"); lent = 7 ∷ []; asked = read; answer = outcome (Long 1024); after = 7 ∷ [] }
     -- rows over buffers that are lent: all, one, and one compose; a row that the file does not have, and one that is no compose, leave the answer buffer
-    ∷ ofComposes (types (replicate 97 9)) (typesAre (Accepted 11) (frames composed ++ 9 ∷ []))
+    ∷ ofComposes (types (replicate 97 9)) (typesAre (Accepted 11) 6 (frames composed ++ 9 ∷ []))
     ∷ ofComposes (row 3 (replicate 97 9)) (rowIs (RowGiven.answer (told (given (number (record { 0 = 2 }))))) (frames composed ++ 9 ∷ []))
     ∷ ofComposes (row 4 (replicate 97 9)) (rowIs RowGiven.noRow (replicate 97 9))
     ∷ ofComposes (verdict 3 (replicate 97 9)) (verdictIs (VerdictGiven.verdict (told (count 4 6))) (frames composed ++ 9 ∷ []))
     ∷ ofComposes (verdict 1 (replicate 97 9)) (verdictIs noCompose (replicate 97 9))
     ∷ ofComposes (verdict 4 (replicate 97 9)) (verdictIs VerdictGiven.noRow (replicate 97 9))
-    -- an answer buffer that is too small changes nothing
-    ∷ record { text = lines composes; lent = replicate 177 7; asked = types (replicate 95 9); answer = typesAre Short (replicate 95 9); after = replicate 177 7 }
     -- the value pointer of a pointer to a scalar or vector, in its space; every other type is its own, by its number
     ∷ ofPointers (canonical 2) (canonicalIs (Ct.Form (Tr.Value (Ti.ValuePointer Ov.None F32 Sp.Function))))
     ∷ ofPointers (canonical 3) (canonicalIs (Ct.Form (Tr.Value (Ti.ValuePointer (Ov.Some Vs.Tri) F32 Sp.Private))))
@@ -310,4 +385,5 @@ table =
     ∷ record { text = lines paper; lent = replicate 176 7; asked = read; answer = outcome (Accepted 11); after = frames paper }
     -- a frame of each kind
     ∷ record { text = lines file; lent = replicate 976 7; asked = read; answer = outcome (Accepted 61); after = frames file }
-    ∷ []
+    -- files that are not accepted
+    ∷ refusals

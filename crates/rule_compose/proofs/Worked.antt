@@ -36,6 +36,6 @@ unfolding eachPart vectorParts equalTypes identical listed typeIn rowIn frameAt 
 worked = refl
 
 -- the file passes checks 4 to 6
-accepted : checkFrames file ≡ Accepted 58
+accepted : checkFrames file ≡ Accepted 191
 unfolding lowest allBelow build sumBelow frameAt typeOf itemOf rowOf memberOf componentOf fieldsFit orderOk start startsOf namesOk earlyOk indexOk checkFrames
 accepted = refl
