@@ -274,12 +274,12 @@ abbrev misplaced : List String
 misplaced = pair "01020200020400000000000000000000" "04040000000000000000000000000000" "05000100000000000000000000000000"
 
 -- what `type_rows` (with `type_file`), `row_type` and `compose_verdict` do with a file that is not accepted ("Numbers handed back"): each gives
--- the file's number and place; no frame is handed back; the answer buffer `an` stays as it was; the frame buffer is `after`. Row 9, which no
--- file here has, gets the file's own number too.
+-- the file's number and place; no frame is handed back; the answer buffer `an` stays as it was; the frame buffer is `after`. Row 1 is a
+-- compose, and row 9 none of the file's: that it is out of range is found out after the file is accepted, so it gets the file's number too.
 abbrev refused : List ℕ → List ℕ → List ℕ → Outcome → List ℕ → List Case
 refused t lent an o after =
     record { text = t; lent = lent; asked = types an; answer = typesAre o 0 an; after = after }
-    ∷ record { text = t; lent = lent; asked = row 0 an; answer = rowIs (RowGiven.notAccepted o) an; after = after }
+    ∷ record { text = t; lent = lent; asked = row 1 an; answer = rowIs (RowGiven.notAccepted o) an; after = after }
     ∷ record { text = t; lent = lent; asked = row 9 an; answer = rowIs (RowGiven.notAccepted o) an; after = after }
     ∷ record { text = t; lent = lent; asked = verdict 1 an; answer = verdictIs (VerdictGiven.notAccepted o) an; after = after }
     ∷ record { text = t; lent = lent; asked = verdict 9 an; answer = verdictIs (VerdictGiven.notAccepted o) an; after = after }
