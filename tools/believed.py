@@ -35,7 +35,9 @@ theorem file_read/proofs/Laws.antt buffer-written buffer-long buffer-torn buffer
 theorem law_rows/proofs/Range.antt range
 theorem law_verdicts/proofs/Numbers.antt verdict-numbers
 theorem law_verdicts/proofs/Each.antt one-each
-theorem law_later_readers/proofs/Said.antt row-said verdict-said
+theorem file_read/proofs/Said.antt row-said verdict-said
+theorem file_read/proofs/Printed.antt text-fits
+theorem explain_file/proofs/Fits.antt explained-fits
 theorem law_later_readers/proofs/Ours.antt type-rows-keeps row-type-keeps just-enough
 theorem law_later_readers/proofs/Only.antt only-ours
 theorem law_later_readers/proofs/ShutOut.antt not-all-newer not-before-reading not-as-another not-at-itself

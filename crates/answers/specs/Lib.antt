@@ -1,2 +1,3 @@
+pub mod Limit
 pub mod Numbers
 pub mod ForProofs

@@ -14,11 +14,8 @@ use Rattle.answers.specs.declared.PointerBase.{PointerBase}
 use Rattle.answers.specs.declared.PointerBase.the-variants as P
 use Rattle.answers.specs.declared.CanonicalType.{CanonicalType}
 use Rattle.answers.specs.declared.CanonicalType.the-variants as C
-use Rattle.answers.specs.declared.Answer.{Answer}
-use Rattle.answers.specs.declared.RowType.{RowType}
-use Rattle.answers.specs.declared.RowType.the-variants as Rt
-use Rattle.answers.specs.declared.ComposeVerdict.{ComposeVerdict}
-use Rattle.answers.specs.declared.ComposeVerdict.the-variants as Cv
+use Rattle.answers.specs.declared.Printed.{Printed}
+use Rattle.answers.specs.declared.Printed.the-variants as Pr
 use Rattle.ir.specs.declared.TypeResolution.{TypeResolution}
 
 -- the values of a refusal's frame, family 10: number, place, index, indexed
@@ -32,9 +29,17 @@ pub record Refused : Type 0 where
 abbrev pub at : ℕ → ℕ → Refused
 at n p = record { number = n; place = p; index = 0; indexed = false }
 
+-- nothing is refused (docs/DECISIONS.md: the papers number refusals only)
+abbrev pub noRefusal : Refused
+noRefusal = at 0 0
+
+-- a row or a type that the file does not have: number 6, place 0
+abbrev pub notThere : Refused
+notThere = at 6 0
+
 -- what reading a file gives: numbers 1 to 6, and 0 for a file that is accepted
 abbrev pub outcomeValues : Outcome → Refused
-outcomeValues (O.Accepted n) = at 0 0
+outcomeValues (O.Accepted n) = noRefusal
 outcomeValues (O.Long m) = at 1 m
 outcomeValues (O.Torn k) = at 2 k
 outcomeValues O.Short = at 3 0
@@ -82,7 +87,7 @@ samenessSaid S.Same = alike
 samenessSaid S.Different = different
 samenessSaid S.Newer = numbered (at 22 0)
 samenessSaid S.Field = numbered (at 5 0)
-samenessSaid S.Index = numbered (at 6 0)
+samenessSaid S.Index = numbered notThere
 samenessSaid (S.NotAccepted o) = numbered (outcomeValues o)
 
 -- what is said of a type: a type, that it is no pointer, or a number with its place
@@ -95,29 +100,22 @@ abbrev pub baseSaid : PointerBase → SaidOf
 baseSaid (P.Base t) = type t
 baseSaid P.NotPointer = noPointer
 baseSaid P.Newer = refused (at 22 0)
-baseSaid P.Index = refused (at 6 0)
+baseSaid P.Index = refused notThere
 baseSaid (P.NotAccepted o) = refused (outcomeValues o)
 
 abbrev pub canonicalSaid : CanonicalType → SaidOf
 canonicalSaid (C.Form t) = type t
 canonicalSaid C.Newer = refused (at 22 0)
-canonicalSaid C.Index = refused (at 6 0)
+canonicalSaid C.Index = refused notThere
 canonicalSaid (C.NotAccepted o) = refused (outcomeValues o)
 
--- what is said of one row, or of one compose: what was asked for, or a number with its place
+-- what is said where one thing is asked for: what was asked for, or a number with its place. For a row's answer and a compose's verdict: `rowTypeSaid`,
+-- `composeVerdictSaid` (frames/specs/Out.antt)
 pub data SaidOne (A : Type 0) : Type 0 where
   asked : A → SaidOne A
   instead : Refused → SaidOne A
 
--- a row that the file does not have is number 6, place 0
-abbrev pub rowTypeSaid : RowType → SaidOne Answer
-rowTypeSaid (Rt.Answered a) = asked a
-rowTypeSaid Rt.Index = instead (at 6 0)
-rowTypeSaid (Rt.NotAccepted o) = instead (outcomeValues o)
-
--- and so is a row that is no compose: no compose has that number
-abbrev pub composeVerdictSaid : ComposeVerdict → SaidOne Verdict
-composeVerdictSaid (Cv.Judged v) = asked v
-composeVerdictSaid Cv.NotCompose = instead (at 6 0)
-composeVerdictSaid Cv.Index = instead (at 6 0)
-composeVerdictSaid (Cv.NotAccepted o) = instead (outcomeValues o)
+-- lines: how many bytes are written, or number 3
+abbrev pub printedSaid : Printed → SaidOne ℕ
+printedSaid (Pr.Bytes n) = asked n
+printedSaid Pr.Short = instead (outcomeValues O.Short)

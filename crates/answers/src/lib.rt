@@ -6,6 +6,20 @@ use ir::TypeResolution;
 ghost use mathlib.Core.Path.{_≡_};
 ghost use Rattle.answers.specs.ForProofs.{answered};
 
+// The most frames that a file may have, whatever the limit; the same as a limit handed in; and the bytes that a file of so many fills at most: its text, its frames, its answers and verdicts, and the lines of
+// these (specs/Limit.antt).
+pub const MAX_FRAMES: usize = 1024;
+
+pub const MAX_LIMIT: u32 = MAX_FRAMES as u32;
+
+pub const MAX_TEXT_BYTES: usize = 33 * MAX_FRAMES;
+
+pub const MAX_FRAME_BYTES: usize = 16 * MAX_FRAMES;
+
+pub const MAX_ANSWER_BYTES: usize = 2 * MAX_FRAME_BYTES;
+
+pub const MAX_LINE_BYTES: usize = 2 * MAX_TEXT_BYTES;
+
 // What reading a file gives. A place is the number of a line or of a frame, from 0.
 pub enum Outcome {
     Accepted { frames: usize },
@@ -108,4 +122,10 @@ pub enum ComposeVerdict {
     NotCompose,
     Index,
     NotAccepted(Outcome),
+}
+
+// What writing lines gives: how many bytes are written, or that the buffer for them is too small.
+pub enum Printed {
+    Bytes(usize),
+    Short,
 }

@@ -13,6 +13,7 @@ use Rattle.scan.specs.declared.Found.the-variants.{At, Nothing}
 use Rattle.scan.proofs.Laws.{LowestAt, lowest-all, none-all, found-at, at-found}
 use Rattle.answers.specs.declared.Outcome.{Outcome}
 use Rattle.answers.specs.declared.Outcome.the-variants.{Accepted, Long, Torn, Short, Order, Field, Index}
+use Rattle.answers.specs.Limit.{maxFrames}
 use Rattle.frames.specs.Bytes.{frameCount}
 use Rattle.archive.specs.Order.{orderOk}
 use Rattle.archive.specs.Checks.{fieldOk, indexOk, unless, checkFrames}
@@ -28,7 +29,7 @@ FailsAt ok fr p = LowestAt (ok fr) (frameCount fr) p
 never : {X : Type 0} → _≡_ {A = ℕ} 0 1 → X
 never z = absurd (omega arith)
 
-module _ (fr : List ℕ) (few : frameCount fr ≤ 1024) where
+module _ (fr : List ℕ) (few : frameCount fr ≤ maxFrames) where
   -- the four outcomes of checks 4 to 6, and what each says
   pub by-check : (P : Outcome → Type 0) → ((p : ℕ) → FailsAt orderOk fr p → P (Order p))
       → ((p : ℕ) → Holds orderOk fr → FailsAt fieldOk fr p → P (Field p))
@@ -36,7 +37,7 @@ module _ (fr : List ℕ) (few : frameCount fr ≤ 1024) where
       → (Holds orderOk fr → Holds fieldOk fr → Holds indexOk fr → P (Accepted (frameCount fr))) → P (checkFrames fr)
   unfolding checkFrames
   by-check P order field index accepted =
-      rw (le-ltb 1024 (frameCount fr) few)
+      rw (le-ltb maxFrames (frameCount fr) few)
       (one (lowest (orderOk fr) (frameCount fr)) (lowest (fieldOk fr) (frameCount fr)) (lowest (indexOk fr) (frameCount fr)) refl refl refl)
     where
       one : (f g h : Found) → lowest (orderOk fr) (frameCount fr) ≡ f → lowest (fieldOk fr) (frameCount fr) ≡ g
@@ -54,7 +55,7 @@ module _ (fr : List ℕ) (few : frameCount fr ≤ 1024) where
   unfolding checkFrames
   order-when p = (
     by-check (λ r. r ≡ Order p → FailsAt orderOk fr p) (λ j a e. let q : j ≡ p = cc in rw q at a) (λ j h a e. never (cc)) (λ j h g a e. never (cc)) (λ h g i e. never (cc)),
-    λ a. rw (le-ltb 1024 (frameCount fr) few, at-found (orderOk fr) (frameCount fr) p a),
+    λ a. rw (le-ltb maxFrames (frameCount fr) few, at-found (orderOk fr) (frameCount fr) p a),
   )
 
   -- number 5 at p: exactly when all frames are in order, and p is the lowest with a byte outside its values
@@ -62,7 +63,7 @@ module _ (fr : List ℕ) (few : frameCount fr ≤ 1024) where
   unfolding checkFrames
   field-when p = (
     by-check (λ r. r ≡ Field p → Holds orderOk fr × FailsAt fieldOk fr p) (λ j a e. never (cc)) (λ j h a e. let q : j ≡ p = cc in (h, rw q at a)) (λ j h g a e. never (cc)) (λ h g i e. never (cc)),
-    λ a. rw (le-ltb 1024 (frameCount fr) few, lowest-all (orderOk fr) (frameCount fr) (a .0), at-found (fieldOk fr) (frameCount fr) p (a .1)),
+    λ a. rw (le-ltb maxFrames (frameCount fr) few, lowest-all (orderOk fr) (frameCount fr) (a .0), at-found (fieldOk fr) (frameCount fr) p (a .1)),
   )
 
   -- number 6 at p: exactly when checks 4 and 5 hold of all frames, and p is the lowest that names wrongly
@@ -70,7 +71,7 @@ module _ (fr : List ℕ) (few : frameCount fr ≤ 1024) where
   unfolding checkFrames
   index-when p = (
     by-check (λ r. r ≡ Index p → Holds orderOk fr × Holds fieldOk fr × FailsAt indexOk fr p) (λ j a e. never (cc)) (λ j h a e. never (cc)) (λ j h g a e. let q : j ≡ p = cc in (h, g, rw q at a)) (λ h g i e. never (cc)),
-    λ a. rw (le-ltb 1024 (frameCount fr) few, lowest-all (orderOk fr) (frameCount fr) (a .0), lowest-all (fieldOk fr) (frameCount fr) (a .1), at-found (indexOk fr) (frameCount fr) p (a .2)),
+    λ a. rw (le-ltb maxFrames (frameCount fr) few, lowest-all (orderOk fr) (frameCount fr) (a .0), lowest-all (fieldOk fr) (frameCount fr) (a .1), at-found (indexOk fr) (frameCount fr) p (a .2)),
   )
 
   -- accepted: exactly when all three hold of all frames
@@ -79,5 +80,5 @@ module _ (fr : List ℕ) (few : frameCount fr ≤ 1024) where
   unfolding checkFrames
   accepted-when n = (
     by-check (λ r. r ≡ Accepted n → (n ≡ frameCount fr) × Holds orderOk fr × Holds fieldOk fr × Holds indexOk fr) (λ j a e. never (cc)) (λ j h a e. never (cc)) (λ j h g a e. never (cc)) (λ h g i e. ((cc), h, g, i)),
-    λ a. rw (le-ltb 1024 (frameCount fr) few, lowest-all (orderOk fr) (frameCount fr) (a .1), lowest-all (fieldOk fr) (frameCount fr) (a .2), lowest-all (indexOk fr) (frameCount fr) (a .3), ← a .0),
+    λ a. rw (le-ltb maxFrames (frameCount fr) few, lowest-all (orderOk fr) (frameCount fr) (a .1), lowest-all (fieldOk fr) (frameCount fr) (a .2), lowest-all (indexOk fr) (frameCount fr) (a .3), ← a .0),
   )

@@ -8,6 +8,7 @@ use Rattle.scan.specs.declared.Found.{Found}
 use Rattle.scan.specs.declared.Found.the-variants.{At, Nothing}
 use Rattle.answers.specs.declared.Outcome.{Outcome}
 use Rattle.answers.specs.declared.Outcome.the-variants.{Accepted, Long, Order, Field, Index}
+use Rattle.answers.specs.Limit.{maxFrames}
 use Rattle.frames.specs.Bytes.{frameAt, frameCount}
 use Rattle.frames.specs.Forms.{fieldsFit}
 use Rattle.archive.specs.Order.{orderOk}
@@ -27,9 +28,9 @@ abbrev pub unless : (ℕ → Outcome) → Found → Outcome → Outcome
 unless refused (At k) rest = refused k
 unless refused Nothing rest = rest
 
--- the checks in their order; over 1,024 frames is number 1
+-- the checks in their order; over `maxFrames` is number 1, as no limit is handed in
 unfoldable pub checkFrames : List ℕ → Outcome
 checkFrames fr =
     let n = frameCount fr in
-    cond (ltb 1024 n) (Long 1024)
+    cond (ltb maxFrames n) (Long maxFrames)
     (unless Order (lowest (orderOk fr) n) (unless Field (lowest (fieldOk fr) n) (unless Index (lowest (indexOk fr) n) (Accepted n))))

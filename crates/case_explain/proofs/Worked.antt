@@ -1,8 +1,10 @@
 -- Every case of the table is what the definitions cited by the contract of `explain_text` give: both sides compute to the same. Assumes nothing.
 use mathlib.Core.Path.{_≡_, refl}
-use mathlib.Core.List.{List, map}
-use Prim.Native.Nat.{ℕ}
-use lib.ListN.{length, take}
+use mathlib.Core.List.{List, map, _++_}
+use Prim.Native.Nat.{ℕ, _+_, _-_}
+use lib.ListN.{length, replicate}
+use Rattle.answers.specs.declared.Printed.{Printed}
+use Rattle.answers.specs.declared.Printed.the-variants.{Bytes, Short}
 use Rattle.scan.specs.Lowest.{lowest, allBelow}
 use Rattle.scan.specs.Lists.{build, sumBelow}
 use Rattle.text.specs.Hex.{digitValue, digitOf}
@@ -22,22 +24,35 @@ use Rattle.rule_types.specs.Comparison.{sameIn, sameType}
 use Rattle.rule_compose.specs.Verdict.{eachPart, vectorParts}
 use Rattle.rule_answers.specs.Outputs.{outputs, framesBytes}
 use Rattle.file_read.specs.File.{readFile}
+use Rattle.file_read.specs.Printed.{printed, printedAfter}
 use Rattle.explain_words.specs.Words as W
 use Rattle.explain_words.specs.Words.{wordBytes}
 use Rattle.explain_words.specs.Lines.{digits, pieceBytes, spelled}
 use Rattle.explain_words.specs.ForProofs.{lines}
 use Rattle.explain_lines.specs.Types.{picked, named, scalarWords, around, vector, brief, within, pointer, array, cooperative, className, arrayedName, image, whole}
 use Rattle.explain_lines.specs.Answers.{manner, refusal, judged, said, shown, ending, lineOf, faultWords}
-use Rattle.explain_file.specs.Explained.{joined, fitting, nextRow, rowAt, linesOf, explained, explainedIn}
-use Rattle.case_explain.specs.Table.{Case, table}
+use Rattle.explain_file.specs.Explained.{joined, nextRow, rowAt, linesOf, explained}
+use Rattle.case_explain.specs.Table.{Room, over, below, Case, table}
 
--- what is written, and how many bytes
-abbrev given : Case → List ℕ × ℕ
-given c = let n = explainedIn (lines (c .text)) (c .room) in (take n (explained (lines (c .text))), n)
+-- the output buffer, of bytes 7
+abbrev sized : ℕ → Room → ℕ
+sized n (over k) = n + k
+sized n (below k) = n - k
 
-abbrev wanted : Case → List ℕ × ℕ
-wanted c = (lines (c .said), length (lines (c .said)))
+abbrev lent : Case → List ℕ
+lent c = replicate (sized (length (lines (c .lines))) (c .room)) 7
+
+-- what is given, and what is left of the buffer
+abbrev given : Case → Printed × List ℕ
+given c = (printed (explained (lines (c .text))) (length (lent c)), printedAfter (explained (lines (c .text))) (lent c))
+
+abbrev left : List ℕ → Room → Printed × List ℕ
+left l (over k) = (Bytes (length l), l ++ replicate k 7)
+left l (below k) = (Short, replicate (length l - k) 7)
+
+abbrev wanted : Case → Printed × List ℕ
+wanted c = left (lines (c .lines)) (c .room)
 
 worked : map given table ≡ map wanted table
-unfolding lowest allBelow build sumBelow digitValue lineOk byteOf answerFrames tooShort mostFrames readText frameAt typeOf itemOf rowOf memberOf componentOf fieldsFit orderOk start startsOf namesOk earlyOk indexOk checkFrames readFile listed typeIn equalTypes identical sameIn sameType canonicalTypeIn pointerBaseIn rowIn eachPart vectorParts outputs framesBytes digitOf charOf wordBytes W.table digits pieceBytes spelled picked named scalarWords around vector brief within pointer array cooperative className arrayedName image whole manner refusal judged said shown ending lineOf faultWords joined fitting nextRow rowAt linesOf
+unfolding lowest allBelow build sumBelow digitValue lineOk byteOf answerFrames tooShort mostFrames readText frameAt typeOf itemOf rowOf memberOf componentOf fieldsFit orderOk start startsOf namesOk earlyOk indexOk checkFrames readFile printed printedAfter listed typeIn equalTypes identical sameIn sameType canonicalTypeIn pointerBaseIn rowIn eachPart vectorParts outputs framesBytes digitOf charOf wordBytes W.table digits pieceBytes spelled picked named scalarWords around vector brief within pointer array cooperative className arrayedName image whole manner refusal judged said shown ending lineOf faultWords joined nextRow rowAt linesOf
 worked = refl

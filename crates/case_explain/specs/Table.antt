@@ -4,15 +4,19 @@ use Prim.Native.String.{String}
 use mathlib.Core.List.{List, [], _∷_}
 use Rattle.case_file.specs.Table.{paper, composes, noCount}
 
--- a text, an output buffer's length, and what of the lines is written into it
+-- the length of an output buffer: so many bytes more than the lines have, or so many fewer
+pub data Room : Type 0 where
+  over below : ℕ → Room
+
+-- a text, all of its lines, and an output buffer's length
 pub record Case : Type 0 where
   pub text : List String
-  pub room : ℕ
-  pub said : List String
+  pub lines : List String
+  pub room : Room
 
--- with room for all
+-- with just the room for them
 abbrev whole : List String → List String → Case
-whole t s = record { text = t; room = 4096; said = s }
+whole t l = record { text = t; lines = l; room = over 0 }
 
 -- values of: a scalar of three bytes; a storage image; a pointer to a struct in storage; a struct
 abbrev values : List String
@@ -51,7 +55,8 @@ table =
     ∷ whole noCount ("line 2: number 5, field: a byte is outside its values" ∷ [])
     ∷ whole ("0101" ∷ []) ("line 1: number 2, torn: not 32 digits and a line feed" ∷ [])
     ∷ whole [] []
-    -- room for two whole lines and a part of the third: 32 + 32 bytes, and 10 of 11
-    ∷ record { text = paper; room = 74; said = "row 0  ptr<function, vec3<f32>>" ∷ "row 1  value_ptr<function, f32>" ∷ [] }
-    ∷ record { text = noCount; room = 53; said = [] }
+    -- bytes past the lines stay; one byte too few, and none at all, is number 3 and changes nothing
+    ∷ record { text = noCount; lines = "line 2: number 5, field: a byte is outside its values" ∷ []; room = over 3 }
+    ∷ record { text = noCount; lines = "line 2: number 5, field: a byte is outside its values" ∷ []; room = below 1 }
+    ∷ record { text = "0101" ∷ []; lines = "line 1: number 2, torn: not 32 digits and a line feed" ∷ []; room = below 54 }
     ∷ []

@@ -4,6 +4,7 @@ use mathlib.Core.Path.{_≡_, refl}
 use mathlib.Core.List.{List, map}
 use Prim.Native.Nat.{ℕ}
 use lib.ListN.{length}
+use Rattle.answers.specs.Limit.{maxFrames}
 use Rattle.scan.specs.Lowest.{lowest, allBelow}
 use Rattle.scan.specs.Lists.{build, sumBelow}
 use Rattle.text.specs.declared.AnswerRoom.{AnswerRoom}
@@ -37,16 +38,16 @@ Output = Answered × List ℕ
 
 -- what is answered of a text over a frame buffer of f bytes, by the definitions that the contracts of the public functions cite
 abbrev answered : List ℕ → ℕ → Asked → Answered
-answered t f print = printed (typedText First 1024 t)
-answered t f read = outcome (readFile 1024 t f NotLent)
+answered t f print = printed (typedText First maxFrames t)
+answered t f read = outcome (readFile maxFrames t f NotLent)
 answered t f (types an) =
-    typesAre (readFile 1024 t f (Lent (length an))) (outputCount First 1024 t f (length an)) (answersAfter First 1024 t f an)
-answered t f (row n an) = rowIs (rowType First 1024 t f (length an) (record { 0 = n })) (answersAfterRow First 1024 t f an (record { 0 = n }))
+    typesAre (readFile maxFrames t f (Lent (length an))) (outputCount First maxFrames t f (length an)) (answersAfter First maxFrames t f an)
+answered t f (row n an) = rowIs (rowType First maxFrames t f (length an) (record { 0 = n })) (answersAfterRow First maxFrames t f an (record { 0 = n }))
 answered t f (verdict n an) =
-    verdictIs (composeVerdict First 1024 t f (length an) (record { 0 = n })) (answersAfterVerdict First 1024 t f an (record { 0 = n }))
-answered t f (same l r) = sameness (sameTypes 1024 t f l r)
-answered t f (canonical n) = canonicalIs (canonicalType 1024 t f (record { 0 = n }))
-answered t f (base n) = baseIs (pointerBaseType 1024 t f (record { 0 = n }))
+    verdictIs (composeVerdict First maxFrames t f (length an) (record { 0 = n })) (answersAfterVerdict First maxFrames t f an (record { 0 = n }))
+answered t f (same l r) = sameness (sameTypes maxFrames t f l r)
+answered t f (canonical n) = canonicalIs (canonicalType maxFrames t f (record { 0 = n }))
+answered t f (base n) = baseIs (pointerBaseType maxFrames t f (record { 0 = n }))
 
 -- the answer buffer lent
 abbrev roomOf : Asked → AnswerRoom
@@ -61,7 +62,7 @@ roomOf (base n) = NotLent
 
 -- and the frame buffer after it
 abbrev given : Case → Output
-given c = (answered (c .text) (length (c .lent)) (c .asked), framesAfter 1024 (c .text) (c .lent) (roomOf (c .asked)))
+given c = (answered (c .text) (length (c .lent)) (c .asked), framesAfter maxFrames (c .text) (c .lent) (roomOf (c .asked)))
 
 abbrev wanted : Case → Output
 wanted c = (c .answer, c .after)

@@ -10,6 +10,7 @@ use Rattle.scan.specs.Lists.{build, sumBelow}
 use Rattle.answers.specs.Numbers.{samenessSaid}
 use Rattle.answers.specs.declared.Outcome.{Outcome}
 use Rattle.answers.specs.declared.Outcome.the-variants.{Accepted}
+use Rattle.answers.specs.Limit.{maxFrames}
 use Rattle.text.specs.declared.AnswerRoom.the-variants.{Lent}
 use Rattle.text.specs.Hex.{digitValue, digitOf}
 use Rattle.text.specs.Lines.{lineOk, lineCount, byteOf, decoded, charOf}
@@ -72,7 +73,7 @@ module _ (e : Example) where
       let rule = handed (typeAnswerOf (q .left)) (typeAnswerOf (q .right)) in
       record {
         asked = q;
-        ours = saidBytes (samenessSaid (sameTypes 1024 (e .text) (length (framesFor (e .text))) (q .left) (q .right)));
+        ours = saidBytes (samenessSaid (sameTypes maxFrames (e .text) (length (framesFor (e .text))) (q .left) (q .right)));
         theirs = comparedBytes (theirs First fr (e .choice) 0 (e .choice .same (q .left) (q .right)) rule);
         meets = meets First fr 0 rule;
       }
@@ -84,8 +85,8 @@ module _ (e : Example) where
 
   abbrev computed : Whole
   computed = (
-    readFile 1024 (e .text) (16 * lineCount (e .text)) (Lent (answerBytes (e .text))),
-    answersAfter First 1024 (e .text) (length (framesFor (e .text))) (answersFor (e .text)),
+    readFile maxFrames (e .text) (16 * lineCount (e .text)) (Lent (answerBytes (e .text))),
+    answersAfter First maxFrames (e .text) (length (framesFor (e .text))) (answersFor (e .text)),
     map (λ (l : Line Asked). byLater (l .asked)) (e .answers),
     map (λ (l : Line Asked). metBy (l .asked)) (e .answers),
     map (λ (l : Line Two). compared (l .asked)) (e .comparisons),

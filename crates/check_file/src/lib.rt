@@ -1,4 +1,5 @@
 // Checks 4 to 6 over the frames of a file, in their order (document 01, "Numbers handed back").
+use answers::MAX_FRAMES;
 use answers::Outcome;
 use archive::Held;
 use archive::Owner;
@@ -34,9 +35,10 @@ ghost use Rattle.archive.specs.Parts.{membersOf, componentsOf, heldBy, isEarly,
 ghost use Rattle.archive.specs.ForProofs.{heldTo};
 ghost use Rattle.answers.specs.declared.Outcome.the-variants.{Accepted, Field, Index};
 ghost use Rattle.archive.specs.Checks.{fieldOk, indexOk, unless, checkFrames};
+ghost use Rattle.answers.specs.Limit.{maxFrames};
 
 fn names_of(s: Starts, k: usize, f: Frame) -> bool
-    requires { ⌜ k ≤ 1024 ⌝ }
+    requires { ⌜ k ≤ maxFrames ⌝ }
     ensures { λ r. ⌜ r ≡ namesOf s k f ⌝ }
 {
     let family = f.b0;
@@ -59,7 +61,7 @@ fn names_of(s: Starts, k: usize, f: Frame) -> bool
 
 // The lowest frame that names a number out of range or not earlier; parts are held against their owners elsewhere.
 fn first_misnamed(frames: &[u8], s: Starts) -> Found
-    requires { ⌜ (s ≡ startsOf (now frames)) × (frameCount (now frames) ≤ 1024) ⌝ }
+    requires { ⌜ (s ≡ startsOf (now frames)) × (frameCount (now frames) ≤ maxFrames) ⌝ }
     ensures { λ r. ⌜ r ≡ lowest (namesOk (now (frames .entry))) (frameCount (now (frames .entry))) ⌝ }
 {
     let n = frame_count(frames);
@@ -82,7 +84,7 @@ fn least(a: usize, b: usize) -> usize
 
 // The parts of struct n: its members.
 fn members_of(s: Starts, n: TypeNumber, f: Frame) -> Held
-    requires { ⌜ s .members ≤ 1024 ⌝ }
+    requires { ⌜ s .members ≤ maxFrames ⌝ }
     ensures { λ r. ⌜ r ≡ membersOf s n f ⌝ }
 {
     let first = MemberNumber(f.named());
@@ -97,7 +99,7 @@ fn members_of(s: Starts, n: TypeNumber, f: Frame) -> Held
 
 // The parts of compose n: its components.
 fn components_of(s: Starts, n: RowNumber, f: Frame) -> Held
-    requires { ⌜ s .components ≤ 1024 ⌝ }
+    requires { ⌜ s .components ≤ maxFrames ⌝ }
     ensures { λ r. ⌜ r ≡ componentsOf s n f ⌝ }
 {
     let first = ComponentNumber(f.last());
@@ -112,7 +114,7 @@ fn components_of(s: Starts, n: RowNumber, f: Frame) -> Held
 
 // The parts that frame k holds; every frame but a struct and a compose holds none.
 fn held_by(s: Starts, k: usize, f: Frame) -> Held
-    requires { ⌜ (k ≤ 1024) × (s .members ≤ 1024) × (s .components ≤ 1024) ⌝ }
+    requires { ⌜ (k ≤ maxFrames) × (s .members ≤ maxFrames) × (s .components ≤ maxFrames) ⌝ }
     ensures { λ r. ⌜ r ≡ heldBy s k f ⌝ }
 {
     if (f.b0 == 1) & (f.b1 == 9) {
@@ -169,7 +171,7 @@ fn first_late_of(frames: &[u8], h: Held) -> Found
 
 // The lowest part that is not earlier than each of its owners.
 fn first_late(frames: &[u8], s: Starts) -> Found
-    requires { ⌜ (s ≡ startsOf (now frames)) × (frameCount (now frames) ≤ 1024) ⌝ }
+    requires { ⌜ (s ≡ startsOf (now frames)) × (frameCount (now frames) ≤ maxFrames) ⌝ }
     ensures { λ r. ⌜ r ≡ lowest (earlyOk (now (frames .entry))) (frameCount (now (frames .entry))) ⌝ }
 {
     let n = frame_count(frames);
@@ -202,7 +204,7 @@ pub fn first_unfit(frames: &[u8]) -> Found
 
 // The lowest frame that names a number out of range or not earlier.
 fn first_misplaced(frames: &[u8]) -> Found
-    requires { ⌜ frameCount (now frames) ≤ 1024 ⌝ }
+    requires { ⌜ frameCount (now frames) ≤ maxFrames ⌝ }
     ensures { λ r. ⌜ r ≡ lowest (indexOk (now (frames .entry))) (frameCount (now (frames .entry))) ⌝ }
 {
     let s = find_starts(frames);
@@ -212,7 +214,7 @@ fn first_misplaced(frames: &[u8]) -> Found
 }
 
 fn check_index(frames: &[u8]) -> Outcome
-    requires { ⌜ frameCount (now frames) ≤ 1024 ⌝ }
+    requires { ⌜ frameCount (now frames) ≤ maxFrames ⌝ }
     ensures { λ r. ⌜ r
         ≡ unless Index (lowest (indexOk (now (frames .entry))) (frameCount (now (frames .entry))))
         (Accepted (frameCount (now (frames .entry)))) ⌝ }
@@ -226,7 +228,7 @@ fn check_index(frames: &[u8]) -> Outcome
 }
 
 fn check_fields(frames: &[u8]) -> Outcome
-    requires { ⌜ frameCount (now frames) ≤ 1024 ⌝ }
+    requires { ⌜ frameCount (now frames) ≤ maxFrames ⌝ }
     ensures { λ r. ⌜ r
         ≡ unless Field (lowest (fieldOk (now (frames .entry))) (frameCount (now (frames .entry)))) (unless Index
         (lowest (indexOk (now (frames .entry))) (frameCount (now (frames .entry))))
@@ -242,8 +244,10 @@ fn check_fields(frames: &[u8]) -> Outcome
 pub fn check_frames(frames: &[u8]) -> Outcome
     ensures { λ r. ⌜ r ≡ checkFrames (now (frames .entry)) ⌝ }
 {
-    if 1024 < frame_count(frames) {
-        return Outcome::Long { limit: 1024 };
+    if MAX_FRAMES < frame_count(frames) {
+        return Outcome::Long {
+            limit: MAX_FRAMES as u16,
+        };
     }
     match first_disorder(frames) {
         Found::At(k) => Outcome::Order { frame: k as u16 },

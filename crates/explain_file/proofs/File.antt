@@ -3,6 +3,7 @@ use Prim.Native.Nat.{ℕ, _*_}
 use mathlib.Core.Path.{_≡_, sym, ap, _∙_}
 use mathlib.Core.List.{List}
 use lib.ListN.{length, take}
+use Rattle.answers.specs.Limit.{maxFrames, maxFrameBytes, maxAnswerBytes}
 use Rattle.rule_rows.specs.declared.Pass.the-variants.{First}
 use Rattle.file_read.specs.declared.OptionUsize.the-variants as Ou
 use Rattle.file_read.specs.declared.TypedFile.{TypedFile}
@@ -14,7 +15,7 @@ use Rattle.file_read.proofs.Typed.{handed-over, largest}
 use Rattle.explain_file.specs.Explained.{faultLines, answerLines, fileLines, linesOf}
 
 -- after a call of `type_file` with buffers of the largest sizes
-module _ {t fr an last out : List ℕ} {r : TypedFile} (h : HandsBack First 1024 t fr an r last out) (ef : length fr ≡ 16384) (ea : length an ≡ 32768) where
+module _ {t fr an last out : List ℕ} {r : TypedFile} (h : HandsBack First maxFrames t fr an r last out) (ef : length fr ≡ maxFrameBytes) (ea : length an ≡ maxAnswerBytes) where
   pub refused-lines : framesIn (r .outcome) ≡ Ou.None → faultLines (r .outcome) ≡ linesOf t
   unfolding linesOf
   refused-lines en = refused-over faultLines fileLines t (r .outcome) en ∙ ap (overFile faultLines fileLines t) (largest h ef ea)

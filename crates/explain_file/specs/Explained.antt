@@ -1,12 +1,12 @@
 -- A file explained to people (docs/EXPLAIN.md): as the typing program prints (document 01, "Cases"), a line for each row and one more after a compose, and one line for a file that
 -- is not accepted, in words.
-use Prim.Native.Nat.{ℕ, zero, suc, _+_}
+use Prim.Native.Nat.{ℕ, zero, suc, _+_, _*_}
 use mathlib.Core.Bool.{cond}
 use mathlib.Core.List.{List, [], _++_}
-use lib.Dec.{eqb, leb}
-use lib.ListN.{length}
+use lib.Dec.{eqb}
 use Rattle.ir.specs.declared.RowNumber.{RowNumber}
 use Rattle.answers.specs.declared.Outcome.{Outcome}
+use Rattle.answers.specs.Limit.{maxFrames, maxFrameBytes, maxAnswerBytes}
 use Rattle.text.specs.declared.AnswerRoom.the-variants.{Lent}
 use Rattle.frames.specs.declared.Frame.{Frame}
 use Rattle.frames.specs.Bytes.{frameCount, frameAt}
@@ -28,18 +28,9 @@ unfoldable pub joined : (ℕ → List ℕ) → ℕ → List ℕ
 joined f zero = []
 joined f (suc n) = joined f n ++ f n
 
--- how many of the first n lines fit into so many bytes, one after the other
-unfoldable pub fitting : (ℕ → List ℕ) → ℕ → ℕ → ℕ
-fitting f zero room = 0
-fitting f (suc n) room = cond (leb (length (joined f (suc n))) room) (suc n) (fitting f n room)
-
 -- all of them, one after the other
 abbrev pub allOf : Lines → List ℕ
 allOf l = joined (l .line) (l .count)
-
--- how many bytes of lines are written into a buffer of so many bytes: as many whole lines as fit
-abbrev pub fitted : Lines → ℕ → ℕ
-fitted l room = length (joined (l .line) (fitting (l .line) (l .count) room))
 
 -- A FILE'S LINES
 
@@ -70,12 +61,12 @@ faultLines o = record { count = 1; line = λ (k : ℕ). faultOf (outcomeFrame o)
 
 -- those of a text, with buffers of the largest sizes that a file asks for
 unfoldable pub linesOf : List ℕ → Lines
-linesOf t = overFile faultLines fileLines t (readFile 1024 t 16384 (Lent 32768))
+linesOf t = overFile faultLines fileLines t (readFile maxFrames t maxFrameBytes (Lent maxAnswerBytes))
 
 -- THE TEXT for people
 abbrev pub explained : List ℕ → List ℕ
 explained t = allOf (linesOf t)
 
--- how many of its bytes fit whole lines into an output buffer of so many bytes
-abbrev pub explainedIn : List ℕ → ℕ → ℕ
-explainedIn t room = fitted (linesOf t) room
+-- the bytes that it fits into, whatever the file: two lines for each frame, of at most 142 bytes each
+abbrev pub maxExplainedBytes : ℕ
+maxExplainedBytes = 2 * 142 * maxFrames

@@ -2,9 +2,9 @@
 use Prim.Native.Nat.{ℕ}
 use mathlib.Core.Path.{_≡_}
 use mathlib.Core.List.{List, _++_}
-use lib.ListN.{length, take, drop}
-use Rattle.explain_file.specs.Explained.{Lines, allOf, fitted}
+use lib.ListN.{length, drop}
+use Rattle.explain_file.specs.Explained.{Lines, allOf}
 
--- r bytes of lines are written at the front of a buffer o, and the other bytes stay
+-- all lines, r bytes, are written at the front of a buffer o, and the other bytes stay
 abbrev pub Shown : Lines → List ℕ → ℕ → List ℕ → Type 0
-Shown l o r last = (r ≡ fitted l (length o)) × (last ≡ take r (allOf l) ++ drop r o)
+Shown l o r last = (r ≡ length (allOf l)) × (last ≡ allOf l ++ drop r o)

@@ -1,5 +1,10 @@
 // A file explained to people: a line for each row and one more after a compose, in words; one line for a file that is not accepted (specs/Explained.antt).
+use answers::MAX_ANSWER_BYTES;
+use answers::MAX_FRAME_BYTES;
+use answers::MAX_FRAMES;
+use answers::MAX_LIMIT;
 use answers::Outcome;
+use answers::Printed;
 use explain_lines::lines::put_fault;
 use explain_lines::lines::put_line;
 use explain_words::copy;
@@ -13,11 +18,16 @@ use frames_answers::write::outcome_frame;
 use ir::RowNumber;
 use rule_rows::Pass;
 ghost use mathlib.Core.Path.{_≡_};
-ghost use mathlib.Core.List.{_++_};
-ghost use Prim.Native.Nat.{_+_, _≤_, _<_};
-ghost use lib.ListN.{length, take, drop};
-ghost use Rattle.explain_file.specs.Explained.{nextRow, answerLines, faultLines, linesOf, explained, explainedIn};
+ghost use Prim.Native.Nat.{_≤_, _<_};
+ghost use lib.ListN.{length};
+ghost use Rattle.answers.specs.Limit.{maxFrameBytes, maxAnswerBytes};
+ghost use Rattle.answers.specs.Numbers.{printedSaid};
+ghost use Rattle.file_read.specs.Printed.{printed, printedAfter};
+ghost use Rattle.explain_file.specs.Explained.{nextRow, maxExplainedBytes, answerLines, faultLines, linesOf, explained};
 ghost use Rattle.explain_file.specs.ForProofs.{Shown};
+
+// The bytes that the lines of any file fit into, at most 142 each.
+pub const MAX_EXPLAINED_BYTES: usize = 2 * 142 * MAX_FRAMES;
 
 // The next row, after an answer or a verdict.
 fn next_row(row: RowNumber, f: Frame) -> RowNumber
@@ -30,9 +40,10 @@ fn next_row(row: RowNumber, f: Frame) -> RowNumber
     RowNumber(row.0 + 1)
 }
 
-// The lines of what is handed back, as many whole ones as there is room for. A line is made in a buffer of its own first.
+// The lines of what is handed back. A line is made in a buffer of its own first.
 fn explain_answers(frames: &[u8], answers: &[u8], line: &mut [u8], out: &mut [u8]) -> usize
-    requires { ⌜ (length (now line) ≡ 1056) × (length (now answers) ≤ 32768) ⌝ }
+    requires { ⌜ (length (now line) ≡ 1056) × (length (now answers) ≤ maxAnswerBytes)
+        × (maxExplainedBytes ≤ length (now out)) ⌝ }
     ensures { λ r. ⌜ Shown (answerLines (now (frames .entry)) (now (answers .entry))) (now (out .entry)) r
         (now (out .exit)) ⌝ }
 {
@@ -43,9 +54,6 @@ fn explain_answers(frames: &[u8], answers: &[u8], line: &mut [u8], out: &mut [u8
     while k < n {
         let f = frame_at(answers, k);
         let m = put_line(frames, row, f, line);
-        if out.len() - at < m {
-            return at;
-        }
         copy(&line[..m], out, at);
         at += m;
         row = next_row(row, f);
@@ -56,18 +64,15 @@ fn explain_answers(frames: &[u8], answers: &[u8], line: &mut [u8], out: &mut [u8
 
 // The line of a file that is not accepted.
 fn explain_fault(o: Outcome, line: &mut [u8], out: &mut [u8]) -> usize
-    requires { ⌜ length (now line) ≡ 1056 ⌝ }
+    requires { ⌜ (length (now line) ≡ 1056) × (maxExplainedBytes ≤ length (now out)) ⌝ }
     ensures { λ r. ⌜ Shown (faultLines o) (now (out .entry)) r (now (out .exit)) ⌝ }
 {
     let m = put_fault(outcome_frame(o), line);
-    if out.len() < m {
-        return 0;
-    }
     copy(&line[..m], out, 0);
     m
 }
 
-// The same over lent buffers of the largest sizes that a file asks for.
+// The lines of a text, over lent buffers of the largest sizes that a file asks for.
 fn explain_with(
     text: &[u8],
     frames: &mut [u8],
@@ -75,10 +80,13 @@ fn explain_with(
     line: &mut [u8],
     out: &mut [u8],
 ) -> usize
-    requires { ⌜ (length (now frames) ≡ 16384) × (length (now answers) ≡ 32768) × (length (now line) ≡ 1056) ⌝ }
+    requires frames { ⌜ length (now frames) ≡ maxFrameBytes ⌝ }
+    requires answers { ⌜ length (now answers) ≡ maxAnswerBytes ⌝ }
+    requires line { ⌜ length (now line) ≡ 1056 ⌝ }
+    requires out { ⌜ length (now out) ≡ maxExplainedBytes ⌝ }
     ensures { λ r. ⌜ Shown (linesOf (now (text .entry))) (now (out .entry)) r (now (out .exit)) ⌝ }
 {
-    let typed = type_file(Pass::First, 1024, text, frames, answers);
+    let typed = type_file(Pass::First, MAX_LIMIT, text, frames, answers);
     let read = typed.outcome;
     match frames_in(read) {
         OptionUsize::None => explain_fault(read, line, out),
@@ -90,15 +98,22 @@ fn explain_with(
     }
 }
 
-// Explains a file: writes its lines, as many whole ones as there is room for, and gives how many bytes are written. The other bytes stay. 290,816 bytes are room for any
-// file's (`explained-fits`, proofs/Fits.antt).
-pub fn explain_text(text: &[u8], out: &mut [u8]) -> usize
-    ensures { λ r. ⌜ (r ≡ explainedIn (now (text .entry)) (length (now (out .entry))))
-        × (now (out .exit) ≡ take r (explained (now (text .entry))) ++ drop r (now (out .entry)))
-        × (r ≤ length (now (out .exit))) ⌝ }
+// Explains a file: writes its lines, and gives how many bytes they are; where the output buffer is too small it gives number 3 and changes nothing. MAX_EXPLAINED_BYTES are room
+// for any file's (`explained-fits`, proofs/Fits.antt).
+pub fn explain_text(text: &[u8], out: &mut [u8]) -> Printed
+    ensures outcome { λ r. ⌜ r ≡ printed (explained (now (text .entry))) (length (now (out .entry))) ⌝ }
+    ensures said { λ r. ⌜ printedSaid r
+        ≡ printedSaid (printed (explained (now (text .entry))) (length (now (out .entry)))) ⌝ }
+    ensures out { λ r. ⌜ now (out .exit) ≡ printedAfter (explained (now (text .entry))) (now (out .entry)) ⌝ }
 {
-    let mut frames = [0u8; 16384];
-    let mut answers = [0u8; 32768];
+    let mut frames = [0u8; MAX_FRAME_BYTES];
+    let mut answers = [0u8; MAX_ANSWER_BYTES];
     let mut line = [0u8; 1056];
-    explain_with(text, &mut frames, &mut answers, &mut line, out)
+    let mut lines = [0u8; MAX_EXPLAINED_BYTES];
+    let m = explain_with(text, &mut frames, &mut answers, &mut line, &mut lines);
+    if out.len() < m {
+        return Printed::Short;
+    }
+    copy(&lines[..m], out, 0);
+    Printed::Bytes(m)
 }

@@ -5,88 +5,67 @@ use mathlib.Core.Bool.{cond}
 use mathlib.Core.List.{List}
 use lib.Dec.{ltb, eqb}
 use lib.ListN.{length}
-use Rattle.ir.specs.declared.RowNumber.{RowNumber}
 use Rattle.answers.specs.declared.Outcome.{Outcome}
 use Rattle.answers.specs.declared.Outcome.the-variants as O
-use Rattle.answers.specs.Numbers.{at, outcomeValues, Said, SaidOf, alike, different, numbered, type, noPointer, refused}
+use Rattle.answers.specs.Numbers.{noRefusal, outcomeValues, Said, SaidOf, SaidOne, alike, different, numbered, type, noPointer, refused, asked, instead}
 use Rattle.text.specs.declared.AnswerRoom.the-variants.{NotLent}
 use Rattle.text.specs.Reading.{readText}
 use Rattle.frames.specs.declared.Frame.{Frame}
 use Rattle.frames.specs.Bytes.{frameAt, zeroFrame}
-use Rattle.frames.specs.Out.{resolutionFrame, refusedFrame, outcomeFrame}
-use Rattle.rule.specs.Answers.{rowFrame, verdictFrame}
-use Rattle.file_read.specs.Typing.{RowGiven, VerdictGiven}
+use Rattle.frames.specs.Out.{resolutionFrame, refusedFrame}
+
+-- the number of reading or typing a file: 0 for one that is accepted
+abbrev pub outcomeNumber : Outcome → ℕ
+outcomeNumber o = outcomeValues o .number
 
 -- AN OUT-SLICE OF FEWER THAN 16 BYTES is a lent buffer too small: number 3, unless the text has number 1 or 2, since checks run in order
 
--- numbers 1 and 2 stay, all else is 3
-abbrev pub shortNumber : Outcome → ℕ
-shortNumber (O.Accepted n) = 3
-shortNumber (O.Long m) = 1
-shortNumber (O.Torn k) = 2
-shortNumber O.Short = 3
-shortNumber (O.Order k) = 3
-shortNumber (O.Field k) = 3
-shortNumber (O.Index k) = 3
+-- numbers 1 and 2 stay, all else is number 3
+abbrev pub orShort : Outcome → Outcome
+orShort (O.Accepted n) = O.Short
+orShort (O.Long m) = O.Long m
+orShort (O.Torn k) = O.Torn k
+orShort O.Short = O.Short
+orShort (O.Order k) = O.Short
+orShort (O.Field k) = O.Short
+orShort (O.Index k) = O.Short
 
 -- what is returned then; the same for any other frame buffer and answer buffer: `any-room` (gelmusko/proofs/Laws.antt)
 unfoldable pub noRoom : ℕ → List ℕ → ℕ
-noRoom limit t = shortNumber (readText limit t 0 NotLent)
+noRoom limit t = outcomeNumber (orShort (readText limit t 0 NotLent))
 
 -- what holds of an out-slice that is too small, else what holds of one that has room
 abbrev pub byRoom : {A : Type 0} → List ℕ → A → A → A
 byRoom out short enough = cond (ltb (length out) 16) short enough
 
--- NUMBERS AND FRAMES. A number 1 to 6, or 22, is returned and stands in the frame, with its place; 0 is returned where what was asked for was given.
+-- NUMBERS AND FRAMES, from what is said in document 01's numbers (answers/specs/Numbers.antt): a number 1 to 6, or 22, is returned and stands in the frame, with its place; 0 is
+-- returned where what was asked for was given.
 
--- reading and typing a file: 0 for one that is accepted
-abbrev pub outcomeNumber : Outcome → ℕ
-outcomeNumber o = outcomeValues o .number
-
--- a row's answer, whatever it is; 6 with place 0 for a row that the file does not have
-abbrev pub rowNumber : RowGiven → ℕ
-rowNumber (RowGiven.answer a) = 0
-rowNumber RowGiven.noRow = 6
-rowNumber (RowGiven.notAccepted o) = outcomeNumber o
-
-abbrev pub rowGivenFrame : RowGiven → Frame
-rowGivenFrame (RowGiven.answer a) = rowFrame a
-rowGivenFrame RowGiven.noRow = refusedFrame (at 6 0)
-rowGivenFrame (RowGiven.notAccepted o) = outcomeFrame o
-
--- a compose's verdict, whatever it is; 6 with place 0 for a row that is no compose, or that the file does not have
-abbrev pub verdictNumber : VerdictGiven → ℕ
-verdictNumber (VerdictGiven.verdict j) = 0
-verdictNumber VerdictGiven.noCompose = 6
-verdictNumber VerdictGiven.noRow = 6
-verdictNumber (VerdictGiven.notAccepted o) = outcomeNumber o
-
-abbrev pub verdictGivenFrame : RowNumber → VerdictGiven → Frame
-verdictGivenFrame n (VerdictGiven.verdict j) = verdictFrame n j
-verdictGivenFrame n VerdictGiven.noCompose = refusedFrame (at 6 0)
-verdictGivenFrame n VerdictGiven.noRow = refusedFrame (at 6 0)
-verdictGivenFrame n (VerdictGiven.notAccepted o) = outcomeFrame o
+-- a row's answer or a compose's verdict, whatever it is; or the number instead, which stands in the frame too (`oneFrame`, frames/specs/Out.antt)
+abbrev pub oneNumber : {A : Type 0} → SaidOne A → ℕ
+oneNumber (asked a) = noRefusal .number
+oneNumber (instead r) = r .number
 
 -- a comparison: 0 for yes, 256 for no; the frame of both is that of number 0
 abbrev pub saidNumber : Said → ℕ
-saidNumber alike = 0
+saidNumber alike = noRefusal .number
 saidNumber different = 256
 saidNumber (numbered r) = r .number
 
 abbrev pub saidFrame : Said → Frame
-saidFrame alike = refusedFrame (at 0 0)
-saidFrame different = refusedFrame (at 0 0)
+saidFrame alike = refusedFrame noRefusal
+saidFrame different = refusedFrame noRefusal
 saidFrame (numbered r) = refusedFrame r
 
 -- a canonical form or a base: the type's frame; 257 with the frame of number 0 where type n is no pointer
 abbrev pub typeSaidNumber : SaidOf → ℕ
-typeSaidNumber (type t) = 0
+typeSaidNumber (type t) = noRefusal .number
 typeSaidNumber noPointer = 257
 typeSaidNumber (refused r) = r .number
 
 abbrev pub typeSaidFrame : SaidOf → Frame
 typeSaidFrame (type t) = resolutionFrame t
-typeSaidFrame noPointer = refusedFrame (at 0 0)
+typeSaidFrame noPointer = refusedFrame noRefusal
 typeSaidFrame (refused r) = refusedFrame r
 
 -- A FRAME HANDED IN as bytes. One of another length than 16 is taken for the frame of zeros, which is of no family and so gets 5: `wrong-left`, `wrong-right`

@@ -18,11 +18,10 @@ use text::AnswerRoom;
 use text_decode::read_text;
 ghost use mathlib.Core.Path.{_≡_};
 ghost use Prim.Native.Nat.{min};
-ghost use Rattle.answers.specs.Numbers.{at, samenessSaid, canonicalSaid, baseSaid};
+ghost use Rattle.answers.specs.Numbers.{at, noRefusal, notThere, samenessSaid, canonicalSaid, baseSaid};
 ghost use Rattle.frames.specs.Bytes.{putFrame};
-ghost use Rattle.frames.specs.Out.{refusedFrame, outcomeFrame};
-ghost use Rattle.file_read.specs.Typing.{toGiven, toVerdict};
-ghost use Rattle.file_exports.specs.Exported.{shortNumber, noRoom, outcomeNumber, rowNumber, rowGivenFrame, verdictNumber, verdictGivenFrame, saidNumber, saidFrame, typeSaidNumber, typeSaidFrame, handedFrame};
+ghost use Rattle.frames.specs.Out.{refusedFrame, outcomeFrame, rowTypeSaid, composeVerdictSaid, oneFrame};
+ghost use Rattle.file_exports.specs.Exported.{outcomeNumber, orShort, noRoom, oneNumber, saidNumber, saidFrame, typeSaidNumber, typeSaidFrame, handedFrame};
 
 // A number handed in, as a row's or a type's number has it: no file has 65,535 of either, so a greater one is out of range as that is.
 pub fn clamped(n: u32) -> u16
@@ -44,7 +43,7 @@ pub fn handed_frame(s: &[u8]) -> Frame
 
 // Number 1 or 2, else 3.
 fn short_number(o: Outcome) -> u32
-    ensures { λ r. ⌜ r ≡ shortNumber o ⌝ }
+    ensures { λ r. ⌜ r ≡ outcomeNumber (orShort o) ⌝ }
 {
     match o {
         Outcome::Accepted { frames: _ } => 3,
@@ -98,7 +97,7 @@ fn put_field(out: &mut [u8]) -> u32
 }
 
 fn put_index(out: &mut [u8]) -> u32
-    ensures { λ r. ⌜ (r ≡ 6) × (now (out .exit) ≡ putFrame (now (out .entry)) 0 (refusedFrame (at 6 0))) ⌝ }
+    ensures { λ r. ⌜ (r ≡ notThere .number) × (now (out .exit) ≡ putFrame (now (out .entry)) 0 (refusedFrame notThere)) ⌝ }
 {
     put_frame(out, 0, outcome_frame(Outcome::Index { frame: 0 }));
     6
@@ -113,7 +112,7 @@ fn put_newer(out: &mut [u8]) -> u32
 
 // The frame of number 0, and what is said by the number returned.
 fn put_zero(out: &mut [u8], said: u32) -> u32
-    ensures { λ r. ⌜ (r ≡ said) × (now (out .exit) ≡ putFrame (now (out .entry)) 0 (refusedFrame (at 0 0))) ⌝ }
+    ensures { λ r. ⌜ (r ≡ said) × (now (out .exit) ≡ putFrame (now (out .entry)) 0 (refusedFrame noRefusal)) ⌝ }
 {
     put_frame(out, 0, outcome_frame(Outcome::Accepted { frames: 0 }));
     said
@@ -121,8 +120,8 @@ fn put_zero(out: &mut [u8], said: u32) -> u32
 
 // A row's answer.
 pub fn put_row(out: &mut [u8], given: RowType) -> u32
-    ensures outcome { λ r. ⌜ r ≡ rowNumber (toGiven given) ⌝ }
-    ensures out { λ r. ⌜ now (out .exit) ≡ putFrame (now (out .entry)) 0 (rowGivenFrame (toGiven given)) ⌝ }
+    ensures outcome { λ r. ⌜ r ≡ oneNumber (rowTypeSaid given) ⌝ }
+    ensures out { λ r. ⌜ now (out .exit) ≡ putFrame (now (out .entry)) 0 (oneFrame (rowTypeSaid given)) ⌝ }
 {
     match given {
         RowType::Answered(a) => {
@@ -136,8 +135,8 @@ pub fn put_row(out: &mut [u8], given: RowType) -> u32
 
 // A compose's verdict.
 pub fn put_verdict(out: &mut [u8], row: RowNumber, given: ComposeVerdict) -> u32
-    ensures outcome { λ r. ⌜ r ≡ verdictNumber (toVerdict given) ⌝ }
-    ensures out { λ r. ⌜ now (out .exit) ≡ putFrame (now (out .entry)) 0 (verdictGivenFrame row (toVerdict given)) ⌝ }
+    ensures outcome { λ r. ⌜ r ≡ oneNumber (composeVerdictSaid row given) ⌝ }
+    ensures out { λ r. ⌜ now (out .exit) ≡ putFrame (now (out .entry)) 0 (oneFrame (composeVerdictSaid row given)) ⌝ }
 {
     match given {
         ComposeVerdict::Judged(v) => {

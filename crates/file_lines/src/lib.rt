@@ -1,4 +1,8 @@
 // What the typing program prints.
+use answers::MAX_ANSWER_BYTES;
+use answers::MAX_FRAME_BYTES;
+use answers::MAX_LIMIT;
+use answers::Printed;
 use file_read::OptionUsize;
 use file_read::frames_in;
 use file_rows::type_file;
@@ -7,41 +11,63 @@ use frames_answers::write::outcome_frame;
 use rule_rows::Pass;
 use text_encode::write_text;
 ghost use mathlib.Core.Path.{_≡_};
-ghost use mathlib.Core.List.{_++_};
-ghost use Prim.Native.Nat.{_*_, _/_, min};
-ghost use lib.ListN.{length, take, drop};
+ghost use Prim.Native.Nat.{_≤_};
+ghost use lib.ListN.{length};
+ghost use Rattle.answers.specs.Limit.{maxFrames, maxFrameBytes, maxAnswerBytes};
+ghost use Rattle.answers.specs.Numbers.{printedSaid};
+ghost use Rattle.text.specs.Lines.{textOf};
+ghost use Rattle.frames.specs.Bytes.{frameCount};
 ghost use Rattle.rule_rows.specs.declared.Pass.the-variants.{First};
-ghost use Rattle.file_read.specs.Typing.{typedText, linesIn};
+ghost use Rattle.file_read.specs.Typing.{typedText};
+ghost use Rattle.file_read.specs.Printed.{printed, printedAfter};
+
+// Writes the lines of some frames, all of them or none.
+fn put_lines(frames: &[u8], out: &mut [u8]) -> Printed
+    requires { ⌜ length (now frames) ≤ maxAnswerBytes ⌝ }
+    ensures outcome { λ r. ⌜ r
+        ≡ printed (textOf (now (frames .entry)) (frameCount (now (frames .entry)))) (length (now (out .entry))) ⌝ }
+    ensures out { λ r. ⌜ now (out .exit)
+        ≡ printedAfter (textOf (now (frames .entry)) (frameCount (now (frames .entry)))) (now (out .entry)) ⌝ }
+{
+    let n = 33 * (frames.len() / 16);
+    if out.len() < n {
+        return Printed::Short;
+    }
+    write_text(frames, out);
+    Printed::Bytes(n)
+}
 
 // The same over lent buffers of the largest sizes that a file asks for.
-fn type_lines(text: &[u8], frames: &mut [u8], answers: &mut [u8], out: &mut [u8]) -> usize
-    requires { ⌜ (length (now frames) ≡ 16384) × (length (now answers) ≡ 32768) ⌝ }
-    ensures outcome { λ r. ⌜ r ≡ linesIn First 1024 (now (text .entry)) (length (now (out .entry))) ⌝ }
+fn type_lines(text: &[u8], frames: &mut [u8], answers: &mut [u8], out: &mut [u8]) -> Printed
+    requires { ⌜ (length (now frames) ≡ maxFrameBytes) × (length (now answers) ≡ maxAnswerBytes) ⌝ }
+    ensures outcome { λ r. ⌜ r ≡ printed (typedText First maxFrames (now (text .entry))) (length (now (out .entry))) ⌝ }
     ensures out { λ r. ⌜ now (out .exit)
-        ≡ take r (typedText First 1024 (now (text .entry))) ++ drop r (now (out .entry)) ⌝ }
+        ≡ printedAfter (typedText First maxFrames (now (text .entry))) (now (out .entry)) ⌝ }
 {
-    let typed = type_file(Pass::First, 1024, text, frames, answers);
+    let typed = type_file(Pass::First, MAX_LIMIT, text, frames, answers);
     let read = typed.outcome;
     match frames_in(read) {
         OptionUsize::None => {
             put_frame(answers, 0, outcome_frame(read));
-            33 * write_text(&answers[..16], out)
+            put_lines(&answers[..16], out)
         }
         OptionUsize::Some(_) => {
             let e = 16 * typed.outputs;
-            33 * write_text(&answers[..e], out)
+            put_lines(&answers[..e], out)
         }
     }
 }
 
-// Types a file and writes the lines of what is handed back, as many whole ones as there is room for; gives how many bytes are written. 67,584 bytes are room
-// for any file's.
-pub fn type_text(text: &[u8], out: &mut [u8]) -> usize
-    ensures outcome { λ r. ⌜ r ≡ linesIn First 1024 (now (text .entry)) (length (now (out .entry))) ⌝ }
+// Types a file and writes the lines of what is handed back, and gives how many bytes they are; where the output buffer is too small it gives number 3 and changes nothing.
+// MAX_LINE_BYTES are room for any file's.
+pub fn type_text(text: &[u8], out: &mut [u8]) -> Printed
+    ensures outcome { λ r. ⌜ r ≡ printed (typedText First maxFrames (now (text .entry))) (length (now (out .entry))) ⌝ }
+    ensures said { λ r. ⌜ printedSaid r
+        ≡ printedSaid (printed (typedText First maxFrames (now (text .entry))) (length (now (out .entry)))) ⌝ }
     ensures out { λ r. ⌜ now (out .exit)
-        ≡ take r (typedText First 1024 (now (text .entry))) ++ drop r (now (out .entry)) ⌝ }
+        ≡ printedAfter (typedText First maxFrames (now (text .entry))) (now (out .entry)) ⌝ }
 {
-    let mut frames = [0u8; 16384];
-    let mut answers = [0u8; 32768];
+    let mut frames = [0u8; MAX_FRAME_BYTES];
+    let mut answers = [0u8; MAX_ANSWER_BYTES];
     type_lines(text, &mut frames, &mut answers, out)
 }

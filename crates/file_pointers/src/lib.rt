@@ -8,6 +8,7 @@ use file_read::read_file;
 use ir::TypeNumber;
 ghost use mathlib.Core.Path.{_≡_};
 ghost use lib.ListN.{length};
+ghost use Rattle.answers.specs.Numbers.{canonicalSaid, baseSaid};
 ghost use Rattle.text.specs.declared.AnswerRoom.the-variants.{NotLent};
 ghost use Rattle.file_read.specs.File.{framesAfter};
 ghost use Rattle.file_pointers.specs.Forms.{canonicalType, pointerBaseType};
@@ -15,6 +16,8 @@ ghost use Rattle.file_pointers.specs.Forms.{canonicalType, pointerBaseTy
 // The canonical form of type n: the value pointer, or n itself. The frame buffer is as `read_file` leaves it.
 pub fn canonical_form(limit: u32, text: &[u8], frames: &mut [u8], n: TypeNumber) -> CanonicalType
     ensures outcome { λ r. ⌜ r ≡ canonicalType limit (now (text .entry)) (length (now (frames .entry))) n ⌝ }
+    ensures said { λ r. ⌜ canonicalSaid r
+        ≡ canonicalSaid (canonicalType limit (now (text .entry)) (length (now (frames .entry))) n) ⌝ }
     ensures frames { λ r. ⌜ now (frames .exit) ≡ framesAfter limit (now (text .entry)) (now (frames .entry)) NotLent ⌝ }
 {
     let read = read_file(limit, text, frames);
@@ -31,6 +34,8 @@ pub fn canonical_form(limit: u32, text: &[u8], frames: &mut [u8], n: TypeNumber)
 // The base of type n, or that it is no pointer. The frame buffer is as `read_file` leaves it.
 pub fn pointer_base(limit: u32, text: &[u8], frames: &mut [u8], n: TypeNumber) -> PointerBase
     ensures outcome { λ r. ⌜ r ≡ pointerBaseType limit (now (text .entry)) (length (now (frames .entry))) n ⌝ }
+    ensures said { λ r. ⌜ baseSaid r
+        ≡ baseSaid (pointerBaseType limit (now (text .entry)) (length (now (frames .entry))) n) ⌝ }
     ensures frames { λ r. ⌜ now (frames .exit) ≡ framesAfter limit (now (text .entry)) (now (frames .entry)) NotLent ⌝ }
 {
     let read = read_file(limit, text, frames);

@@ -9,6 +9,7 @@ use mathlib.Core.Logic.{_↔_}
 use lib.ListN.{length, drop}
 use Rattle.answers.specs.declared.Outcome.{Outcome}
 use Rattle.answers.specs.declared.Outcome.the-variants.{Accepted, Long, Torn, Short, Order, Field, Index}
+use Rattle.answers.specs.Limit.{maxFrames}
 use Rattle.text.specs.declared.AnswerRoom.{AnswerRoom}
 use Rattle.text.specs.declared.AnswerRoom.the-variants.{NotLent}
 use Rattle.text.specs.Lines.{lineCount, decoded, textOf}
@@ -63,7 +64,7 @@ never : {X : Type 0} → _≡_ {A = ℕ} 0 1 → X
 never z = absurd (omega arith)
 
 module _ (limit : ℕ) (t : List ℕ) (f : ℕ) (room : AnswerRoom) where
-  few : Readable limit t f room (lineCount t) → frameCount (decoded t (lineCount t)) ≤ 1024
+  few : Readable limit t f room (lineCount t) → frameCount (decoded t (lineCount t)) ≤ maxFrames
   few r = rw (count-decoded t (lineCount t)) (count-small r)
 
   -- the seven outcomes, and what each says

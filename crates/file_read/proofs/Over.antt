@@ -40,6 +40,10 @@ refused-over f g t (Order k) e = refl
 refused-over f g t (Field k) e = refl
 refused-over f g t (Index k) e = refl
 
+-- what is said of an outcome follows from it, whatever says it
+pub with-said : {A S B : Type 0} (said : A → S) {o q : A} → o ≡ q → B → (o ≡ q) × ((said o ≡ said q) × B)
+with-said said e b = (e, (ap said e, b))
+
 -- after reading gave r and left the frame buffer as `last`, n frames accepted
 module _ (limit : ℕ) (t fr last : List ℕ) (room : AnswerRoom) (n : ℕ) (r : Outcome) (er : r ≡ readFile limit t (length fr) room) (el : last ≡ framesAfter limit t fr room) (en : framesIn r ≡ Ou.Some n) where
   pub read : readFile limit t (length fr) room ≡ Accepted n

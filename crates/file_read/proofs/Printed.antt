@@ -1,14 +1,18 @@
--- What the typing program prints: the lines of the frames handed back, as many whole ones as fit. Assumes nothing.
-use Prim.Native.Nat.{ℕ, _+_, _*_, _/_, _≤_, _<_, min}
+-- What the typing program prints: the lines of the frames handed back; and lines in a lent buffer, all of them or none. Assumes nothing.
+use Prim.Native.Nat.{ℕ, _*_, _/_, _≤_, _<_, min}
 use native.Mathlib.Omega.{arith}
 use mathlib.Core.Path.{_≡_, refl, sym, ap, _∙_}
+use mathlib.Core.Bool.{Bool, true, false, cond}
 use mathlib.Core.List.{List, _++_}
-use lib.ListN.{length, take, drop}
-use lib.Seq.{take-at}
-use borrow.Author.Tests.{lt-ltb}
+use lib.Dec.{leb}
+use lib.ListN.{length, take, drop, length-append}
+use borrow.Author.Tests.{lt-ltb, le-leb, lt-leb}
 use Rattle.scan.proofs.Fill.{length-build}
 use Rattle.answers.specs.declared.Outcome.{Outcome}
 use Rattle.answers.specs.declared.Outcome.the-variants.{Accepted, Long, Torn, Short, Order, Field, Index}
+use Rattle.answers.specs.declared.Printed.{Printed}
+use Rattle.answers.specs.declared.Printed.the-variants as Pr
+use Rattle.answers.specs.Limit.{maxFrames, maxFrameBytes, maxAnswerBytes, maxLineBytes}
 use Rattle.text.specs.declared.AnswerRoom.the-variants.{Lent}
 use Rattle.text.specs.Lines.{decoded, charOf, textOf}
 use Rattle.frames.specs.declared.Frame.{Frame}
@@ -22,31 +26,13 @@ use Rattle.rule_answers.proofs.Bytes.{bytes-length}
 use Rattle.file_read.specs.declared.OptionUsize.the-variants as Ou
 use Rattle.file_read.specs.declared.TypedFile.{TypedFile}
 use Rattle.file_read.specs.File.{overFile, readFile}
-use Rattle.file_read.specs.Typing.{HandsBack, outcomeText, outputText, typedText, linesIn}
+use Rattle.file_read.specs.Typing.{HandsBack, outcomeText, outputText, typedText}
+use Rattle.file_read.specs.Printed.{printed, printedAfter}
 use Rattle.file_read.specs.ForProofs.{framesIn}
 use Rattle.file_read.proofs.Over.{refused-over}
 use Rattle.file_read.proofs.Row.{two-a-row, few-rows}
 use Rattle.file_read.proofs.Ready.{ready-of}
 use Rattle.file_read.proofs.Typed.{unchanged, handed-over, largest}
-use Rattle.file_read.proofs.One.{build-goes-on}
-
--- the first r lines of a text of n
-take-lines : (b : List ℕ) (n r : ℕ) → r ≤ n → take (33 * r) (textOf b n) ≡ textOf b r
-take-lines b n r h =
-    let g = build-goes-on (charOf b) (33 * r) (33 * n) (omega arith) in
-    ap (take (33 * r)) (g .is) ∙ take-at (textOf b r) (g .more) (33 * r) (length-build (charOf b) (33 * r))
-
--- b are the frames lent, o the output buffer, and `last` it after r lines are written
-pub printed : (pass : Pass) (limit : ℕ) (t b o last : List ℕ) (r : ℕ) → typedText pass limit t ≡ textOf b (frameCount b)
-    → r ≡ min (length b / 16) (length o / 33) → last ≡ textOf b r ++ drop (33 * r) o
-    → (33 * r ≡ linesIn pass limit t (length o)) × (last ≡ take (33 * r) (typedText pass limit t) ++ drop (33 * r) o)
-printed pass limit t b o last r e er el =
-    let n : length (typedText pass limit t) / 33 ≡ frameCount b =
-    ap (λ (x : List ℕ). length x / 33) e ∙ ap (λ (x : ℕ). x / 33) (length-build (charOf b) (33 * frameCount b)) ∙ omega arith in
-    let h : r ≤ frameCount b = omega (arith, er) in (
-      ap (λ (x : ℕ). 33 * x) er ∙ ap (λ (x : ℕ). 33 * min x (length o / 33)) (sym n),
-      el ∙ ap (λ (x : List ℕ). x ++ drop (33 * r) o) (sym (take-lines b (frameCount b) r h) ∙ ap (take (33 * r)) (sym e)),
-    )
 
 -- a frame put at the front of a buffer that has room
 front-is : (an : List ℕ) (f : Frame) → 16 ≤ length an → take 16 (putFrame an 0 f) ≡ bytesOf f
@@ -54,7 +40,7 @@ unfolding putFrame
 front-is an f h = rw (lt-ltb 0 (frameCount an) (omega (arith, h)))
 
 -- after a call of `type_file` with buffers of the largest sizes
-module _ {pass : Pass} {limit : ℕ} {t fr an last out : List ℕ} {r : TypedFile} (h : HandsBack pass limit t fr an r last out) (ef : length fr ≡ 16384) (ea : length an ≡ 32768) where
+module _ {pass : Pass} {limit : ℕ} {t fr an last out : List ℕ} {r : TypedFile} (h : HandsBack pass limit t fr an r last out) (ef : length fr ≡ maxFrameBytes) (ea : length an ≡ maxAnswerBytes) where
   -- one that is refused: `put` is the answer buffer with the number's frame at its front
   module _ (put : List ℕ) (en : framesIn (r .outcome) ≡ Ou.None) (e : put ≡ putFrame out 0 (outcomeFrame (r .outcome))) where
     number-is : take 16 put ≡ bytesOf (outcomeFrame (r .outcome))
@@ -76,28 +62,70 @@ module _ {pass : Pass} {limit : ℕ} {t fr an last out : List ℕ} {r : TypedFil
   accepted-lines en =
       ap (overFile outcomeText (outputText pass) t) (sym (largest h ef ea) ∙ h .outcome) ∙ sym (handed-over h en outcomeText (λ (x y : List ℕ). textOf y (frameCount y)))
 
--- ALL OF IT FITS into 67,584 bytes, which is 2,048 lines: a file has at most 1,024 rows, and at most two frames are handed back of each
+-- ALL OF IT FITS into `maxLineBytes`: a file has at most `maxFrames` rows, and at most two frames are handed back of each
 pub few-outputs : (pass : Pass) (limit : ℕ) (t : List ℕ) (f a n : ℕ) → readFile limit t f (Lent a) ≡ Accepted n
-    → frameCount (outputBytes pass (decoded t n)) ≤ 2048
+    → frameCount (outputBytes pass (decoded t n)) ≤ 2 * maxFrames
 few-outputs pass limit t f a n e =
     let fr = decoded t n in
     let all = rowCount (startsOf fr) in
     omega (arith, bytes-length (outputs pass (see fr) all), two-a-row pass (see fr) all, few-rows pass fr a (ready-of pass limit t f a n e))
 
-lines-long : (b : List ℕ) (n : ℕ) → length (textOf b n) ≡ 33 * n
+pub lines-long : (b : List ℕ) (n : ℕ) → length (textOf b n) ≡ 33 * n
 lines-long b n = length-build (charOf b) (33 * n)
 
-pub text-fits : (pass : Pass) (limit : ℕ) (t : List ℕ) → length (typedText pass limit t) ≤ 67584
+pub text-fits : (pass : Pass) (limit : ℕ) (t : List ℕ) → length (typedText pass limit t) ≤ maxLineBytes
 unfolding typedText
-text-fits pass limit t = go (readFile limit t 16384 (Lent 32768)) refl
+text-fits pass limit t = go (readFile limit t maxFrameBytes (Lent maxAnswerBytes)) refl
   where
-    go : (o : Outcome) → readFile limit t 16384 (Lent 32768) ≡ o → length (overFile outcomeText (outputText pass) t o) ≤ 67584
+    go : (o : Outcome) → readFile limit t maxFrameBytes (Lent maxAnswerBytes) ≡ o → length (overFile outcomeText (outputText pass) t o) ≤ maxLineBytes
     go (Accepted n) e =
         let fr = decoded t n in
-        omega (arith, lines-long (outputBytes pass fr) (frameCount (outputBytes pass fr)), few-outputs pass limit t 16384 32768 n e)
+        omega (arith, lines-long (outputBytes pass fr) (frameCount (outputBytes pass fr)), few-outputs pass limit t maxFrameBytes maxAnswerBytes n e)
     go (Long m) e = omega (arith, lines-long (bytesOf (outcomeFrame (Long m))) 1)
     go (Torn k) e = omega (arith, lines-long (bytesOf (outcomeFrame (Torn k))) 1)
     go Short e = omega (arith, lines-long (bytesOf (outcomeFrame Short)) 1)
     go (Order k) e = omega (arith, lines-long (bytesOf (outcomeFrame (Order k))) 1)
     go (Field k) e = omega (arith, lines-long (bytesOf (outcomeFrame (Field k))) 1)
     go (Index k) e = omega (arith, lines-long (bytesOf (outcomeFrame (Index k))) 1)
+
+-- LINES IN A LENT BUFFER
+
+pub not-printed : (l o : List ℕ) → length o < length l → (Pr.Short ≡ printed l (length o)) × (o ≡ printedAfter l o)
+unfolding printed printedAfter
+not-printed l o h =
+    let e = lt-leb (length l) (length o) h in (
+      sym (ap (λ (b : Bool). cond b (Pr.Bytes (length l)) Pr.Short) e),
+      sym (ap (λ (b : Bool). cond b (l ++ drop (length l) o) o) e),
+    )
+
+pub all-printed : (l o last : List ℕ) (n : ℕ) → n ≡ length l → n ≤ length o → last ≡ l ++ drop n o
+    → (Pr.Bytes n ≡ printed l (length o)) × (last ≡ printedAfter l o)
+unfolding printed printedAfter
+all-printed l o last n en h el =
+    let e = le-leb (length l) (length o) (omega (arith, en)) in (
+      ap Pr.Bytes en ∙ sym (ap (λ (b : Bool). cond b (Pr.Bytes (length l)) Pr.Short) e),
+      el ∙ ap (λ (k : ℕ). l ++ drop k o) en ∙ sym (ap (λ (b : Bool). cond b (l ++ drop (length l) o) o) e),
+    )
+
+-- what was written lies within the buffer
+pub bytes-within : (l o last : List ℕ) (r : Printed) (n : ℕ) → r ≡ printed l (length o) → last ≡ printedAfter l o → r ≡ Pr.Bytes n → n ≤ length last
+unfolding printed printedAfter
+bytes-within l o last r n er el en = go (leb (length l) (length o)) (sym en ∙ er) el
+  where
+    go : (b : Bool) → Pr.Bytes n ≡ cond b (Pr.Bytes (length l)) Pr.Short → last ≡ cond b (l ++ drop (length l) o) o → n ≤ length last
+    go true e f = let q : n ≡ length l = cc in omega (arith, ap length f ∙ length-append l (drop (length l) o))
+    go false e f = let z : _≡_ {A = ℕ} 0 1 = cc in absurd (omega arith)
+
+-- the lines of some frames, written where there is room
+module _ (b o : List ℕ) (n : ℕ) (en : n ≡ 33 * (length b / 16)) where
+  long : n ≡ length (textOf b (frameCount b))
+  long = en ∙ sym (lines-long b (frameCount b))
+
+  pub lines-short : length o < n → (Pr.Short ≡ printed (textOf b (frameCount b)) (length o)) × (o ≡ printedAfter (textOf b (frameCount b)) o)
+  lines-short h = not-printed (textOf b (frameCount b)) o (omega (arith, long))
+
+  pub lines-all : (last : List ℕ) (r : ℕ) → n ≤ length o → r ≡ min (length b / 16) (length o / 33) → last ≡ textOf b r ++ drop (33 * r) o
+      → (Pr.Bytes n ≡ printed (textOf b (frameCount b)) (length o)) × (last ≡ printedAfter (textOf b (frameCount b)) o)
+  lines-all last r h er el =
+      let e : r ≡ frameCount b = omega (arith, er, en) in
+      all-printed (textOf b (frameCount b)) o last n long h (el ∙ ap (λ (k : ℕ). textOf b k ++ drop (33 * k) o) e ∙ ap (λ (k : ℕ). textOf b (frameCount b) ++ drop k o) (sym en))

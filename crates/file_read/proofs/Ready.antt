@@ -12,6 +12,7 @@ use borrow.Author.Tests.{lt-ltb}
 use Rattle.scan.specs.Lists.{sumBelow}
 use Rattle.answers.specs.declared.Outcome.{Outcome}
 use Rattle.answers.specs.declared.Outcome.the-variants.{Accepted}
+use Rattle.answers.specs.Limit.{maxFrames}
 use Rattle.text.specs.declared.AnswerRoom.the-variants.{Lent}
 use Rattle.text.specs.Lines.{lineCount, decoded}
 use Rattle.text.specs.Reading.{answerFrames}
@@ -51,7 +52,7 @@ module _ (limit : ℕ) (t : List ℕ) (f a n : ℕ) (r : Readable limit t f (Len
   abbrev fr : List ℕ
   fr = decoded t n
 
-  few : frameCount fr ≤ 1024
+  few : frameCount fr ≤ maxFrames
   few = rw (count-decoded t n) (count-small r)
 
   -- a frame's bytes are the line's
@@ -65,7 +66,7 @@ module _ (limit : ℕ) (t : List ℕ) (f a n : ℕ) (r : Readable limit t f (Len
   unfolding startsOf
   answers-fit pass good =
       let all = rowCount (startsOf fr) in
-      let within : startsOf fr .rows + all ≤ n = omega (arith, begins fr 1024 .within, begins fr 1280 .within, count-decoded t n) in
+      let within : startsOf fr .rows + all ≤ n = omega (arith, begins fr maxFrames .within, begins fr 1280 .within, count-decoded t n) in
       omega (arith, bytes-length (outputs pass (see fr) all), outputs-asked fr pass good all (omega arith), sum-grows (asked fr) (startsOf fr .rows + all) n within, sum-same (asked fr) (answerFrames t) n asked-is, r .answers, ap (sumBelow (answerFrames t)) (r .count))
 
 -- an accepted text is ready to be answered

@@ -19,6 +19,7 @@ use Rattle.ir.specs.declared.RowForm.the-variants as Ro
 use Rattle.ir.specs.Numbers.{rowKindOf}
 use Rattle.answers.specs.declared.Verdict.{Verdict}
 use Rattle.answers.specs.declared.Verdict.the-variants as Vd
+use Rattle.answers.specs.Limit.{maxFrames}
 use Rattle.frames.specs.declared.Frame.{Frame}
 use Rattle.frames.specs.Bytes.{byte, half, word, frameAt, putFrame}
 use Rattle.frames.specs.Forms.{rowAs, rowOf}
@@ -83,13 +84,13 @@ module _ (pass : Pass) (fr : List ℕ) (a : ℕ) (ready : Ready pass fr a) where
   pub good-of : Good fr
   good-of = good-when fr (ready .1) .0 (ready .0)
 
-  pub few-rows : rowCount (startsOf fr) ≤ 1024
-  few-rows = omega (arith, starts-small fr 1024 (ready .1) .1)
+  pub few-rows : rowCount (startsOf fr) ≤ maxFrames
+  few-rows = omega (arith, starts-small fr maxFrames (ready .1) .1)
 
   -- rows begin within the file
-  pub row-small : (s : Starts) → s ≡ startsOf fr → s .rows ≤ 1024
+  pub row-small : (s : Starts) → s ≡ startsOf fr → s .rows ≤ maxFrames
   unfolding startsOf
-  row-small s es = omega (arith, ap (λ (z : Starts). z .rows) es, begins fr 1024 .within, ready .1)
+  row-small s es = omega (arith, ap (λ (z : Starts). z .rows) es, begins fr maxFrames .within, ready .1)
 
   pub room-for : (m : ℕ) → m ≤ rowCount (startsOf fr) → 16 * length (outputs pass (see fr) m) ≤ a
   room-for m h =

@@ -7,6 +7,7 @@ use mathlib.Core.List.{List, _++_}
 use lib.ListN.{length, take, drop, length-append}
 use lib.Seq.{take-at}
 use Rattle.answers.specs.declared.Outcome.{Outcome}
+use Rattle.answers.specs.Limit.{maxFrameBytes, maxAnswerBytes}
 use Rattle.text.specs.declared.AnswerRoom.the-variants.{Lent}
 use Rattle.frames.specs.Bytes.{frameCount}
 use Rattle.archive.specs.Starts.{startsOf, rowCount}
@@ -78,5 +79,5 @@ module _ {pass : Pass} {limit : ℕ} {t fr an last out : List ℕ} {r : TypedFil
     handed-over f g = ap (g x) outputs-there ∙ over f (λ (y : List ℕ). g y (outputBytes pass y))
 
   -- read with buffers of the largest sizes that a file asks for
-  pub largest : length fr ≡ 16384 → length an ≡ 32768 → r .outcome ≡ readFile limit t 16384 (Lent 32768)
-  largest ef ea = h .outcome ∙ ap (λ (m : ℕ). readFile limit t m (Lent (length an))) ef ∙ ap (λ (m : ℕ). readFile limit t 16384 (Lent m)) ea
+  pub largest : length fr ≡ maxFrameBytes → length an ≡ maxAnswerBytes → r .outcome ≡ readFile limit t maxFrameBytes (Lent maxAnswerBytes)
+  largest ef ea = h .outcome ∙ ap (λ (m : ℕ). readFile limit t m (Lent (length an))) ef ∙ ap (λ (m : ℕ). readFile limit t maxFrameBytes (Lent m)) ea

@@ -4,6 +4,7 @@ use mathlib.Core.List.{List}
 use lib.ListN.{length}
 use Rattle.answers.specs.declared.Outcome.{Outcome}
 use Rattle.answers.specs.declared.Outcome.the-variants.{Accepted, Long, Torn, Short, Order, Field, Index}
+use Rattle.answers.specs.Numbers.{Refused, outcomeValues}
 use Rattle.text.specs.declared.AnswerRoom.{AnswerRoom}
 use Rattle.text.specs.Lines.{decoded}
 use Rattle.text.specs.Reading.{readText, framesRead}
@@ -26,6 +27,10 @@ thenFrames t o = overFile (λ (r : Outcome). r) checkFrames t o
 -- what reading a text gives within a limit of frames, with a frame buffer of f bytes, and an answer buffer where one is lent
 unfoldable pub readFile : ℕ → List ℕ → ℕ → AnswerRoom → Outcome
 readFile limit t f room = thenFrames t (readText limit t f room)
+
+-- in document 01's numbers
+abbrev pub fileSaid : ℕ → List ℕ → ℕ → AnswerRoom → Refused
+fileSaid limit t f room = outcomeValues (readFile limit t f room)
 
 -- the frame buffer after it: as it was after numbers 1 to 3, else the frames at its front, also after numbers 4 to 6
 unfoldable pub framesAfter : ℕ → List ℕ → List ℕ → AnswerRoom → List ℕ

@@ -6,6 +6,7 @@ use lib.ListN.{length, take, drop}
 use Rattle.ir.specs.declared.RowNumber.{RowNumber}
 use Rattle.answers.specs.declared.Outcome.{Outcome}
 use Rattle.answers.specs.declared.Outcome.the-variants.{Accepted, Long, Torn, Short, Order, Field, Index}
+use Rattle.answers.specs.Limit.{maxFrames}
 use Rattle.frames.specs.Bytes.{frameCount}
 use Rattle.archive.specs.declared.Starts.{Starts}
 use Rattle.archive.specs.Starts.{startsOf, rowCount}
@@ -29,7 +30,7 @@ framesIn (Index k) = Ou.None
 
 -- the frames of an accepted file, and an answer buffer of a bytes that has room for what is handed back
 abbrev pub Ready : Pass → List ℕ → ℕ → Type 0
-Ready pass fr a = (checkFrames fr ≡ Accepted (frameCount fr)) × (frameCount fr ≤ 1024) × (length (outputBytes pass fr) ≤ a)
+Ready pass fr a = (checkFrames fr ≡ Accepted (frameCount fr)) × (frameCount fr ≤ maxFrames) × (length (outputBytes pass fr) ≤ a)
 
 -- WHAT THE CODE THAT ANSWERS ROWS KNOWS at each row
 

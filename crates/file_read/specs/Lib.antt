@@ -1,4 +1,5 @@
 pub mod File
 pub mod Types
 pub mod Typing
+pub mod Printed
 pub mod ForProofs

@@ -1,6 +1,6 @@
 -- Typing the rows of a file, over its text (document 01, the end of "The file", "Numbers handed back" and "Cases"): the file is checked first, with the answer
 -- buffer's length; one that is not accepted gives its number and place and leaves the answer buffer unchanged.
-use Prim.Native.Nat.{ℕ, _*_, _/_, min}
+use Prim.Native.Nat.{ℕ}
 use mathlib.Core.Path.{_≡_}
 use mathlib.Core.Bool.{cond}
 use mathlib.Core.List.{List, _++_}
@@ -12,13 +12,16 @@ use Rattle.answers.specs.declared.RowType.{RowType}
 use Rattle.answers.specs.declared.RowType.the-variants as Rt
 use Rattle.answers.specs.declared.ComposeVerdict.{ComposeVerdict}
 use Rattle.answers.specs.declared.ComposeVerdict.the-variants as Cv
+use Rattle.answers.specs.Limit.{maxFrameBytes, maxAnswerBytes}
+use Rattle.answers.specs.Numbers.{notThere, outcomeValues, SaidOne, asked, instead}
 use Rattle.text.specs.declared.AnswerRoom.the-variants.{Lent}
 use Rattle.text.specs.Lines.{textOf}
+use Rattle.frames.specs.declared.Frame.{Frame}
 use Rattle.frames.specs.Bytes.{bytesOf, frameCount}
 use Rattle.frames.specs.Out.{outcomeFrame}
 use Rattle.archive.specs.Starts.{startsOf, rowCount}
 use Rattle.archive.specs.Names.{isRow}
-use Rattle.rule.specs.Answers.{Typed, Judgement, Result}
+use Rattle.rule.specs.Answers.{Typed, Judgement, Result, rowFrame, verdictFrame}
 use Rattle.rule.specs.Things.{see}
 use Rattle.rule_rows.specs.declared.Pass.{Pass}
 use Rattle.rule_rows.specs.Answered.{toResult}
@@ -26,7 +29,7 @@ use Rattle.rule_compose.specs.Rows.{verdictOf}
 use Rattle.rule_compose.specs.Judged.{toJudged}
 use Rattle.rule_answers.specs.Outputs.{rowAnswer, outputBytes}
 use Rattle.file_read.specs.declared.TypedFile.{TypedFile}
-use Rattle.file_read.specs.File.{overFile, readFile, framesAfter}
+use Rattle.file_read.specs.File.{overFile, readFile, fileSaid, framesAfter}
 
 -- TYPE_ROWS, TYPE_FILE
 
@@ -45,6 +48,7 @@ outputCount pass limit t f a = overFile (λ (o : Outcome). 0) (λ (fr : List ℕ
 -- what `type_file` gives, r, and leaves: fr and an are the frame buffer and the answer buffer before it, `last` and `out` after it
 pub record HandsBack (pass : Pass) (limit : ℕ) (t fr an : List ℕ) (r : TypedFile) (last out : List ℕ) : Type 0 where
   pub outcome : r .outcome ≡ readFile limit t (length fr) (Lent (length an))
+  pub said : outcomeValues (r .outcome) ≡ fileSaid limit t (length fr) (Lent (length an))
   pub outputs : r .outputs ≡ outputCount pass limit t (length fr) (length an)
   pub frames : last ≡ framesAfter limit t fr (Lent (length an))
   pub answers : out ≡ answersAfter pass limit t (length fr) an
@@ -69,6 +73,12 @@ rowGiven pass n fr = cond (isRow (startsOf fr) n) (answer (rowAnswer pass (see f
 -- with a frame buffer of f bytes and an answer buffer of a bytes
 unfoldable pub rowType : Pass → ℕ → List ℕ → ℕ → ℕ → RowNumber → RowGiven
 rowType pass limit t f a n = overFile notAccepted (rowGiven pass n) t (readFile limit t f (Lent a))
+
+-- in document 01's numbers, as `rowTypeSaid` has it of what the code gives
+abbrev pub rowSaid : RowGiven → SaidOne Frame
+rowSaid (answer a) = asked (rowFrame a)
+rowSaid noRow = instead notThere
+rowSaid (notAccepted o) = instead (outcomeValues o)
 
 -- the answer buffer after it: as after `type_rows`, and unchanged where the file does not have the row
 unfoldable pub answersAfterRow : Pass → ℕ → List ℕ → ℕ → List ℕ → RowNumber → List ℕ
@@ -101,6 +111,13 @@ verdictGiven pass n fr = cond (isRow (startsOf fr) n) (orNoCompose (verdictOf pa
 unfoldable pub composeVerdict : Pass → ℕ → List ℕ → ℕ → ℕ → RowNumber → VerdictGiven
 composeVerdict pass limit t f a n = overFile notAccepted (verdictGiven pass n) t (readFile limit t f (Lent a))
 
+-- in document 01's numbers, as `composeVerdictSaid` has it of what the code gives
+abbrev pub verdictSaid : RowNumber → VerdictGiven → SaidOne Frame
+verdictSaid n (verdict j) = asked (verdictFrame n j)
+verdictSaid n noCompose = instead notThere
+verdictSaid n noRow = instead notThere
+verdictSaid n (notAccepted o) = instead (outcomeValues o)
+
 -- the answer buffer after it: as after `type_rows` where a verdict is given, else unchanged
 abbrev pub ifJudged : List ℕ → List ℕ → VerdictGiven → List ℕ
 ifJudged written an (verdict j) = written
@@ -122,10 +139,6 @@ outcomeText o = textOf (bytesOf (outcomeFrame o)) 1
 abbrev pub outputText : Pass → List ℕ → List ℕ
 outputText pass fr = textOf (outputBytes pass fr) (frameCount (outputBytes pass fr))
 
--- with buffers of the largest sizes that a file asks for, 16,384 and 32,768 bytes
+-- with buffers of the largest sizes that a file asks for
 unfoldable pub typedText : Pass → ℕ → List ℕ → List ℕ
-typedText pass limit t = overFile outcomeText (outputText pass) t (readFile limit t 16384 (Lent 32768))
-
--- how many of its bytes fit whole lines into an output buffer of o bytes
-abbrev pub linesIn : Pass → ℕ → List ℕ → ℕ → ℕ
-linesIn pass limit t o = 33 * min (length (typedText pass limit t) / 33) (o / 33)
+typedText pass limit t = overFile outcomeText (outputText pass) t (readFile limit t maxFrameBytes (Lent maxAnswerBytes))

@@ -8,8 +8,9 @@ use text::AnswerRoom;
 use text_decode::read_text;
 ghost use mathlib.Core.Path.{_≡_};
 ghost use lib.ListN.{length};
+ghost use Rattle.answers.specs.Numbers.{outcomeValues, samenessSaid};
 ghost use Rattle.text.specs.declared.AnswerRoom.the-variants.{NotLent};
-ghost use Rattle.file_read.specs.File.{readFile, framesAfter};
+ghost use Rattle.file_read.specs.File.{readFile, fileSaid, framesAfter};
 ghost use Rattle.file_read.specs.Types.{sameTypes};
 ghost use Rattle.file_read.specs.ForProofs.{framesIn};
 
@@ -43,6 +44,7 @@ pub fn frames_in(o: Outcome) -> OptionUsize
 // at the front of the frame buffer, and its bytes past them stay.
 pub fn read_with(limit: u32, text: &[u8], frames: &mut [u8], room: AnswerRoom) -> Outcome
     ensures outcome { λ r. ⌜ r ≡ readFile limit (now (text .entry)) (length (now (frames .entry))) room ⌝ }
+    ensures said { λ r. ⌜ outcomeValues r ≡ fileSaid limit (now (text .entry)) (length (now (frames .entry))) room ⌝ }
     ensures frames { λ r. ⌜ now (frames .exit) ≡ framesAfter limit (now (text .entry)) (now (frames .entry)) room ⌝ }
 {
     let read = read_text(limit, text, frames, room);
@@ -58,6 +60,7 @@ pub fn read_with(limit: u32, text: &[u8], frames: &mut [u8], room: AnswerRoom) -
 // Whether a file is accepted, or the number and place of its fault.
 pub fn read_file(limit: u32, text: &[u8], frames: &mut [u8]) -> Outcome
     ensures outcome { λ r. ⌜ r ≡ readFile limit (now (text .entry)) (length (now (frames .entry))) NotLent ⌝ }
+    ensures said { λ r. ⌜ outcomeValues r ≡ fileSaid limit (now (text .entry)) (length (now (frames .entry))) NotLent ⌝ }
     ensures frames { λ r. ⌜ now (frames .exit) ≡ framesAfter limit (now (text .entry)) (now (frames .entry)) NotLent ⌝ }
 {
     read_with(limit, text, frames, AnswerRoom::NotLent)
@@ -66,6 +69,8 @@ pub fn read_file(limit: u32, text: &[u8], frames: &mut [u8]) -> Outcome
 // Whether two answers of a file, as frames of family 8 or 9, are the same type. The frame buffer is as `read_file` leaves it.
 pub fn same_type(limit: u32, text: &[u8], frames: &mut [u8], left: Frame, right: Frame) -> Sameness
     ensures outcome { λ r. ⌜ r ≡ sameTypes limit (now (text .entry)) (length (now (frames .entry))) left right ⌝ }
+    ensures said { λ r. ⌜ samenessSaid r
+        ≡ samenessSaid (sameTypes limit (now (text .entry)) (length (now (frames .entry))) left right) ⌝ }
     ensures frames { λ r. ⌜ now (frames .exit) ≡ framesAfter limit (now (text .entry)) (now (frames .entry)) NotLent ⌝ }
 {
     let read = read_file(limit, text, frames);

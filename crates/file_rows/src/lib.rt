@@ -1,6 +1,7 @@
 // Typing the rows of a file: an answer for each row, in order, and after a compose its verdict. An earlier answer is found in the answer buffer by a table of
 // places.
 use answers::ComposeVerdict;
+use answers::MAX_FRAMES;
 use answers::Outcome;
 use answers::RowType;
 use answers::Verdict;
@@ -34,7 +35,9 @@ ghost use lib.ListN.{length, take, drop};
 ghost use Rattle.text.specs.declared.AnswerRoom.the-variants.{Lent};
 ghost use Rattle.archive.specs.Starts.{startsOf, rowCount};
 ghost use Rattle.archive.specs.Names.{isRow};
+ghost use Rattle.answers.specs.Numbers.{outcomeValues};
 ghost use Rattle.frames.specs.Bytes.{putFrame};
+ghost use Rattle.frames.specs.Out.{rowTypeSaid, composeVerdictSaid};
 ghost use Rattle.rule.specs.Answers.{rowFrame};
 ghost use Rattle.rule.specs.Things.{see};
 ghost use Rattle.rule_rows.specs.Typed.{typed};
@@ -43,8 +46,8 @@ ghost use Rattle.rule_compose.specs.Judged.{toJudged};
 ghost use Rattle.rule_compose.specs.ForProofs.{judgedBy, composeRule};
 ghost use Rattle.rule_answers.specs.Outputs.{outputs, outputBytes};
 ghost use Rattle.rule_answers.specs.ForProofs.{placesOf};
-ghost use Rattle.file_read.specs.File.{readFile, framesAfter};
-ghost use Rattle.file_read.specs.Typing.{answersWritten, answersAfter, HandsBack, toGiven, rowGiven, rowType, answersAfterRow, toVerdict, verdictGiven, ifJudged, composeVerdict, answersAfterVerdict};
+ghost use Rattle.file_read.specs.File.{readFile, fileSaid, framesAfter};
+ghost use Rattle.file_read.specs.Typing.{answersWritten, answersAfter, HandsBack, toGiven, rowGiven, rowType, rowSaid, answersAfterRow, toVerdict, verdictGiven, ifJudged, composeVerdict, verdictSaid, answersAfterVerdict};
 ghost use Rattle.file_read.specs.ForProofs.{Ready, Turn, Written};
 
 // Writes the answer of row `here`, by the rules of a pass and the answers so far, as frame `at` of the answer buffer.
@@ -153,7 +156,7 @@ fn answer_all(pass: Pass, frames: &[u8], answers: &mut [u8]) -> usize
     ensures count { λ r. ⌜ 16 * r ≡ length (outputBytes pass (now (frames .entry))) ⌝ }
     ensures answers { λ r. ⌜ now (answers .exit) ≡ answersWritten pass (now (answers .entry)) (now (frames .entry)) ⌝ }
 {
-    let mut places = [0u16; 1024];
+    let mut places = [0u16; MAX_FRAMES];
     let s = find_starts(frames);
     answer_rows(pass, frames, s, answers, &mut places)
 }
@@ -168,7 +171,7 @@ fn answer_one(pass: Pass, frames: &[u8], answers: &mut [u8], row: RowNumber) -> 
 {
     let s = find_starts(frames);
     if is_row(s, row) {
-        let mut places = [0u16; 1024];
+        let mut places = [0u16; MAX_FRAMES];
         answer_rows(pass, frames, s, answers, &mut places);
         let n = row_count(s);
         RowType::Answered(past(answers, &places[..n], row))
@@ -190,7 +193,7 @@ fn judge_one(pass: Pass, frames: &[u8], answers: &mut [u8], row: RowNumber) -> C
         let m = row.0 as usize;
         let f = frame_at(frames, s.rows + m);
         if is_compose(f.b1) {
-            let mut places = [0u16; 1024];
+            let mut places = [0u16; MAX_FRAMES];
             answer_rows(pass, frames, s, answers, &mut places);
             ComposeVerdict::Judged(judge_row(frames, s, answers, &places[..m], f))
         } else {
@@ -240,6 +243,8 @@ pub fn type_rows(
 ) -> Outcome
     ensures outcome { λ r. ⌜ r
         ≡ readFile limit (now (text .entry)) (length (now (frames .entry))) (Lent (length (now (answers .entry)))) ⌝ }
+    ensures said { λ r. ⌜ outcomeValues r
+        ≡ fileSaid limit (now (text .entry)) (length (now (frames .entry))) (Lent (length (now (answers .entry)))) ⌝ }
     ensures frames { λ r. ⌜ now (frames .exit)
         ≡ framesAfter limit (now (text .entry)) (now (frames .entry)) (Lent (length (now (answers .entry)))) ⌝ }
     ensures answers { λ r. ⌜ now (answers .exit)
@@ -260,6 +265,9 @@ pub fn row_type(
 ) -> RowType
     ensures outcome { λ r. ⌜ toGiven r
         ≡ rowType pass limit (now (text .entry)) (length (now (frames .entry))) (length (now (answers .entry))) row ⌝ }
+    ensures said { λ r. ⌜ rowTypeSaid r
+        ≡ rowSaid (rowType pass limit (now (text .entry)) (length (now (frames .entry)))
+        (length (now (answers .entry))) row) ⌝ }
     ensures frames { λ r. ⌜ now (frames .exit)
         ≡ framesAfter limit (now (text .entry)) (now (frames .entry)) (Lent (length (now (answers .entry)))) ⌝ }
     ensures answers { λ r. ⌜ now (answers .exit)
@@ -286,6 +294,9 @@ pub fn compose_verdict(
 ) -> ComposeVerdict
     ensures outcome { λ r. ⌜ toVerdict r
         ≡ composeVerdict pass limit (now (text .entry)) (length (now (frames .entry))) (length (now (answers .entry))) row ⌝ }
+    ensures said { λ r. ⌜ composeVerdictSaid row r
+        ≡ verdictSaid row (composeVerdict pass limit (now (text .entry)) (length (now (frames .entry)))
+        (length (now (answers .entry))) row) ⌝ }
     ensures frames { λ r. ⌜ now (frames .exit)
         ≡ framesAfter limit (now (text .entry)) (now (frames .entry)) (Lent (length (now (answers .entry)))) ⌝ }
     ensures answers { λ r. ⌜ now (answers .exit)

@@ -9,7 +9,7 @@ use Rattle.ir.specs.declared.TypeKind.the-variants as Tk
 use Rattle.ir.specs.declared.TypeInner.{TypeInner}
 use Rattle.ir.specs.declared.TypeInner.the-variants as Ti
 use Rattle.ir.specs.Numbers.{typeKindNumber}
-use Rattle.answers.specs.Numbers.{Refused, Judged, at, outcomeValues, refusalValues, verdictValues}
+use Rattle.answers.specs.Numbers.{Refused, Judged, at, notThere, outcomeValues, refusalValues, verdictValues, SaidOne, asked, instead}
 use Rattle.answers.specs.declared.Answer.{Answer}
 use Rattle.answers.specs.declared.Answer.the-variants as An
 use Rattle.answers.specs.declared.Outcome.{Outcome}
@@ -17,6 +17,10 @@ use Rattle.answers.specs.declared.Refusal.{Refusal}
 use Rattle.ir.specs.declared.TypeResolution.{TypeResolution}
 use Rattle.ir.specs.declared.TypeResolution.the-variants as Tr
 use Rattle.answers.specs.declared.Verdict.{Verdict}
+use Rattle.answers.specs.declared.RowType.{RowType}
+use Rattle.answers.specs.declared.RowType.the-variants as Rt
+use Rattle.answers.specs.declared.ComposeVerdict.{ComposeVerdict}
+use Rattle.answers.specs.declared.ComposeVerdict.the-variants as Cv
 use Rattle.frames.specs.declared.Frame.{Frame}
 use Rattle.frames.specs.Fields.{Layout, Vals, laid}
 use Rattle.frames.specs.Layout.{typeLayout, numberLayout, refusalLayout, verdictLayout}
@@ -83,3 +87,22 @@ judgedFrame r j = laid 11 (j .number) verdictLayout (r .0, (j .first, (j .given,
 -- a compose's verdict, after its row
 abbrev pub verdictFrame : RowNumber → Verdict → Frame
 verdictFrame r v = judgedFrame r (verdictValues v)
+
+-- WHERE ONE ROW IS ASKED FOR: the frame of its answer or its verdict, or a number with its place (document 01, "Numbers handed back", last paragraph)
+
+abbrev pub rowTypeSaid : RowType → SaidOne Frame
+rowTypeSaid (Rt.Answered a) = asked (answerFrame a)
+rowTypeSaid Rt.Index = instead notThere
+rowTypeSaid (Rt.NotAccepted o) = instead (outcomeValues o)
+
+-- a row that is no compose is number 6 too: no compose has that number
+abbrev pub composeVerdictSaid : RowNumber → ComposeVerdict → SaidOne Frame
+composeVerdictSaid n (Cv.Judged v) = asked (verdictFrame n v)
+composeVerdictSaid n Cv.NotCompose = instead notThere
+composeVerdictSaid n Cv.Index = instead notThere
+composeVerdictSaid n (Cv.NotAccepted o) = instead (outcomeValues o)
+
+-- the frame that it is handed back as
+abbrev pub oneFrame : SaidOne Frame → Frame
+oneFrame (asked f) = f
+oneFrame (instead r) = refusedFrame r

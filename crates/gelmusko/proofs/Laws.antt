@@ -16,6 +16,7 @@ use Rattle.answers.specs.declared.Outcome.{Outcome}
 use Rattle.answers.specs.declared.Outcome.the-variants.{Accepted, Long, Torn, Short, Order, Field, Index}
 use Rattle.answers.specs.declared.CanonicalType.the-variants as Ct
 use Rattle.answers.specs.declared.PointerBase.the-variants as Pb
+use Rattle.answers.specs.Limit.{maxFrames}
 use Rattle.text.specs.declared.AnswerRoom.{AnswerRoom}
 use Rattle.text.specs.declared.AnswerRoom.the-variants.{NotLent, Lent}
 use Rattle.text.specs.Lines.{lineOk, lineCount, decoded}
@@ -33,10 +34,10 @@ use Rattle.rule_compose.specs.Rows.{verdictOf}
 use Rattle.rule_types.specs.Canonical.{baseOfForm, pointerBaseIn, canonicalOfForm, canonicalTypeIn}
 use Rattle.rule_answers.specs.Outputs.{rowAnswer}
 use Rattle.file_read.specs.File.{overFile, readFile}
-use Rattle.file_read.specs.Typing.{answersWritten, RowGiven, rowGiven, rowType, answersAfterRow, VerdictGiven, orNoCompose, verdictGiven, composeVerdict, ifJudged, answersAfterVerdict}
+use Rattle.file_read.specs.Typing.{answersWritten, RowGiven, rowGiven, rowType, answersAfterRow, VerdictGiven, orNoCompose, verdictGiven, composeVerdict, verdictSaid, ifJudged, answersAfterVerdict}
 use Rattle.file_read.proofs.Laws.{count-decoded, accepted-when}
 use Rattle.file_pointers.specs.Forms.{canonicalType, pointerBaseType}
-use Rattle.file_exports.specs.Exported.{shortNumber, noRoom, byRoom, verdictGivenFrame}
+use Rattle.file_exports.specs.Exported.{outcomeNumber, orShort, noRoom, byRoom}
 
 -- AN OUT-SLICE THAT IS TOO SMALL
 
@@ -52,24 +53,24 @@ unfolding putFrame
 not-put out f h = rw (le-ltb 0 (frameCount out) (omega arith))
 
 -- numbers 1 and 2 do not depend on what is lent
-pub any-room : (limit : ℕ) (t : List ℕ) (f : ℕ) (room : AnswerRoom) → noRoom limit t ≡ shortNumber (readText limit t f room)
+pub any-room : (limit : ℕ) (t : List ℕ) (f : ℕ) (room : AnswerRoom) → noRoom limit t ≡ outcomeNumber (orShort (readText limit t f room))
 unfolding noRoom readText
 any-room limit t f room =
     by-long (ltb (33 * mostFrames limit) (length t)) (lowest (lineOk t) (lineCount t)) (tooShort t 0 NotLent) (tooShort t f room)
   where
-    short : (a b : Bool) (n : ℕ) → shortNumber (cond a Short (Accepted n)) ≡ shortNumber (cond b Short (Accepted n))
+    short : (a b : Bool) (n : ℕ) → outcomeNumber (orShort (cond a Short (Accepted n))) ≡ outcomeNumber (orShort (cond b Short (Accepted n)))
     short true true n = refl
     short true false n = refl
     short false true n = refl
     short false false n = refl
 
     by-torn : (k : Found) (a b : Bool)
-        → shortNumber (afterTorn k (cond a Short (Accepted (lineCount t)))) ≡ shortNumber (afterTorn k (cond b Short (Accepted (lineCount t))))
+        → outcomeNumber (orShort (afterTorn k (cond a Short (Accepted (lineCount t))))) ≡ outcomeNumber (orShort (afterTorn k (cond b Short (Accepted (lineCount t)))))
     by-torn (Fo.At k) a b = refl
     by-torn Fo.Nothing a b = short a b (lineCount t)
 
     by-long : (l : Bool) (k : Found) (a b : Bool)
-        → shortNumber (cond l (Long (mostFrames limit)) (afterTorn k (cond a Short (Accepted (lineCount t))))) ≡ shortNumber (cond l (Long (mostFrames limit)) (afterTorn k (cond b Short (Accepted (lineCount t)))))
+        → outcomeNumber (orShort (cond l (Long (mostFrames limit)) (afterTorn k (cond a Short (Accepted (lineCount t)))))) ≡ outcomeNumber (orShort (cond l (Long (mostFrames limit)) (afterTorn k (cond b Short (Accepted (lineCount t))))))
     by-long true k a b = refl
     by-long false k a b = by-torn k a b
 
@@ -95,14 +96,14 @@ over-same f g h t (Order k) e = refl
 over-same f g h t (Field k) e = refl
 over-same f g h t (Index k) e = refl
 
-few : (limit : ℕ) (t : List ℕ) (f : ℕ) (room : AnswerRoom) (n : ℕ) → readFile limit t f room ≡ Accepted n → frameCount (decoded t n) ≤ 1024
+few : (limit : ℕ) (t : List ℕ) (f : ℕ) (room : AnswerRoom) (n : ℕ) → readFile limit t f room ≡ Accepted n → frameCount (decoded t n) ≤ maxFrames
 few limit t f room n e = rw (count-decoded t n) (count-small (accepted-when limit t f room n .0 e .readable))
 
-no-row : (fr : List ℕ) (m : ℕ) → frameCount fr ≤ 1024 → 65535 ≤ m → isRow (startsOf fr) (record { 0 = m }) ≡ false
-no-row fr m h l = le-ltb m (rowCount (startsOf fr)) (omega (arith, starts-small fr 1024 h .1))
+no-row : (fr : List ℕ) (m : ℕ) → frameCount fr ≤ maxFrames → 65535 ≤ m → isRow (startsOf fr) (record { 0 = m }) ≡ false
+no-row fr m h l = le-ltb m (rowCount (startsOf fr)) (omega (arith, starts-small fr maxFrames h .1))
 
-no-type : (fr : List ℕ) (m : ℕ) → frameCount fr ≤ 1024 → 65535 ≤ m → isType (startsOf fr) (record { 0 = m }) ≡ false
-no-type fr m h l = le-ltb m (typeCount (startsOf fr)) (omega (arith, starts-small fr 1024 h .0))
+no-type : (fr : List ℕ) (m : ℕ) → frameCount fr ≤ maxFrames → 65535 ≤ m → isType (startsOf fr) (record { 0 = m }) ≡ false
+no-type fr m h l = le-ltb m (typeCount (startsOf fr)) (omega (arith, starts-small fr maxFrames h .0))
 
 -- a row or a type of a number from 65,535 on is one that the file does not have
 module _ (pass : Pass) (limit : ℕ) (t : List ℕ) (f a : ℕ) where
@@ -137,16 +138,16 @@ module _ (pass : Pass) (limit : ℕ) (t : List ℕ) (f a : ℕ) where
       → composeVerdict pass limit t f a (record { 0 = k }) ≡ composeVerdict pass limit t f a (record { 0 = n })
   verdict-clamped = clamped-is (λ (m : ℕ). composeVerdict pass limit t f a (record { 0 = m })) _ verdict-stray
 
-  -- no verdict is given of such a row, so its number stands in no frame
-  frame-stray : (m : ℕ) → 65535 ≤ m
-      → verdictGivenFrame (record { 0 = m }) (composeVerdict pass limit t f a (record { 0 = m }))
-      ≡ verdictGivenFrame (record { 0 = 0 })
+  -- no verdict is given of such a row, so that its number stands in no frame
+  said-stray : (m : ℕ) → 65535 ≤ m
+      → verdictSaid (record { 0 = m }) (composeVerdict pass limit t f a (record { 0 = m }))
+      ≡ verdictSaid (record { 0 = 0 })
       (overFile VerdictGiven.notAccepted (λ (x : List ℕ). VerdictGiven.noRow) t (readFile limit t f (Lent a)))
-  frame-stray m l = ap (verdictGivenFrame (record { 0 = m })) (verdict-stray m l) ∙ go (readFile limit t f (Lent a))
+  said-stray m l = ap (verdictSaid (record { 0 = m })) (verdict-stray m l) ∙ go (readFile limit t f (Lent a))
     where
       go : (o : Outcome)
-          → verdictGivenFrame (record { 0 = m }) (overFile VerdictGiven.notAccepted (λ (x : List ℕ). VerdictGiven.noRow) t o)
-          ≡ verdictGivenFrame (record { 0 = 0 }) (overFile VerdictGiven.notAccepted (λ (x : List ℕ). VerdictGiven.noRow) t o)
+          → verdictSaid (record { 0 = m }) (overFile VerdictGiven.notAccepted (λ (x : List ℕ). VerdictGiven.noRow) t o)
+          ≡ verdictSaid (record { 0 = 0 }) (overFile VerdictGiven.notAccepted (λ (x : List ℕ). VerdictGiven.noRow) t o)
       go (Accepted n) = refl
       go (Long k) = refl
       go (Torn k) = refl
@@ -155,15 +156,15 @@ module _ (pass : Pass) (limit : ℕ) (t : List ℕ) (f a : ℕ) where
       go (Field k) = refl
       go (Index k) = refl
 
-  pub frame-clamped : (n k : ℕ) → k ≡ min n 65535
-      → verdictGivenFrame (record {
+  pub said-clamped : (n k : ℕ) → k ≡ min n 65535
+      → verdictSaid (record {
         0 =
             k;
-      }) (composeVerdict pass limit t f a (record { 0 = k })) ≡ verdictGivenFrame (record {
+      }) (composeVerdict pass limit t f a (record { 0 = k })) ≡ verdictSaid (record {
         0 = n;
       }) (composeVerdict pass limit t f a (record { 0 = n }))
-  frame-clamped =
-      clamped-is (λ (m : ℕ). verdictGivenFrame (record { 0 = m }) (composeVerdict pass limit t f a (record { 0 = m }))) _ frame-stray
+  said-clamped =
+      clamped-is (λ (m : ℕ). verdictSaid (record { 0 = m }) (composeVerdict pass limit t f a (record { 0 = m }))) _ said-stray
 
 module _ (pass : Pass) (limit : ℕ) (t : List ℕ) (f : ℕ) (an : List ℕ) where
   answers-stray : (m : ℕ) → 65535 ≤ m

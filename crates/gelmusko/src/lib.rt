@@ -3,11 +3,13 @@
 pub mod rows;
 pub mod types;
 
+use answers::MAX_LIMIT;
 use file_exports::no_room;
 use file_exports::put_outcome;
 use file_read::read_file;
 ghost use mathlib.Core.Path.{_≡_};
 ghost use lib.ListN.{length};
+ghost use Rattle.answers.specs.Limit.{maxFrames};
 ghost use Rattle.text.specs.declared.AnswerRoom.the-variants.{NotLent};
 ghost use Rattle.frames.specs.Bytes.{putFrame};
 ghost use Rattle.frames.specs.Out.{outcomeFrame};
@@ -18,18 +20,18 @@ ghost use Rattle.file_exports.specs.Exported.{noRoom, byRoom, outcomeNumber};
 #[no_mangle]
 pub extern "C" fn gelmusko_read_file(text: &[u8], frames: &mut [u8], out: &mut [u8]) -> u32
     ensures outcome { λ r. ⌜ r
-        ≡ byRoom (now (out .entry)) (noRoom 1024 (now (text .entry)))
-        (outcomeNumber (readFile 1024 (now (text .entry)) (length (now (frames .entry))) NotLent)) ⌝ }
+        ≡ byRoom (now (out .entry)) (noRoom maxFrames (now (text .entry)))
+        (outcomeNumber (readFile maxFrames (now (text .entry)) (length (now (frames .entry))) NotLent)) ⌝ }
     ensures frames { λ r. ⌜ now (frames .exit)
         ≡ byRoom (now (out .entry)) (now (frames .entry))
-        (framesAfter 1024 (now (text .entry)) (now (frames .entry)) NotLent) ⌝ }
+        (framesAfter maxFrames (now (text .entry)) (now (frames .entry)) NotLent) ⌝ }
     ensures out { λ r. ⌜ now (out .exit)
         ≡ putFrame (now (out .entry)) 0
-        (outcomeFrame (readFile 1024 (now (text .entry)) (length (now (frames .entry))) NotLent)) ⌝ }
+        (outcomeFrame (readFile maxFrames (now (text .entry)) (length (now (frames .entry))) NotLent)) ⌝ }
 {
     if out.len() < 16 {
-        return no_room(1024, text);
+        return no_room(MAX_LIMIT, text);
     }
-    let read = read_file(1024, text, frames);
+    let read = read_file(MAX_LIMIT, text, frames);
     put_outcome(out, read)
 }

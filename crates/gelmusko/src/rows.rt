@@ -1,4 +1,5 @@
 // The rows of a file, and its composes.
+use answers::MAX_LIMIT;
 use file_exports::clamped;
 use file_exports::no_room;
 use file_exports::put_outcome;
@@ -11,13 +12,14 @@ use ir::RowNumber;
 use rule_rows::Pass;
 ghost use mathlib.Core.Path.{_≡_};
 ghost use lib.ListN.{length};
+ghost use Rattle.answers.specs.Limit.{maxFrames};
 ghost use Rattle.text.specs.declared.AnswerRoom.the-variants.{Lent};
 ghost use Rattle.frames.specs.Bytes.{putFrame};
-ghost use Rattle.frames.specs.Out.{outcomeFrame};
+ghost use Rattle.frames.specs.Out.{outcomeFrame, oneFrame};
 ghost use Rattle.file_read.specs.File.{readFile, framesAfter};
 ghost use Rattle.rule_rows.specs.declared.Pass.the-variants.{First};
-ghost use Rattle.file_read.specs.Typing.{answersAfter, rowType, answersAfterRow, composeVerdict, answersAfterVerdict};
-ghost use Rattle.file_exports.specs.Exported.{noRoom, byRoom, outcomeNumber, rowNumber, rowGivenFrame, verdictNumber, verdictGivenFrame};
+ghost use Rattle.file_read.specs.Typing.{answersAfter, rowType, rowSaid, answersAfterRow, composeVerdict, verdictSaid, answersAfterVerdict};
+ghost use Rattle.file_exports.specs.Exported.{noRoom, byRoom, outcomeNumber, oneNumber};
 
 // Types every row of a file and judges every compose.
 #[no_mangle]
@@ -28,22 +30,22 @@ pub extern "C" fn gelmusko_type_rows(
     out: &mut [u8],
 ) -> u32
     ensures outcome { λ r. ⌜ r
-        ≡ byRoom (now (out .entry)) (noRoom 1024 (now (text .entry))) (outcomeNumber (readFile 1024 (now (text .entry))
+        ≡ byRoom (now (out .entry)) (noRoom maxFrames (now (text .entry))) (outcomeNumber (readFile maxFrames (now (text .entry))
         (length (now (frames .entry))) (Lent (length (now (answers .entry)))))) ⌝ }
     ensures frames { λ r. ⌜ now (frames .exit)
         ≡ byRoom (now (out .entry)) (now (frames .entry))
-        (framesAfter 1024 (now (text .entry)) (now (frames .entry)) (Lent (length (now (answers .entry))))) ⌝ }
+        (framesAfter maxFrames (now (text .entry)) (now (frames .entry)) (Lent (length (now (answers .entry))))) ⌝ }
     ensures answers { λ r. ⌜ now (answers .exit)
         ≡ byRoom (now (out .entry)) (now (answers .entry))
-        (answersAfter First 1024 (now (text .entry)) (length (now (frames .entry))) (now (answers .entry))) ⌝ }
+        (answersAfter First maxFrames (now (text .entry)) (length (now (frames .entry))) (now (answers .entry))) ⌝ }
     ensures out { λ r. ⌜ now (out .exit)
-        ≡ putFrame (now (out .entry)) 0 (outcomeFrame (readFile 1024 (now (text .entry)) (length (now (frames .entry)))
+        ≡ putFrame (now (out .entry)) 0 (outcomeFrame (readFile maxFrames (now (text .entry)) (length (now (frames .entry)))
         (Lent (length (now (answers .entry)))))) ⌝ }
 {
     if out.len() < 16 {
-        return no_room(1024, text);
+        return no_room(MAX_LIMIT, text);
     }
-    let read = type_rows(Pass::First, 1024, text, frames, answers);
+    let read = type_rows(Pass::First, MAX_LIMIT, text, frames, answers);
     put_outcome(out, read)
 }
 
@@ -57,24 +59,24 @@ pub extern "C" fn gelmusko_row_type(
     out: &mut [u8],
 ) -> u32
     ensures outcome { λ r. ⌜ r
-        ≡ byRoom (now (out .entry)) (noRoom 1024 (now (text .entry))) (rowNumber (rowType First 1024 (now (text .entry))
-        (length (now (frames .entry))) (length (now (answers .entry))) (record { 0 = row }))) ⌝ }
+        ≡ byRoom (now (out .entry)) (noRoom maxFrames (now (text .entry))) (oneNumber (rowSaid (rowType First maxFrames (now (text .entry))
+        (length (now (frames .entry))) (length (now (answers .entry))) (record { 0 = row })))) ⌝ }
     ensures frames { λ r. ⌜ now (frames .exit)
         ≡ byRoom (now (out .entry)) (now (frames .entry))
-        (framesAfter 1024 (now (text .entry)) (now (frames .entry)) (Lent (length (now (answers .entry))))) ⌝ }
+        (framesAfter maxFrames (now (text .entry)) (now (frames .entry)) (Lent (length (now (answers .entry))))) ⌝ }
     ensures answers { λ r. ⌜ now (answers .exit)
-        ≡ byRoom (now (out .entry)) (now (answers .entry)) (answersAfterRow First 1024 (now (text .entry))
+        ≡ byRoom (now (out .entry)) (now (answers .entry)) (answersAfterRow First maxFrames (now (text .entry))
         (length (now (frames .entry))) (now (answers .entry)) (record { 0 = row })) ⌝ }
     ensures out { λ r. ⌜ now (out .exit)
-        ≡ putFrame (now (out .entry)) 0 (rowGivenFrame (rowType First 1024 (now (text .entry))
-        (length (now (frames .entry))) (length (now (answers .entry))) (record { 0 = row }))) ⌝ }
+        ≡ putFrame (now (out .entry)) 0 (oneFrame (rowSaid (rowType First maxFrames (now (text .entry))
+        (length (now (frames .entry))) (length (now (answers .entry))) (record { 0 = row })))) ⌝ }
 {
     if out.len() < 16 {
-        return no_room(1024, text);
+        return no_room(MAX_LIMIT, text);
     }
     let given = row_type(
         Pass::First,
-        1024,
+        MAX_LIMIT,
         text,
         frames,
         answers,
@@ -93,22 +95,22 @@ pub extern "C" fn gelmusko_compose_verdict(
     out: &mut [u8],
 ) -> u32
     ensures outcome { λ r. ⌜ r
-        ≡ byRoom (now (out .entry)) (noRoom 1024 (now (text .entry))) (verdictNumber (composeVerdict First 1024
-        (now (text .entry)) (length (now (frames .entry))) (length (now (answers .entry))) (record { 0 = row }))) ⌝ }
+        ≡ byRoom (now (out .entry)) (noRoom maxFrames (now (text .entry))) (oneNumber (verdictSaid (record { 0 = row }) (composeVerdict First maxFrames
+        (now (text .entry)) (length (now (frames .entry))) (length (now (answers .entry))) (record { 0 = row })))) ⌝ }
     ensures frames { λ r. ⌜ now (frames .exit)
         ≡ byRoom (now (out .entry)) (now (frames .entry))
-        (framesAfter 1024 (now (text .entry)) (now (frames .entry)) (Lent (length (now (answers .entry))))) ⌝ }
+        (framesAfter maxFrames (now (text .entry)) (now (frames .entry)) (Lent (length (now (answers .entry))))) ⌝ }
     ensures answers { λ r. ⌜ now (answers .exit)
-        ≡ byRoom (now (out .entry)) (now (answers .entry)) (answersAfterVerdict First 1024 (now (text .entry))
+        ≡ byRoom (now (out .entry)) (now (answers .entry)) (answersAfterVerdict First maxFrames (now (text .entry))
         (length (now (frames .entry))) (now (answers .entry)) (record { 0 = row })) ⌝ }
     ensures out { λ r. ⌜ now (out .exit)
-        ≡ putFrame (now (out .entry)) 0 (verdictGivenFrame (record { 0 = row }) (composeVerdict First 1024
-        (now (text .entry)) (length (now (frames .entry))) (length (now (answers .entry))) (record { 0 = row }))) ⌝ }
+        ≡ putFrame (now (out .entry)) 0 (oneFrame (verdictSaid (record { 0 = row }) (composeVerdict First maxFrames
+        (now (text .entry)) (length (now (frames .entry))) (length (now (answers .entry))) (record { 0 = row })))) ⌝ }
 {
     if out.len() < 16 {
-        return no_room(1024, text);
+        return no_room(MAX_LIMIT, text);
     }
     let n = clamped(row);
-    let given = compose_verdict(Pass::First, 1024, text, frames, answers, RowNumber(n));
+    let given = compose_verdict(Pass::First, MAX_LIMIT, text, frames, answers, RowNumber(n));
     put_verdict(out, RowNumber(n), given)
 }

@@ -1,4 +1,5 @@
 // The types of a file: two compared, a canonical form, a pointer's base.
+use answers::MAX_LIMIT;
 use file_exports::clamped;
 use file_exports::handed_frame;
 use file_exports::no_room;
@@ -12,6 +13,7 @@ use ir::TypeNumber;
 ghost use mathlib.Core.Path.{_≡_};
 ghost use lib.ListN.{length};
 ghost use Rattle.answers.specs.Numbers.{samenessSaid, canonicalSaid, baseSaid};
+ghost use Rattle.answers.specs.Limit.{maxFrames};
 ghost use Rattle.text.specs.declared.AnswerRoom.the-variants.{NotLent};
 ghost use Rattle.frames.specs.Bytes.{putFrame};
 ghost use Rattle.file_read.specs.File.{framesAfter};
@@ -29,22 +31,22 @@ pub extern "C" fn gelmusko_same_type(
     out: &mut [u8],
 ) -> u32
     ensures outcome { λ r. ⌜ r
-        ≡ byRoom (now (out .entry)) (noRoom 1024 (now (text .entry))) (saidNumber (samenessSaid (sameTypes 1024
+        ≡ byRoom (now (out .entry)) (noRoom maxFrames (now (text .entry))) (saidNumber (samenessSaid (sameTypes maxFrames
         (now (text .entry)) (length (now (frames .entry))) (handedFrame (now (left .entry)))
         (handedFrame (now (right .entry)))))) ⌝ }
     ensures frames { λ r. ⌜ now (frames .exit)
         ≡ byRoom (now (out .entry)) (now (frames .entry))
-        (framesAfter 1024 (now (text .entry)) (now (frames .entry)) NotLent) ⌝ }
+        (framesAfter maxFrames (now (text .entry)) (now (frames .entry)) NotLent) ⌝ }
     ensures out { λ r. ⌜ now (out .exit)
-        ≡ putFrame (now (out .entry)) 0 (saidFrame (samenessSaid (sameTypes 1024 (now (text .entry))
+        ≡ putFrame (now (out .entry)) 0 (saidFrame (samenessSaid (sameTypes maxFrames (now (text .entry))
         (length (now (frames .entry))) (handedFrame (now (left .entry))) (handedFrame (now (right .entry)))))) ⌝ }
 {
     if out.len() < 16 {
-        return no_room(1024, text);
+        return no_room(MAX_LIMIT, text);
     }
     let l = handed_frame(left);
     let r = handed_frame(right);
-    let given = same_type(1024, text, frames, l, r);
+    let given = same_type(MAX_LIMIT, text, frames, l, r);
     put_sameness(out, given)
 }
 
@@ -57,19 +59,19 @@ pub extern "C" fn gelmusko_canonical_form(
     out: &mut [u8],
 ) -> u32
     ensures outcome { λ r. ⌜ r
-        ≡ byRoom (now (out .entry)) (noRoom 1024 (now (text .entry))) (typeSaidNumber (canonicalSaid
-        (canonicalType 1024 (now (text .entry)) (length (now (frames .entry))) (record { 0 = n })))) ⌝ }
+        ≡ byRoom (now (out .entry)) (noRoom maxFrames (now (text .entry))) (typeSaidNumber (canonicalSaid
+        (canonicalType maxFrames (now (text .entry)) (length (now (frames .entry))) (record { 0 = n })))) ⌝ }
     ensures frames { λ r. ⌜ now (frames .exit)
         ≡ byRoom (now (out .entry)) (now (frames .entry))
-        (framesAfter 1024 (now (text .entry)) (now (frames .entry)) NotLent) ⌝ }
+        (framesAfter maxFrames (now (text .entry)) (now (frames .entry)) NotLent) ⌝ }
     ensures out { λ r. ⌜ now (out .exit)
         ≡ putFrame (now (out .entry)) 0 (typeSaidFrame (canonicalSaid
-        (canonicalType 1024 (now (text .entry)) (length (now (frames .entry))) (record { 0 = n })))) ⌝ }
+        (canonicalType maxFrames (now (text .entry)) (length (now (frames .entry))) (record { 0 = n })))) ⌝ }
 {
     if out.len() < 16 {
-        return no_room(1024, text);
+        return no_room(MAX_LIMIT, text);
     }
-    let given = canonical_form(1024, text, frames, TypeNumber(clamped(n)));
+    let given = canonical_form(MAX_LIMIT, text, frames, TypeNumber(clamped(n)));
     put_canonical(out, given)
 }
 
@@ -82,18 +84,18 @@ pub extern "C" fn gelmusko_pointer_base(
     out: &mut [u8],
 ) -> u32
     ensures outcome { λ r. ⌜ r
-        ≡ byRoom (now (out .entry)) (noRoom 1024 (now (text .entry))) (typeSaidNumber
-        (baseSaid (pointerBaseType 1024 (now (text .entry)) (length (now (frames .entry))) (record { 0 = n })))) ⌝ }
+        ≡ byRoom (now (out .entry)) (noRoom maxFrames (now (text .entry))) (typeSaidNumber
+        (baseSaid (pointerBaseType maxFrames (now (text .entry)) (length (now (frames .entry))) (record { 0 = n })))) ⌝ }
     ensures frames { λ r. ⌜ now (frames .exit)
         ≡ byRoom (now (out .entry)) (now (frames .entry))
-        (framesAfter 1024 (now (text .entry)) (now (frames .entry)) NotLent) ⌝ }
+        (framesAfter maxFrames (now (text .entry)) (now (frames .entry)) NotLent) ⌝ }
     ensures out { λ r. ⌜ now (out .exit)
         ≡ putFrame (now (out .entry)) 0 (typeSaidFrame
-        (baseSaid (pointerBaseType 1024 (now (text .entry)) (length (now (frames .entry))) (record { 0 = n })))) ⌝ }
+        (baseSaid (pointerBaseType maxFrames (now (text .entry)) (length (now (frames .entry))) (record { 0 = n })))) ⌝ }
 {
     if out.len() < 16 {
-        return no_room(1024, text);
+        return no_room(MAX_LIMIT, text);
     }
-    let given = pointer_base(1024, text, frames, TypeNumber(clamped(n)));
+    let given = pointer_base(MAX_LIMIT, text, frames, TypeNumber(clamped(n)));
     put_base(out, given)
 }

@@ -1,5 +1,5 @@
--- The claim shuts out four readers: over one text each answers a row otherwise than its reading says. Row 0 is newer, row 1 meets nothing newer, and row 2 meets row 0's.
--- Assumes nothing.
+-- The claim shuts out four readers, for every pass and every limit of three frames or more: over one text of three frames each answers a row otherwise than its reading says. Row
+-- 0 is newer, row 1 meets nothing newer, and row 2 meets row 0's. Assumes nothing.
 use Prim.Native.Nat.{ℕ, _*_, _≤_}
 use native.Mathlib.Omega.{arith}
 use mathlib.Core.Path.{_≡_, refl, ap, _∙_}
@@ -7,6 +7,7 @@ use mathlib.Core.Bool.{Bool, true, false, cond}
 use mathlib.Core.List.{List}
 use mathlib.Core.Option.{none, some}
 use lib.ListN.{length, getD}
+use Rattle.answers.specs.Limit.{maxFrames}
 use Rattle.scan.specs.Lowest.{lowest, allBelow}
 use Rattle.scan.specs.Lists.{build, sumBelow}
 use Rattle.text.specs.declared.AnswerRoom.the-variants.{Lent}
@@ -38,7 +39,7 @@ abbrev fr : List ℕ
 fr = decoded threeRows 3
 
 -- WHAT THE TEXT IS, computed
-at-most : IsAccepted 1024 threeRows 3
+at-most : IsAccepted maxFrames threeRows 3
 unfolding mostFrames lowest allBelow build sumBelow digitValue digitOf lineOk byteOf charOf answerFrames tooShort readText frameAt typeOf itemOf rowOf memberOf componentOf fieldsFit orderOk start startsOf namesOk earlyOk indexOk checkFrames readFile
 at-most = refl
 
@@ -47,7 +48,7 @@ long = length-text _ 3
 
 accepted : (limit : ℕ) → 3 ≤ mostFrames limit → IsAccepted limit threeRows 3
 accepted limit few =
-    read-alike limit 1024 threeRows (omega (arith, long)) (omega (arith, long, most-given 1024 (omega arith) (omega arith))) (Lent (answerBytes threeRows)) (16 * lineCount threeRows) ∙ at-most
+    read-alike limit maxFrames threeRows (omega (arith, long)) (omega (arith, long, most-given maxFrames (omega arith) (omega arith))) (Lent (answerBytes threeRows)) (16 * lineCount threeRows) ∙ at-most
 
 three : rowCount (startsOf fr) ≡ 3
 unfolding lowest build digitValue digitOf byteOf charOf frameAt start startsOf

@@ -1,19 +1,18 @@
--- Our readers, of whom document 01's claim is made ("A row's type", last paragraphs): what the contracts of `type_rows`, `row_type`, `compose_verdict` and `same_type` fix (reader/specs), as bytes. The buffers that are lent are any
+-- Our readers, of whom document 01's claim is made ("A row's type", last paragraphs): what the contracts of `type_rows`, `row_type`, `compose_verdict` and `same_type` fix (file_read/specs), as bytes. The buffers that are lent are any
 -- functions of the text.
 use Prim.Native.Nat.{ℕ, _+_, _*_, _≤_}
 use mathlib.Core.List.{List}
 use lib.ListN.{length, replicate}
-use Rattle.answers.specs.Numbers.{at, samenessSaid}
+use Rattle.answers.specs.Numbers.{samenessSaid}
 use Rattle.text.specs.Lines.{lineCount, decoded}
 use Rattle.text.specs.Reading.{answerBytes}
 use Rattle.frames.specs.Bytes.{bytesOf, frameAt}
-use Rattle.frames.specs.Out.{refusedFrame, outcomeFrame}
+use Rattle.frames.specs.Out.{oneFrame}
 use Rattle.rule_rows.specs.declared.Pass.{Pass}
 use Rattle.law_verdicts.specs.Each.{composesBelow}
 use Rattle.file_read.specs.Types.{sameTypes}
-use Rattle.file_read.specs.Typing.{answersAfter, RowGiven, answer, VerdictGiven, verdict, noCompose, rowType, composeVerdict}
-use Rattle.file_read.specs.Typing as Typing
-use Rattle.law_later_readers.specs.Reader.{Reader, rowBytes, verdictBytes, saidBytes}
+use Rattle.file_read.specs.Typing.{answersAfter, RowGiven, rowType, rowSaid, VerdictGiven, composeVerdict, verdictSaid}
+use Rattle.law_later_readers.specs.Reader.{Reader, saidBytes}
 
 -- the buffers suffice for every text ("Numbers handed back": 16 bytes a frame, and 16 a row with 16 more a compose)
 pub record Suffice (frames answers : List ℕ → List ℕ) : Type 0 where
@@ -45,15 +44,10 @@ byBuffer pass limit frames answers =
 -- BY WHAT `row_type` AND `compose_verdict` GIVE; a row that the file does not have, or that is no compose, is number 6, place 0
 
 abbrev pub rowGivenBytes : RowGiven → List ℕ
-rowGivenBytes (answer a) = rowBytes a
-rowGivenBytes Typing.RowGiven.noRow = bytesOf (refusedFrame (at 6 0))
-rowGivenBytes (Typing.RowGiven.notAccepted o) = bytesOf (outcomeFrame o)
+rowGivenBytes g = bytesOf (oneFrame (rowSaid g))
 
 abbrev pub verdictGivenBytes : ℕ → VerdictGiven → List ℕ
-verdictGivenBytes m (verdict v) = verdictBytes m v
-verdictGivenBytes m noCompose = bytesOf (refusedFrame (at 6 0))
-verdictGivenBytes m Typing.VerdictGiven.noRow = bytesOf (refusedFrame (at 6 0))
-verdictGivenBytes m (Typing.VerdictGiven.notAccepted o) = bytesOf (outcomeFrame o)
+verdictGivenBytes m g = bytesOf (oneFrame (verdictSaid (record { 0 = m }) g))
 
 abbrev pub byRow : Pass → ℕ → (frames answers : List ℕ → List ℕ) → Reader
 byRow pass limit frames answers =

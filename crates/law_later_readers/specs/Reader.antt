@@ -1,5 +1,9 @@
 -- Demand 3, the claim on later readers: one claim over the whole file, as a predicate on any reader of texts (document 01, "A row's type", its last paragraphs). The
 -- words reading and meets are defined in rule/specs/Rule.antt; the rules that are read stand in rule_rows, rule_types and rule_compose.
+--
+-- The claim is made for every pass and every limit. A pass says which rules type Binary rows, the first or the second (`Pass`, rule_rows/src/lib.rt): a reader and the
+-- later readers that it is held against type by the same pass. A limit is the most frames that a file may have, 1 to 1,024, any other number counting as 1,024
+-- (`mostFrames`, text/specs/Reading.antt): it says which texts are accepted, and nothing else here.
 use Prim.Native.Nat.{ℕ, _*_, _<_}
 use mathlib.Core.Path.{_≡_}
 use mathlib.Core.List.{List, [], _∷_}
@@ -92,11 +96,11 @@ pub record Keeps (pass : Pass) (r : Reader) (t fr : List ℕ) (choice : Choice) 
       Kept 10 (λ p. comparedBytes (newer p)) (meets pass fr 0 rule) (r .same t a b) (comparedBytes (theirs pass fr choice 0 (choice .same a b) rule))
 
 -- a text is accepted within a limit, with n frames, where the lent buffers are as large as it asks for
-abbrev pub IsAccepted : ℕ → List ℕ → ℕ → Type 0
+abbrev pub IsAccepted : (limit : ℕ) → List ℕ → ℕ → Type 0
 IsAccepted limit t n = readFile limit t (16 * lineCount t) (Lent (answerBytes t)) ≡ Accepted n
 
--- THE CLAIM of a reader: for every accepted text and every choice
-abbrev pub Claim : Pass → ℕ → Reader → Type 0
+-- THE CLAIM of a reader, by the rules of a pass and within a limit: for every accepted text and every choice
+abbrev pub Claim : (pass : Pass) (limit : ℕ) → Reader → Type 0
 Claim pass limit r = (t : List ℕ) (n : ℕ) → IsAccepted limit t n → (choice : Choice) → Keeps pass r t (decoded t n) choice
 
 -- two readers give the same bytes for a text whose frames these are

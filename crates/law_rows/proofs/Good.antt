@@ -13,6 +13,7 @@ use Rattle.frames.specs.declared.Frame.{Frame}
 use Rattle.frames.specs.Bytes.{byte, frameAt, frameCount}
 use Rattle.archive.specs.Order.{rankOf, isKnown, orderOk}
 use Rattle.answers.specs.declared.Outcome.the-variants.{Accepted}
+use Rattle.answers.specs.Limit.{maxFrames}
 use Rattle.archive.specs.Checks.{fieldOk, indexOk, checkFrames}
 use Rattle.archive.specs.Starts.{start}
 use Rattle.archive.proofs.Checked.{Holds, accepted-when}
@@ -26,7 +27,7 @@ pub record Good (fr : List ℕ) : Type 0 where
   pub index : Holds indexOk fr
 
 -- exactly these are what checks 4 to 6 accept
-pub good-when : (fr : List ℕ) → frameCount fr ≤ 1024 → (checkFrames fr ≡ Accepted (frameCount fr)) ↔ Good fr
+pub good-when : (fr : List ℕ) → frameCount fr ≤ maxFrames → (checkFrames fr ≡ Accepted (frameCount fr)) ↔ Good fr
 good-when fr few = (
   λ e. let a = accepted-when fr few (frameCount fr) .0 e in record { order = a .1; fields = a .2; index = a .3 },
   λ good. accepted-when fr few (frameCount fr) .1 (refl, good .order, good .fields, good .index),

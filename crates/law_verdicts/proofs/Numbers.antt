@@ -10,6 +10,7 @@ use mathlib.Core.Option.{Option, none, some}
 use lib.Dec.{eqb}
 use lib.ListN.{length}
 use borrow.Author.Tests.{eqb-false}
+use Rattle.answers.specs.Limit.{maxFrames}
 use Rattle.ir.specs.declared.TypeNumber.{TypeNumber}
 use Rattle.ir.specs.declared.RowNumber.{RowNumber}
 use Rattle.ir.specs.declared.VectorSize.{VectorSize}
@@ -239,7 +240,7 @@ module _ (fr : List ℕ) (good : Good fr) (n : ℕ) (h : n < rowCount (startsOf 
       go (suc j) f = omega (arith, f j (omega arith))
 
   -- so b4-7 of a 22 are hex ffffffff exactly where the composed type itself is newer
-  pub whole-composed : (pass : Pass) → frameCount fr ≤ 1024 → (v : Result Judgement) → verdictOf pass (see fr) n ≡ some v
+  pub whole-composed : (pass : Pass) → frameCount fr ≤ maxFrames → (v : Result Judgement) → verdictOf pass (see fr) n ≡ some v
       → byte (frameOf n v) 1 ≡ 22
       → (word (frameOf n v) 4 ≡ 0xffff_ffff) ↔ (v ≡ newer composed)
   whole-composed pass few v e b = let j = verdict-numbers pass fr n v e in j .laid .whole (omega (arith, few-parts (j .row))) b

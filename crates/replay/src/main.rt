@@ -3,6 +3,9 @@
 //
 // A case is a line of 53 bytes: the name with blanks up to 40, a blank, the frame buffer's length in 5 digits, a blank, the
 // text's length in 5 digits, a line feed. The text follows, and one line feed more.
+use answers::MAX_FRAMES;
+use answers::MAX_LIMIT;
+use answers::MAX_TEXT_BYTES;
 use answers::Outcome;
 use file_read::read_file;
 use libc::STDOUT_FILENO;
@@ -82,9 +85,9 @@ fn written(text: &[u8], frames: &[u8]) -> bool {
     if frames.len() < m {
         return false;
     }
-    let mut lines = [0u8; 33792];
+    let mut lines = [0u8; MAX_TEXT_BYTES];
     let k = write_text(&frames[..m], &mut lines);
-    if 1024 < k {
+    if MAX_FRAMES < k {
         return false;
     }
     let e = 33 * k;
@@ -104,7 +107,7 @@ fn print_buffer(text: &[u8], frames: &[u8]) {
 
 // Reads a text over a lent buffer, and prints what that gives.
 fn replay(text: &[u8], frames: &mut [u8]) {
-    let outcome = read_file(1024, text, frames);
+    let outcome = read_file(MAX_LIMIT, text, frames);
     io::print_decimal(STDOUT_FILENO, number(outcome));
     io::write_all(STDOUT_FILENO, b" ");
     io::print_decimal(STDOUT_FILENO, place(outcome));

@@ -4,7 +4,11 @@
 // A case begins with a line of 59 bytes: the name with blanks up to 40, a blank, the source of what must be printed in 5 letters, a
 // blank, the text's length in 5 digits, a blank, the length of the pairs in 5 digits, a line feed. The text follows, then two lines
 // of 32 digits for each pair, and one line feed more.
+use answers::MAX_FRAME_BYTES;
+use answers::MAX_LIMIT;
+use answers::MAX_LINE_BYTES;
 use answers::Outcome;
+use answers::Printed;
 use answers::Sameness;
 use file_lines::type_text;
 use file_read::same_type;
@@ -44,11 +48,10 @@ fn print(bytes: &[u8]) {
     io::write_all(STDOUT_FILENO, bytes);
 }
 
-// Prints what typing a text writes. 67,584 bytes are enough for every text.
+// Prints what typing a text writes; the buffer has room for any.
 fn print_types(text: &[u8]) {
-    let mut out = [0u8; 67584];
-    let n = type_text(text, &mut out);
-    if n <= 67584 {
+    let mut out = [0u8; MAX_LINE_BYTES];
+    if let Printed::Bytes(n) = type_text(text, &mut out) {
         print(&out[..n]);
     }
 }
@@ -71,16 +74,16 @@ fn print_sameness(same: Sameness) {
 fn print_pair(text: &[u8], asked: &[u8], k: usize)
     requires { ⌜ k ≤ 512 ⌝ }
 {
-    let mut frames = [0u8; 16384];
+    let mut frames = [0u8; MAX_FRAME_BYTES];
     let left = frame_at(asked, 2 * k);
     let right = frame_at(asked, 2 * k + 1);
-    print_sameness(same_type(1024, text, &mut frames, left, right));
+    print_sameness(same_type(MAX_LIMIT, text, &mut frames, left, right));
 }
 
 // Reads the lines of the pairs, and compares each pair.
 fn print_pairs(text: &[u8], lines: &[u8]) {
-    let mut asked = [0u8; 16384];
-    read_text(1024, lines, &mut asked, AnswerRoom::NotLent);
+    let mut asked = [0u8; MAX_FRAME_BYTES];
+    read_text(MAX_LIMIT, lines, &mut asked, AnswerRoom::NotLent);
     let many = lines.len() / 66;
     if 512 < many {
         return;

@@ -18,6 +18,7 @@ use Rattle.scan.proofs.Laws.{and-second, by-test, LowestAt, found-at, at-found,
 use Rattle.scan.proofs.Fill.{length-build, getD-build}
 use Rattle.answers.specs.declared.Outcome.{Outcome}
 use Rattle.answers.specs.declared.Outcome.the-variants.{Accepted, Long, Torn, Short, Order, Field, Index}
+use Rattle.answers.specs.Limit.{maxFrames}
 use Rattle.text.specs.declared.AnswerRoom.{AnswerRoom}
 use Rattle.text.specs.declared.AnswerRoom.the-variants.{NotLent, Lent}
 use Rattle.text.specs.Lines.{lineOk, lineCount, frameByte, byteOf, decoded}
@@ -45,23 +46,23 @@ abbrev pub Bytes : List ℕ → Type 0
 Bytes l = (i : ℕ) → getD l i 0 < 256
 
 -- the limit that holds is 1,024 or less
-pub most-small : (limit : ℕ) → mostFrames limit ≤ 1024
+pub most-small : (limit : ℕ) → mostFrames limit ≤ maxFrames
 unfolding mostFrames
 most-small limit =
-    by-test (λ m. m ≤ 1024) (leb 1 limit && leb limit 1024) (λ e. leb-true _ _ (and-second (leb 1 limit) _ e)) (λ e. omega arith)
+    by-test (λ m. m ≤ maxFrames) (leb 1 limit && leb limit maxFrames) (λ e. leb-true _ _ (and-second (leb 1 limit) _ e)) (λ e. omega arith)
 
 -- which it is: the limit handed in from 1 to 1,024, and 1,024 for 0 and for any higher one
-pub most-given : (limit : ℕ) → 1 ≤ limit → limit ≤ 1024 → mostFrames limit ≡ limit
+pub most-given : (limit : ℕ) → 1 ≤ limit → limit ≤ maxFrames → mostFrames limit ≡ limit
 unfolding mostFrames
-most-given limit a b = rw (le-leb 1 limit a, le-leb limit 1024 b)
+most-given limit a b = rw (le-leb 1 limit a, le-leb limit maxFrames b)
 
-pub most-none : (limit : ℕ) → limit ≡ 0 → mostFrames limit ≡ 1024
+pub most-none : (limit : ℕ) → limit ≡ 0 → mostFrames limit ≡ maxFrames
 unfolding mostFrames
 most-none limit e = rw e
 
-pub most-over : (limit : ℕ) → 1024 < limit → mostFrames limit ≡ 1024
+pub most-over : (limit : ℕ) → maxFrames < limit → mostFrames limit ≡ maxFrames
 unfolding mostFrames
-most-over limit h = rw (le-leb 1 limit (omega arith), lt-leb limit 1024 h)
+most-over limit h = rw (le-leb 1 limit (omega arith), lt-leb limit maxFrames h)
 
 -- a text that is accepted, with the frame buffer's length, the answer buffer's, and its number of frames
 pub record Readable (limit : ℕ) (t : List ℕ) (f : ℕ) (room : AnswerRoom) (n : ℕ) : Type 0 where
@@ -198,7 +199,7 @@ module _ {limit : ℕ} {t : List ℕ} {f : ℕ} {room : AnswerRoom} {n : ℕ} (r
   pub count-within : n ≤ mostFrames limit
   count-within = omega (arith, length-read, r .within)
 
-  pub count-small : n ≤ 1024
+  pub count-small : n ≤ maxFrames
   count-small = omega (arith, count-within, most-small limit)
 
   -- each of its n lines is whole

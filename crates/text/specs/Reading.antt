@@ -10,6 +10,7 @@ use Rattle.scan.specs.declared.Found.{Found}
 use Rattle.scan.specs.declared.Found.the-variants.{At, Nothing}
 use Rattle.answers.specs.declared.Outcome.{Outcome}
 use Rattle.answers.specs.declared.Outcome.the-variants.{Accepted, Long, Torn, Short, Order, Field, Index}
+use Rattle.answers.specs.Limit.{maxFrames}
 use Rattle.text.specs.declared.AnswerRoom.{AnswerRoom}
 use Rattle.text.specs.declared.AnswerRoom.the-variants.{NotLent, Lent}
 use Rattle.text.specs.Lines.{lineOk, lineCount, frameByte, decoded}
@@ -38,7 +39,7 @@ afterTorn Nothing r = r
 
 -- the limit that holds, of frames: 1 to 1,024, any other counting as 1,024 (document 02, request 7)
 unfoldable pub mostFrames : ℕ → ℕ
-mostFrames limit = cond (leb 1 limit && leb limit 1024) limit 1024
+mostFrames limit = cond (leb 1 limit && leb limit maxFrames) limit maxFrames
 
 -- what reading a text gives: numbers 1 to 3 in their order, else its number of frames
 unfoldable pub readText : ℕ → List ℕ → ℕ → AnswerRoom → Outcome

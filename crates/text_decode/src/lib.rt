@@ -1,4 +1,5 @@
 // Reading a text: numbers 1 to 3 (document 01, "Numbers handed back"), or its frames.
+use answers::MAX_FRAMES;
 use answers::Outcome;
 use frames::frame_at;
 use frames::put_frame;
@@ -15,6 +16,7 @@ ghost use Rattle.scan.specs.Lists.{build, sumBelow};
 ghost use Rattle.text.specs.Hex.{isDigit, digitValue};
 ghost use Rattle.text.specs.Lines.{lineOk, lineCount, frameByte, decoded};
 ghost use Rattle.text.specs.Reading.{answerFrames, tooShort, mostFrames, readText, framesRead};
+ghost use Rattle.answers.specs.Limit.{maxFrames, maxTextBytes};
 
 // Tested without a branch, since every character of a file passes here.
 fn is_digit(c: u8) -> bool
@@ -97,7 +99,7 @@ fn line_answers(text: &[u8], k: usize) -> usize
 
 // How many answer frames the first n lines ask for.
 fn answer_frames(text: &[u8], n: usize) -> usize
-    requires { ⌜ (lowest (lineOk (now text)) n ≡ Found.Nothing) × (n ≤ 1024) ⌝ }
+    requires { ⌜ (lowest (lineOk (now text)) n ≡ Found.Nothing) × (n ≤ maxFrames) ⌝ }
     ensures { λ r. ⌜ (r ≡ sumBelow (answerFrames (now (text .entry))) n) × (r ≤ 2 * n) ⌝ }
 {
     let mut sum = 0;
@@ -111,7 +113,7 @@ fn answer_frames(text: &[u8], n: usize) -> usize
 
 // Whether a lent buffer is too small for the text. The frame buffer has f bytes.
 fn too_short(text: &[u8], f: usize, room: AnswerRoom) -> bool
-    requires { ⌜ (lowest (lineOk (now text)) (lineCount (now text)) ≡ Found.Nothing) × (length (now text) ≤ 33792) ⌝ }
+    requires { ⌜ (lowest (lineOk (now text)) (lineCount (now text)) ≡ Found.Nothing) × (length (now text) ≤ maxTextBytes) ⌝ }
     ensures { λ r. ⌜ r ≡ tooShort (now (text .entry)) f room ⌝ }
 {
     let n = line_count(text);
@@ -152,12 +154,16 @@ fn decode(text: &[u8], frames: &mut [u8], n: usize)
 
 // The limit of frames that holds.
 fn most(limit: u32) -> usize
-    ensures { λ r. ⌜ (r ≡ mostFrames limit) × (r ≤ 1024) ⌝ }
+    ensures { λ r. ⌜ (r ≡ mostFrames limit) × (r ≤ maxFrames) ⌝ }
 {
     if limit == 0 {
-        return 1024;
+        return MAX_FRAMES;
     }
-    if 1024 < limit { 1024 } else { limit as usize }
+    if MAX_FRAMES < limit as usize {
+        MAX_FRAMES
+    } else {
+        limit as usize
+    }
 }
 
 // Checks 1 to 3, and where they pass the frames, at the front of the frame buffer. Numbers 1 to 3 change no buffer.

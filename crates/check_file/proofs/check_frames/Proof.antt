@@ -10,29 +10,30 @@ use Rattle.frames.specs.Bytes.{frameCount}
 use Rattle.archive.specs.Checks.{checkFrames}
 use Rattle.check_file.proofs.check_frames.Statement.{statement}
 use Rattle.check_file.proofs.check_frames.Tie as tie
+use Rattle.answers.specs.Limit.{maxFrames}
 
 -- what the first test leaves
-few : (c : tie.Else1) → frameCount (c .before .before .before .args .frames .now) ≤ 1024
+few : (c : tie.Else1) → frameCount (c .before .before .before .args .frames .now) ≤ maxFrames
 few c = omega (arith, c .if1 .left, c .before .frame-count .ensures)
 
 returns : tie.Need-returns
 unfolding checkFrames
 returns c =
-    let h : 1024 < frameCount (c .before .before .before .args .frames .now) =
+    let h : maxFrames < frameCount (c .before .before .before .args .frames .now) =
     omega (arith, c .if1 .taken, c .before .frame-count .ensures) in
-    rw (lt-ltb 1024 _ h)
+    rw (lt-ltb maxFrames _ h)
 
 returns-2 : tie.Need-returns-2
 unfolding checkFrames
 returns-2 c =
     rw
-    (le-ltb 1024 _ (few (c .before .before .before .before)), ← c .before .before .before .first-disorder .ensures, c .before .k .given .1)
+    (le-ltb maxFrames _ (few (c .before .before .before .before)), ← c .before .before .before .first-disorder .ensures, c .before .k .given .1)
 
 returns-3 : tie.Need-returns-3
 unfolding checkFrames
 returns-3 c =
     rw (
-      le-ltb 1024 _ (few (c .before .before .before .before)),
+      le-ltb maxFrames _ (few (c .before .before .before .before)),
       ← c .before .before .before .first-disorder .ensures,
       c .before .enum-told .given .1,
     )
@@ -43,6 +44,7 @@ check-frames-spec =
     tie.close
     (tie.spec
     (λ c κs. tt)
+    (λ c. omega arith)
     returns
     (λ c κs. tt)
     (λ c. c .match .keys1)

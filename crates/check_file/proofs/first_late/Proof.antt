@@ -16,6 +16,7 @@ use Rattle.archive.specs.Parts.{heldBy, earlyIn, earlyFor, earlyOk}
 use Rattle.archive.proofs.Owners.{no-owner, starts-small, held-within}
 use Rattle.check_file.proofs.first_late.Statement.{statement}
 use Rattle.check_file.proofs.first_late.Tie as tie
+use Rattle.answers.specs.Limit.{maxFrames}
 
 -- found is the lowest part that is late for one of the o owners passed
 record Inv (frames : List ℕ) (n : ℕ) (found : Found) (o : ℕ) : Type 0 where
@@ -55,7 +56,7 @@ first-late-spec =
     (λ c. record { few = search needs; first = no-owner (earlyFor (c .before .before .args .frames .now)) _ })
     (λ c κs. tt)
     (λ c κs. let st = c .before .before .before .before .before in
-    let small = starts-small (st .args .frames .now) 1024 (st .pre .1) in
+    let small = starts-small (st .args .frames .now) maxFrames (st .pre .1) in
     rw (st .pre .0) (omega (arith, c .before .loop-test .taken, c .before .before .before .frame-count .ensures, st .pre .1), small .0, small .1))
     (λ c κs. let a = c .before .before .before .before .before .before .args .frames .now in
     let o = c .before .before .before .loop .o in

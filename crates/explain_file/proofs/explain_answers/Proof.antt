@@ -11,9 +11,9 @@ use Rattle.frames.specs.Bytes.{frameCount, frameAt}
 use Rattle.explain_words.specs.ForProofs.{written}
 use Rattle.explain_words.proofs.Writing.{written-long, put-fits}
 use Rattle.explain_lines.specs.Answers.{lineOf}
+use Rattle.explain_lines.proofs.Long.{line-long}
 use Rattle.explain_file.specs.Explained.{rowAt, lineAt, answerLines}
-use Rattle.explain_file.specs.ForProofs.{Shown}
-use Rattle.explain_file.proofs.Fitting.{After, before, turn, shown-all, shown-some, made, made-long, made-at, at-place, row-on, row-small}
+use Rattle.explain_file.proofs.Fitting.{joined-long, After, before, turn, shown-all, made, made-long, made-at, at-place, row-on, row-small}
 use Rattle.explain_file.proofs.explain_answers.Statement.{statement}
 use Rattle.explain_file.proofs.explain_answers.Tie as tie
 
@@ -66,39 +66,30 @@ kept-here c =
     let w = made-here c in
     made-long (l .line) (p .last .1 .1 .1 .0) x (p .result) (w .1) (w .0) (p .ensures .1) (l .inv .wide)
 
-same-length : tie.Need-same-length Inv-loop μ-loop
-same-length c =
-    let put = c .before .before .before in
-    kept-here put .0 ∙ sym (put .before .before .before .before .before .before .before .before .before .before .pre .0)
-
-slice-reshare-prefix-copy : tie.Need-slice-reshare-prefix-copy Inv-loop μ-loop
-slice-reshare-prefix-copy c =
-    let put = c .before .before .before in
-    omega (arith, kept-here put .0, put .put-line .ensures .1)
-
-returns : tie.Need-returns Inv-loop μ-loop
-returns c =
-    let put = c .before .before .before in
-    let g = put .before .before .before .before .before .before .before .before .before .before .args in
-    let l = put .before .before .before .before .loop in
-    let f = put .before .before .frame-at in
-    let n = put .before .before .before .before .before .frame-count .ensures in
-    let w = made-here put in
-    let e = at-place (g .frames .now) (g .answers .now) (l .k) (l .row) (f .result) (l .inv .counted) (f .ensures) in
-    shown-some (answerLines (g .frames .now) (g .answers .now)) (g .out .now) (l .out) (l .k) (l .at) (put .put-line .result)
-    (omega (arith, n)) (l .inv .written) (w .0 ∙ ap length e) (omega (arith, l .inv .long))
-
-slice-aggregate-copy : tie.Need-slice-aggregate-copy Inv-loop μ-loop
-slice-aggregate-copy c = kept-here (c .before .before .before .before) .1
-
-add-at : tie.Need-add-at Inv-loop μ-loop
-add-at c =
-    let i = c .before .before .before .before .before .before .before .before .before .before .before .before .loop .inv in
-    omega (arith, i .written .1, i .long, c .before .before .before .before .before .if1 .left)
+-- there is room for the line
+room-here : (c : tie.After-put-line Inv-loop μ-loop) → let l = c .before .before .before .before .loop in
+    l .at + c .put-line .result ≤ length (l .out)
+room-here c =
+    let s = c .before .before .before .before .before .before .before .before .before .before in
+    let l = c .before .before .before .before .loop in
+    let fr = s .args .frames .now in
+    let an = s .args .answers .now in
+    omega (
+      arith,
+      made-here c .0,
+      line-long fr (l .row) (c .before .before .frame-at .result),
+      l .inv .written .0,
+      joined-long (lineAt fr an) (l .k) (λ k. line-long fr (rowAt an k) (frameAt an k)),
+      c .before .before .before .loop-test .taken,
+      c .before .before .before .before .before .frame-count .ensures,
+      l .inv .long,
+      s .pre .1,
+      s .pre .2,
+    )
 
 loop-again : tie.Need-loop-again Inv-loop μ-loop
 loop-again c =
-    let put = c .before .before .before .before .before .before .before .before .before in
+    let put = c .before .before .before .before .before .before .before .before in
     let g = put .before .before .before .before .before .before .before .before .before .before .args in
     let l = put .before .before .before .before .loop in
     let h = put .before .before .before .loop-test .taken in
@@ -112,21 +103,20 @@ loop-again c =
     let e = at-place (g .frames .now) (g .answers .now) (l .k) (l .row) (f .result) (l .inv .counted) (f .ensures) in
     let x : y ≡ lineAt (g .frames .now) (g .answers .now) (l .k) =
     made (l .line) (p .last .1 .1 .1 .0) (lineOf (g .frames .now) (l .row) (f .result)) (p .result) (w .1) (w .0) ∙ e in
-    let room = c .before .before .before .before .before .before .if1 .left in
-    let fits : l .at + length y ≤ length (l .out) = omega (arith, room, m .1, l .inv .written .1, l .inv .long) in
+    let fits : l .at + length y ≤ length (l .out) = omega (arith, room-here put, m .1) in
     let o = q .ensures ∙ put-fits (l .out) y (l .at) fits in
     record {
       few = omega (arith, h);
       counted = row-on (g .answers .now) (l .k) (l .row) (r .result) (f .result) (l .inv .counted) (f .ensures) (r .ensures);
       small = row-small (l .k) (l .row) (r .result) (f .result) (r .ensures) (l .inv .small);
       written = turn (lineAt (g .frames .now) (g .answers .now)) (l .k) (g .out .now) (l .out) (q .last .1 .0) y (l .at) (p .result) (l .inv .written) x
-          (w .0 ∙ ap length e) (omega (arith, room, l .inv .long)) o;
+          (w .0 ∙ ap length e) (omega (arith, room-here put, l .inv .long)) o;
       wide = m .0;
       long = ap length o ∙ written-long (l .out) y (l .at) fits ∙ l .inv .long;
     }
 
-returns-2 : tie.Need-returns-2 Inv-loop μ-loop
-returns-2 c =
+returns : tie.Need-returns Inv-loop μ-loop
+returns c =
     let g = c .before .before .before .before .before .before .before .args in
     let l = c .before .loop in
     let n = c .before .before .frame-count .ensures in
@@ -142,18 +132,14 @@ explain-answers-spec =
     loop-holds
     (λ c κs. search needs)
     (λ c κs. search needs)
-    (λ c. let i = c .before .before .before .before .before .before .loop .inv in omega (arith, i .written .1, i .long))
-    same-length
-    (λ c. c .before .before .before .before .before .before .before .loop .inv .long)
-    returns
-    slice-reshare-prefix-copy
-    slice-aggregate-copy
+    (λ c. omega (arith, kept-here (c .before .before) .0, c .before .before .put-line .ensures .1))
+    (λ c. kept-here (c .before .before .before) .1)
     (λ c κs. search needs)
-    add-at
+    (λ c. omega (arith, room-here (c .before .before .before .before .before .before .before)))
     (λ c κs. omega arith)
     (λ c. omega arith)
     (λ c. omega arith)
     loop-again
     (λ c. c .before .loop .inv .wide ∙ sym (c .before .before .before .before .before .before .before .pre .0))
     (λ c. c .before .loop .inv .long)
-    returns-2)
+    returns)

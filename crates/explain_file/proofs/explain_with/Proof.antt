@@ -32,7 +32,7 @@ explain-with-spec =
       outputs-fit (c .before .before .before .before .before .before .before .before .before .type-file .ensures)
           (sym (c .before .before .before .before .frames-in .ensures) ∙ c .before .before .n .given .1),
       c .before .before .before .before .before .before .before .before .before .before .before .before .before .before .before .before
-          .before .pre .1,
+          .before .pre .1 .0,
     ))
     (λ c.
     frames-within (c .before .before .before .before .before .before .before .before .before .type-file .ensures)
@@ -52,14 +52,14 @@ explain-with-spec =
     (sym (c .before .before .before .before .before .before .frames-in .ensures) ∙ c .before .before .before .before .n .given .1))))
     (λ c κs. (
       c .before .before .before .before .before .before .before .before .before .before .before .before .before .before .before .before
-          .before .before .before .before .before .pre .2,
+          .before .before .before .before .before .pre .1 .1 .0,
       omega (
         arith,
         outputs-fit
             (c .before .before .before .before .before .before .before .before .before .before .before .before .before .type-file .ensures)
             (sym (c .before .before .before .before .before .before .before .before .frames-in .ensures) ∙ c .before .before .before .before .before .before .n .given .1),
         c .before .before .before .before .before .before .before .before .before .before .before .before .before .before .before .before
-            .before .before .before .before .before .pre .1,
+            .before .before .before .before .before .pre .1 .0,
         length-take-le
             (16 * c .before .before .before .before .before .before .before .before .before .before .before .before .before .type-file .result
             .outputs)
@@ -69,6 +69,11 @@ explain-with-spec =
             (c .before .before .before .before .before .before .before .before .before .before .before .before .before .type-file .ensures)
             (sym (c .before .before .before .before .before .before .before .before .frames-in .ensures)
             ∙ c .before .before .before .before .before .before .n .given .1)),
+      ),
+      omega (
+        arith,
+        c .before .before .before .before .before .before .before .before .before .before .before .before .before .before .before .before
+            .before .before .before .before .before .pre .1 .1 .1,
       ),
     ))
     (λ c. search needs)
@@ -87,7 +92,7 @@ explain-with-spec =
     (c .before .before .before .before .before .before .before .before .before .before .before .before .before .before .before .before
     .before .before .before .before .before .before .pre .0)
     (c .before .before .before .before .before .before .before .before .before .before .before .before .before .before .before .before
-    .before .before .before .before .before .before .pre .1)
+    .before .before .before .before .before .before .pre .1 .0)
     (sym (c .before .before .before .before .before .before .before .before .before .frames-in .ensures)
     ∙ c .before .before .before .before .before .before .before .enum-told .given .1))
     (c .before .before .before .before .explain-fault .ensures))
@@ -108,7 +113,7 @@ explain-with-spec =
     (c .before .before .before .before .before .before .before .before .before .before .before .before .before .before .before .before
     .before .before .before .before .before .before .before .before .before .before .pre .0)
     (c .before .before .before .before .before .before .before .before .before .before .before .before .before .before .before .before
-    .before .before .before .before .before .before .before .before .before .before .pre .1)
+    .before .before .before .before .before .before .before .before .before .before .pre .1 .0)
     (sym (c .before .before .before .before .before .before .before .before .before .before .before .before .before .frames-in .ensures)
     ∙ c .before .before .before .before .before .before .before .before .before .before .before .n .given .1))
     (c .before .before .before .before .explain-answers .ensures)))

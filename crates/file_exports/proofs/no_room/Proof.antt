@@ -1,6 +1,6 @@
 -- `no_room`: what `read_text` gives with no buffer at all. Assumes nothing.
 use mathlib.Core.Path.{ap, _∙_}
-use Rattle.file_exports.specs.Exported.{shortNumber, noRoom}
+use Rattle.file_exports.specs.Exported.{outcomeNumber, orShort, noRoom}
 use borrow.Author.Needs.{needs}
 use Rattle.file_exports.proofs.no_room.Statement.{statement}
 use Rattle.file_exports.proofs.no_room.Tie as tie
@@ -8,7 +8,7 @@ use Rattle.file_exports.proofs.no_room.Tie as tie
 returns : tie.Need-returns
 unfolding noRoom
 returns c =
-    c .short-number .ensures ∙ ap shortNumber (c .before .before .read-text .ensures .0)
+    c .short-number .ensures ∙ ap (λ o. outcomeNumber (orShort o)) (c .before .before .read-text .ensures .0)
 
 pub no-room-spec : {M : Type 1} → statement M
 no-room-spec =

@@ -1,7 +1,6 @@
 -- `put_row`: each arm knows its case, and what its call ensures. Assumes nothing.
 use mathlib.Core.Path.{refl, ap, _∙_}
 use Rattle.frames.specs.Bytes.{putFrame}
-use Rattle.rule_rows.proofs.Written.{answer-framed}
 use borrow.Author.Needs.{needs}
 use Rattle.file_exports.proofs.put_row.Statement.{statement}
 use Rattle.file_exports.proofs.put_row.Tie as tie
@@ -12,7 +11,7 @@ returns c =
       refl,
       c .before .before .put-frame .ensures
           ∙ ap (putFrame (c .before .before .before .before .before .before .before .before .before .args .out .now) 0)
-          (c .before .before .before .answer-frame .ensures ∙ answer-framed (c .before .before .before .before .before .before .given .given .0 .0)),
+          (c .before .before .before .answer-frame .ensures),
     )
 
 returns-2 : tie.Need-returns-2

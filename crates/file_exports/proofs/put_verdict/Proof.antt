@@ -1,7 +1,6 @@
 -- `put_verdict`: each arm knows its case, and what its call ensures. Assumes nothing.
 use mathlib.Core.Path.{refl, ap, _∙_}
 use Rattle.frames.specs.Bytes.{putFrame}
-use Rattle.file_read.proofs.Row.{verdict-framed}
 use borrow.Author.Needs.{needs}
 use Rattle.file_exports.proofs.put_verdict.Statement.{statement}
 use Rattle.file_exports.proofs.put_verdict.Tie as tie
@@ -12,9 +11,7 @@ returns c =
       refl,
       c .before .before .put-frame .ensures
           ∙ ap (putFrame (c .before .before .before .before .before .before .before .before .before .args .out .now) 0)
-          (c .before .before .before .verdict-frame .ensures
-          ∙ verdict-framed (c .before .before .before .before .before .before .before .before .before .args .row)
-          (c .before .before .before .before .before .before .given .given .0 .0)),
+          (c .before .before .before .verdict-frame .ensures),
     )
 
 returns-2 : tie.Need-returns-2

@@ -6,10 +6,11 @@ use lib.ListN.{length}
 use lib.Seq.{length-take-le}
 use borrow.Author.Needs.{needs}
 use Rattle.answers.specs.declared.Outcome.{Outcome}
+use Rattle.answers.specs.Numbers.{outcomeValues}
 use Rattle.text.proofs.Laws.{room, front}
 use Rattle.archive.specs.Checks.{checkFrames}
 use Rattle.file_read.specs.File.{thenFrames, readFile, framesAfter}
-use Rattle.file_read.proofs.Over.{accepted-of, refused-over}
+use Rattle.file_read.proofs.Over.{accepted-of, refused-over, with-said}
 use Rattle.file_read.proofs.read_with.Statement.{statement}
 use Rattle.file_read.proofs.read_with.Tie as tie
 
@@ -25,11 +26,11 @@ returns : tie.Need-returns
 unfolding readFile framesAfter
 returns c =
     let e = c .before .before .before .before .before .read-text .ensures in
-    let t = c .before .before .before .before .before .before .before .before .before .args .text .now in (
-      refused-over (λ (o : Outcome). o) checkFrames t _ (sym (c .before .before .frames-in .ensures) ∙ c .enum-told .given .1)
-          ∙ ap (thenFrames t) (e .0),
-      rw (← e .0) (e .1),
-    )
+    let t = c .before .before .before .before .before .before .before .before .before .args .text .now in
+    with-said outcomeValues
+    (refused-over (λ (o : Outcome). o) checkFrames t _ (sym (c .before .before .frames-in .ensures) ∙ c .enum-told .given .1)
+    ∙ ap (thenFrames t) (e .0))
+    (rw (← e .0) (e .1))
 
 returns-2 : tie.Need-returns-2
 unfolding readFile framesAfter
@@ -38,7 +39,7 @@ returns-2 c =
     let t = c .before .before .before .before .before .before .before .before .before .before .before .before .args .text .now in
     let a =
     accepted-of _ _ (sym (c .before .before .before .before .before .frames-in .ensures) ∙ c .before .before .before .n .given .1) in
-    (c .check-frames .ensures ∙ ap checkFrames (front t _ _ _ _ (e .1) a) ∙ ap (thenFrames t) (sym a ∙ e .0), rw (← e .0) (e .1))
+    with-said outcomeValues (c .check-frames .ensures ∙ ap checkFrames (front t _ _ _ _ (e .1) a) ∙ ap (thenFrames t) (sym a ∙ e .0)) (rw (← e .0) (e .1))
 
 pub read-with-spec : {M : Type 1} → statement M
 read-with-spec =

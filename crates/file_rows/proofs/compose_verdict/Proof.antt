@@ -6,10 +6,12 @@ use native.Mathlib.Omega.{arith}
 use lib.Seq.{length-take-le}
 use borrow.Author.Needs.{needs}
 use Rattle.answers.specs.declared.Outcome.{Outcome}
+use Rattle.answers.specs.declared.ComposeVerdict.the-variants as Cv
 use Rattle.file_read.specs.File.{overFile}
 use Rattle.file_read.specs.Typing.{answersWritten, VerdictGiven, verdictGiven, ifJudged, composeVerdict, answersAfterVerdict}
 use Rattle.file_read.proofs.Over.{refused-over, part-fits, over-part}
 use Rattle.file_read.proofs.Ready.{ready-part}
+use Rattle.file_read.proofs.Said.{with-verdict}
 use Rattle.file_rows.proofs.compose_verdict.Statement.{statement}
 use Rattle.file_rows.proofs.compose_verdict.Tie as tie
 
@@ -18,21 +20,20 @@ unfolding composeVerdict answersAfterVerdict
 returns c =
     let e = c .before .before .before .before .before .read-with .ensures in
     let g = c .before .before .before .before .before .before .before .before .before .before .args in
-    let q = (sym (c .before .before .frames-in .ensures) ∙ c .enum-told .given .1) in (
-      refused-over VerdictGiven.notAccepted (verdictGiven (g .pass) (g .row)) (g .text .now)
-          (c .before .before .before .before .before .read-with .result) q
-          ∙ ap (overFile VerdictGiven.notAccepted (verdictGiven (g .pass) (g .row)) (g .text .now)) (e .0),
-      (
-        e .1,
-        refused-over (λ (o : Outcome). g .answers .now)
-            (λ (x : List ℕ). ifJudged (answersWritten (g .pass) (g .answers .now) x) (g .answers .now) (verdictGiven (g .pass) (g .row) x))
-            (g .text .now) (c .before .before .before .before .before .read-with .result) q
-            ∙ ap
-            (overFile (λ (o : Outcome). g .answers .now)
-            (λ (x : List ℕ). ifJudged (answersWritten (g .pass) (g .answers .now) x) (g .answers .now) (verdictGiven (g .pass) (g .row) x))
-            (g .text .now))
-            (e .0),
-      ),
+    let q = (sym (c .before .before .frames-in .ensures) ∙ c .enum-told .given .1) in
+    with-verdict (g .row) (Cv.NotAccepted (c .before .before .before .before .before .read-with .result))
+    (refused-over VerdictGiven.notAccepted (verdictGiven (g .pass) (g .row)) (g .text .now)
+    (c .before .before .before .before .before .read-with .result) q
+    ∙ ap (overFile VerdictGiven.notAccepted (verdictGiven (g .pass) (g .row)) (g .text .now)) (e .0)) (
+      e .1 .1,
+      refused-over (λ (o : Outcome). g .answers .now)
+          (λ (x : List ℕ). ifJudged (answersWritten (g .pass) (g .answers .now) x) (g .answers .now) (verdictGiven (g .pass) (g .row) x))
+          (g .text .now) (c .before .before .before .before .before .read-with .result) q
+          ∙ ap
+          (overFile (λ (o : Outcome). g .answers .now)
+          (λ (x : List ℕ). ifJudged (answersWritten (g .pass) (g .answers .now) x) (g .answers .now) (verdictGiven (g .pass) (g .row) x))
+          (g .text .now))
+          (e .0),
     )
 
 returns-2 : tie.Need-returns-2
@@ -45,19 +46,18 @@ returns-2 c =
     let q =
     (sym (c .before .before .before .before .before .before .before .before .frames-in .ensures)
     ∙ c .before .before .before .before .before .before .n .given .1)
-    in (
-      c .before .before .judge-one .ensures .0
+    in
+    with-verdict (g .row) (c .before .before .judge-one .result)
+    (c .before .before .judge-one .ensures .0
+    ∙ over-part (g .limit) (g .text .now) (g .frames .now) _ _ (c .before .before .before .before .before .before .n .given .0 .0) _
+    (e .0)
+    (e .1 .1) q VerdictGiven.notAccepted (verdictGiven (g .pass) (g .row))) (
+      e .1 .1,
+      c .before .before .judge-one .ensures .1
           ∙ over-part (g .limit) (g .text .now) (g .frames .now) _ _ (c .before .before .before .before .before .before .n .given .0 .0) _
           (e .0)
-          (e .1) q VerdictGiven.notAccepted (verdictGiven (g .pass) (g .row)),
-      (
-        e .1,
-        c .before .before .judge-one .ensures .1
-            ∙ over-part (g .limit) (g .text .now) (g .frames .now) _ _ (c .before .before .before .before .before .before .n .given .0 .0) _
-            (e .0)
-            (e .1) q (λ (o : Outcome). g .answers .now)
-            (λ (x : List ℕ). ifJudged (answersWritten (g .pass) (g .answers .now) x) (g .answers .now) (verdictGiven (g .pass) (g .row) x)),
-      ),
+          (e .1 .1) q (λ (o : Outcome). g .answers .now)
+          (λ (x : List ℕ). ifJudged (answersWritten (g .pass) (g .answers .now) x) (g .answers .now) (verdictGiven (g .pass) (g .row) x)),
     )
 
 pub compose-verdict-spec : {M : Type 1} → statement M
@@ -75,7 +75,7 @@ compose-verdict-spec =
           (c .before .before .before .before .before .before .before .before .before .before .before .args .text .now)
           (c .before .before .before .before .before .before .before .before .before .before .before .args .frames .now) _ _
           (c .before .n .given .0 .0) _ (c .before .before .before .before .before .before .read-with .ensures .0)
-          (c .before .before .before .before .before .before .read-with .ensures .1)
+          (c .before .before .before .before .before .before .read-with .ensures .1 .1)
           (sym (c .before .before .before .frames-in .ensures) ∙ c .before .n .given .1),
     ))
     (λ c.
@@ -83,7 +83,7 @@ compose-verdict-spec =
     (c .before .before .before .before .before .before .before .before .before .before .before .args .text .now)
     (c .before .before .before .before .before .before .before .before .before .before .before .args .frames .now) _ _
     (c .before .n .given .0 .0) _ (c .before .before .before .before .before .before .read-with .ensures .0)
-    (c .before .before .before .before .before .before .read-with .ensures .1)
+    (c .before .before .before .before .before .before .read-with .ensures .1 .1)
     (sym (c .before .before .before .frames-in .ensures) ∙ c .before .n .given .1))
     (λ c.
     sym
@@ -92,7 +92,7 @@ compose-verdict-spec =
     (c .before .before .before .before .before .before .before .before .before .before .before .before .args .text .now)
     (c .before .before .before .before .before .before .before .before .before .before .before .before .args .frames .now) _ _
     (c .before .before .n .given .0 .0) _ (c .before .before .before .before .before .before .before .read-with .ensures .0)
-    (c .before .before .before .before .before .before .before .read-with .ensures .1)
+    (c .before .before .before .before .before .before .before .read-with .ensures .1 .1)
     (sym (c .before .before .before .before .frames-in .ensures) ∙ c .before .before .n .given .1))))
     (λ c κs.
     ready-part (c .before .before .before .before .before .before .before .before .before .before .before .before .before .args .pass)
@@ -102,7 +102,7 @@ compose-verdict-spec =
     (c .before .before .before .before .before .before .before .before .before .before .before .before .before .args .answers .now)
     (c .before .before .before .n .given .0 .0) _
     (c .before .before .before .before .before .before .before .before .read-with .ensures .0)
-    (c .before .before .before .before .before .before .before .before .read-with .ensures .1)
+    (c .before .before .before .before .before .before .before .before .read-with .ensures .1 .1)
     (sym (c .before .before .before .before .before .frames-in .ensures) ∙ c .before .before .before .n .given .1))
     (λ c. search needs)
     returns

@@ -6,6 +6,7 @@ use native.Mathlib.Omega.{arith}
 use lib.Seq.{length-take-le}
 use borrow.Author.Needs.{needs}
 use Rattle.answers.specs.declared.Outcome.{Outcome}
+use Rattle.answers.specs.declared.RowType.the-variants as Rt
 use mathlib.Core.Bool.{cond}
 use Rattle.archive.specs.Starts.{startsOf}
 use Rattle.archive.specs.Names.{isRow}
@@ -13,6 +14,7 @@ use Rattle.file_read.specs.File.{overFile}
 use Rattle.file_read.specs.Typing.{answersWritten, RowGiven, rowGiven, rowType, answersAfterRow}
 use Rattle.file_read.proofs.Over.{refused-over, part-fits, over-part}
 use Rattle.file_read.proofs.Ready.{ready-part}
+use Rattle.file_read.proofs.Said.{with-row}
 use Rattle.file_rows.proofs.row_type.Statement.{statement}
 use Rattle.file_rows.proofs.row_type.Tie as tie
 
@@ -21,22 +23,21 @@ unfolding rowType answersAfterRow
 returns c =
     let e = c .before .before .before .before .before .read-with .ensures in
     let g = c .before .before .before .before .before .before .before .before .before .before .args in
-    let q = (sym (c .before .before .frames-in .ensures) ∙ c .enum-told .given .1) in (
-      refused-over RowGiven.notAccepted (rowGiven (g .pass) (g .row)) (g .text .now)
+    let q = (sym (c .before .before .frames-in .ensures) ∙ c .enum-told .given .1) in
+    with-row (Rt.NotAccepted (c .before .before .before .before .before .read-with .result))
+    (refused-over RowGiven.notAccepted (rowGiven (g .pass) (g .row)) (g .text .now)
+    (c .before .before .before .before .before .read-with .result) q
+    ∙ ap (overFile RowGiven.notAccepted (rowGiven (g .pass) (g .row)) (g .text .now)) (e .0)) (
+      e .1 .1,
+      refused-over (λ (o : Outcome). g .answers .now)
+          (λ (x : List ℕ). cond (isRow (startsOf x) (g .row)) (answersWritten (g .pass) (g .answers .now) x) (g .answers .now))
+          (g .text .now)
           (c .before .before .before .before .before .read-with .result) q
-          ∙ ap (overFile RowGiven.notAccepted (rowGiven (g .pass) (g .row)) (g .text .now)) (e .0),
-      (
-        e .1,
-        refused-over (λ (o : Outcome). g .answers .now)
-            (λ (x : List ℕ). cond (isRow (startsOf x) (g .row)) (answersWritten (g .pass) (g .answers .now) x) (g .answers .now))
-            (g .text .now)
-            (c .before .before .before .before .before .read-with .result) q
-            ∙ ap
-            (overFile (λ (o : Outcome). g .answers .now)
-            (λ (x : List ℕ). cond (isRow (startsOf x) (g .row)) (answersWritten (g .pass) (g .answers .now) x) (g .answers .now))
-            (g .text .now))
-            (e .0),
-      ),
+          ∙ ap
+          (overFile (λ (o : Outcome). g .answers .now)
+          (λ (x : List ℕ). cond (isRow (startsOf x) (g .row)) (answersWritten (g .pass) (g .answers .now) x) (g .answers .now))
+          (g .text .now))
+          (e .0),
     )
 
 returns-2 : tie.Need-returns-2
@@ -49,19 +50,18 @@ returns-2 c =
     let q =
     (sym (c .before .before .before .before .before .before .before .before .frames-in .ensures)
     ∙ c .before .before .before .before .before .before .n .given .1)
-    in (
-      c .before .before .answer-one .ensures .0
+    in
+    with-row (c .before .before .answer-one .result)
+    (c .before .before .answer-one .ensures .0
+    ∙ over-part (g .limit) (g .text .now) (g .frames .now) _ _ (c .before .before .before .before .before .before .n .given .0 .0) _
+    (e .0)
+    (e .1 .1) q RowGiven.notAccepted (rowGiven (g .pass) (g .row))) (
+      e .1 .1,
+      c .before .before .answer-one .ensures .1
           ∙ over-part (g .limit) (g .text .now) (g .frames .now) _ _ (c .before .before .before .before .before .before .n .given .0 .0) _
           (e .0)
-          (e .1) q RowGiven.notAccepted (rowGiven (g .pass) (g .row)),
-      (
-        e .1,
-        c .before .before .answer-one .ensures .1
-            ∙ over-part (g .limit) (g .text .now) (g .frames .now) _ _ (c .before .before .before .before .before .before .n .given .0 .0) _
-            (e .0)
-            (e .1) q (λ (o : Outcome). g .answers .now)
-            (λ (x : List ℕ). cond (isRow (startsOf x) (g .row)) (answersWritten (g .pass) (g .answers .now) x) (g .answers .now)),
-      ),
+          (e .1 .1) q (λ (o : Outcome). g .answers .now)
+          (λ (x : List ℕ). cond (isRow (startsOf x) (g .row)) (answersWritten (g .pass) (g .answers .now) x) (g .answers .now)),
     )
 
 pub row-type-spec : {M : Type 1} → statement M
@@ -79,7 +79,7 @@ row-type-spec =
           (c .before .before .before .before .before .before .before .before .before .before .before .args .text .now)
           (c .before .before .before .before .before .before .before .before .before .before .before .args .frames .now) _ _
           (c .before .n .given .0 .0) _ (c .before .before .before .before .before .before .read-with .ensures .0)
-          (c .before .before .before .before .before .before .read-with .ensures .1)
+          (c .before .before .before .before .before .before .read-with .ensures .1 .1)
           (sym (c .before .before .before .frames-in .ensures) ∙ c .before .n .given .1),
     ))
     (λ c.
@@ -87,7 +87,7 @@ row-type-spec =
     (c .before .before .before .before .before .before .before .before .before .before .before .args .text .now)
     (c .before .before .before .before .before .before .before .before .before .before .before .args .frames .now) _ _
     (c .before .n .given .0 .0) _ (c .before .before .before .before .before .before .read-with .ensures .0)
-    (c .before .before .before .before .before .before .read-with .ensures .1)
+    (c .before .before .before .before .before .before .read-with .ensures .1 .1)
     (sym (c .before .before .before .frames-in .ensures) ∙ c .before .n .given .1))
     (λ c.
     sym
@@ -96,7 +96,7 @@ row-type-spec =
     (c .before .before .before .before .before .before .before .before .before .before .before .before .args .text .now)
     (c .before .before .before .before .before .before .before .before .before .before .before .before .args .frames .now) _ _
     (c .before .before .n .given .0 .0) _ (c .before .before .before .before .before .before .before .read-with .ensures .0)
-    (c .before .before .before .before .before .before .before .read-with .ensures .1)
+    (c .before .before .before .before .before .before .before .read-with .ensures .1 .1)
     (sym (c .before .before .before .before .frames-in .ensures) ∙ c .before .before .n .given .1))))
     (λ c κs.
     ready-part (c .before .before .before .before .before .before .before .before .before .before .before .before .before .args .pass)
@@ -106,7 +106,7 @@ row-type-spec =
     (c .before .before .before .before .before .before .before .before .before .before .before .before .before .args .answers .now)
     (c .before .before .before .n .given .0 .0) _
     (c .before .before .before .before .before .before .before .before .read-with .ensures .0)
-    (c .before .before .before .before .before .before .before .before .read-with .ensures .1)
+    (c .before .before .before .before .before .before .before .before .read-with .ensures .1 .1)
     (sym (c .before .before .before .before .before .frames-in .ensures) ∙ c .before .before .before .n .given .1))
     (λ c. search needs)
     returns

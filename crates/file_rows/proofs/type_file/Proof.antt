@@ -32,10 +32,11 @@ returns c =
     let q = (sym (c .before .before .frames-in .ensures) ∙ c .enum-told .given .1) in
     record {
       outcome = e .0;
+      said = e .1 .0;
       outputs =
           refused-over none (counted (g .pass)) (g .text .now) (c .before .before .before .before .before .read-with .result) q
           ∙ ap (overFile none (counted (g .pass)) (g .text .now)) (e .0);
-      frames = e .1;
+      frames = e .1 .1;
       answers =
           refused-over (λ (o : Outcome). g .answers .now) (λ (x : List ℕ). answersWritten (g .pass) (g .answers .now) x) (g .text .now)
           (c .before .before .before .before .before .read-with .result) q
@@ -56,6 +57,7 @@ returns-2 c =
     in
     record {
       outcome = e .0;
+      said = e .1 .0;
       outputs =
           omega (
             arith,
@@ -65,12 +67,12 @@ returns-2 c =
                 (c .before .before .before .before .before .before .before .before .before .before .before .read-with .last .1 .1 .0)),
           )
           ∙ over-part (g .limit) (g .text .now) (g .frames .now) _ _ (c .before .before .before .before .before .before .n .given .0 .0) _
-          (e .0) (e .1) q none (counted (g .pass));
-      frames = e .1;
+          (e .0) (e .1 .1) q none (counted (g .pass));
+      frames = e .1 .1;
       answers =
           c .before .before .answer-all .ensures .1
           ∙ over-part (g .limit) (g .text .now) (g .frames .now) _ _ (c .before .before .before .before .before .before .n .given .0 .0) _
-          (e .0) (e .1) q (λ (o : Outcome). g .answers .now) (λ (x : List ℕ). answersWritten (g .pass) (g .answers .now) x);
+          (e .0) (e .1 .1) q (λ (o : Outcome). g .answers .now) (λ (x : List ℕ). answersWritten (g .pass) (g .answers .now) x);
     }
 
 pub type-file-spec : {M : Type 1} → statement M
@@ -88,7 +90,7 @@ type-file-spec =
           (c .before .before .before .before .before .before .before .before .before .before .before .args .text .now)
           (c .before .before .before .before .before .before .before .before .before .before .before .args .frames .now) _ _
           (c .before .n .given .0 .0) _ (c .before .before .before .before .before .before .read-with .ensures .0)
-          (c .before .before .before .before .before .before .read-with .ensures .1)
+          (c .before .before .before .before .before .before .read-with .ensures .1 .1)
           (sym (c .before .before .before .frames-in .ensures) ∙ c .before .n .given .1),
     ))
     (λ c.
@@ -96,7 +98,7 @@ type-file-spec =
     (c .before .before .before .before .before .before .before .before .before .before .before .args .text .now)
     (c .before .before .before .before .before .before .before .before .before .before .before .args .frames .now) _ _
     (c .before .n .given .0 .0) _ (c .before .before .before .before .before .before .read-with .ensures .0)
-    (c .before .before .before .before .before .before .read-with .ensures .1)
+    (c .before .before .before .before .before .before .read-with .ensures .1 .1)
     (sym (c .before .before .before .frames-in .ensures) ∙ c .before .n .given .1))
     (λ c.
     sym
@@ -105,7 +107,7 @@ type-file-spec =
     (c .before .before .before .before .before .before .before .before .before .before .before .before .args .text .now)
     (c .before .before .before .before .before .before .before .before .before .before .before .before .args .frames .now) _ _
     (c .before .before .n .given .0 .0) _ (c .before .before .before .before .before .before .before .read-with .ensures .0)
-    (c .before .before .before .before .before .before .before .read-with .ensures .1)
+    (c .before .before .before .before .before .before .before .read-with .ensures .1 .1)
     (sym (c .before .before .before .before .frames-in .ensures) ∙ c .before .before .n .given .1))))
     (λ c κs.
     ready-part (c .before .before .before .before .before .before .before .before .before .before .before .before .before .args .pass)
@@ -115,7 +117,7 @@ type-file-spec =
     (c .before .before .before .before .before .before .before .before .before .before .before .before .before .args .answers .now)
     (c .before .before .before .n .given .0 .0) _
     (c .before .before .before .before .before .before .before .before .read-with .ensures .0)
-    (c .before .before .before .before .before .before .before .before .read-with .ensures .1)
+    (c .before .before .before .before .before .before .before .before .read-with .ensures .1 .1)
     (sym (c .before .before .before .before .before .frames-in .ensures) ∙ c .before .before .before .n .given .1))
     (λ c. search needs)
     returns

@@ -28,7 +28,7 @@ returns-2 c =
     let p = c .before .before .put-outcome .ensures in
     let e = c .before .before .before .before .before .before .read-file .ensures in (
       p .0 ∙ ap outcomeNumber (e .0) ∙ has-room (g .out .now) _ _ h,
-      (e .1 ∙ has-room (g .out .now) _ _ h, p .1 ∙ ap (putFrame (g .out .now) 0) (ap outcomeFrame (e .0))),
+      (e .1 .1 ∙ has-room (g .out .now) _ _ h, p .1 ∙ ap (putFrame (g .out .now) 0) (ap outcomeFrame (e .0))),
     )
 
 pub gelmusko-read-file-spec : {M : Type 1} → statement M

@@ -1,11 +1,13 @@
 -- `gelmusko_compose_verdict`: as `compose_verdict`, where the out-slice has room; the number handed on gives what the number handed in asks for. Assumes nothing.
 use mathlib.Core.Path.{ap, _∙_}
 use Rattle.rule_rows.specs.declared.Pass.the-variants.{First}
-use Rattle.gelmusko.proofs.Laws.{is-small, has-room, not-put, verdict-clamped, judged-clamped, frame-clamped}
+use Rattle.gelmusko.proofs.Laws.{is-small, has-room, not-put, judged-clamped, said-clamped}
 use Rattle.frames.specs.Bytes.{putFrame}
 use lib.ListN.{length}
-use Rattle.file_exports.specs.Exported.{verdictNumber, verdictGivenFrame}
+use Rattle.frames.specs.Out.{oneFrame}
+use Rattle.file_exports.specs.Exported.{oneNumber}
 use borrow.Author.Needs.{needs}
+use Rattle.answers.specs.Limit.{maxFrames}
 use Rattle.gelmusko.proofs.rows.gelmusko_compose_verdict.Statement.{statement}
 use Rattle.gelmusko.proofs.rows.gelmusko_compose_verdict.Tie as tie
 
@@ -29,33 +31,31 @@ returns-2 c =
     let p = c .before .before .put-verdict .ensures in
     let e = c .before .before .before .before .before .before .before .before .compose-verdict .ensures in (
       p .0
-          ∙ ap verdictNumber
-          (e .0
-          ∙ verdict-clamped First 1024 (g .text .now) (length (g .frames .now)) (length (g .answers .now)) (g .row)
+          ∙ ap oneNumber
+          (e .1 .0
+          ∙ said-clamped First maxFrames (g .text .now) (length (g .frames .now)) (length (g .answers .now)) (g .row)
           (c .before .before .before .before .before .before .before .before .before .before .before .clamped .result)
           (c .before .before .before .before .before .before .before .before .before .before .before .clamped .ensures))
           ∙ has-room (g .out .now) _ _
           (c .before .before .before .before .before .before .before .before .before .before .before .before .if1 .left),
       (
-        e .1 .0
+        e .1 .1 .0
             ∙ has-room (g .out .now) _ _
             (c .before .before .before .before .before .before .before .before .before .before .before .before .if1 .left),
         (
-          e .1 .1
-              ∙ judged-clamped First 1024 (g .text .now) (length (g .frames .now)) (g .answers .now) (g .row)
+          e .1 .1 .1
+              ∙ judged-clamped First maxFrames (g .text .now) (length (g .frames .now)) (g .answers .now) (g .row)
               (c .before .before .before .before .before .before .before .before .before .before .before .clamped .result)
               (c .before .before .before .before .before .before .before .before .before .before .before .clamped .ensures)
               ∙ has-room (g .out .now) _ _
               (c .before .before .before .before .before .before .before .before .before .before .before .before .if1 .left),
           p .1
               ∙ ap (putFrame (g .out .now) 0)
-              (ap
-              (verdictGivenFrame
-              (record { 0 = c .before .before .before .before .before .before .before .before .before .before .before .clamped .result }))
-              (e .0)
-              ∙ frame-clamped First 1024 (g .text .now) (length (g .frames .now)) (length (g .answers .now)) (g .row)
+              (ap oneFrame
+              (e .1 .0
+              ∙ said-clamped First maxFrames (g .text .now) (length (g .frames .now)) (length (g .answers .now)) (g .row)
               (c .before .before .before .before .before .before .before .before .before .before .before .clamped .result)
-              (c .before .before .before .before .before .before .before .before .before .before .before .clamped .ensures)),
+              (c .before .before .before .before .before .before .before .before .before .before .before .clamped .ensures))),
         ),
       ),
     )

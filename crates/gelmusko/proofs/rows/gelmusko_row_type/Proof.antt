@@ -4,8 +4,11 @@ use Rattle.rule_rows.specs.declared.Pass.the-variants.{First}
 use Rattle.gelmusko.proofs.Laws.{is-small, has-room, not-put, row-clamped, answers-clamped}
 use Rattle.frames.specs.Bytes.{putFrame}
 use lib.ListN.{length}
-use Rattle.file_exports.specs.Exported.{rowNumber, rowGivenFrame}
+use Rattle.frames.specs.Out.{oneFrame}
+use Rattle.file_read.specs.Typing.{rowSaid}
+use Rattle.file_exports.specs.Exported.{oneNumber}
 use borrow.Author.Needs.{needs}
+use Rattle.answers.specs.Limit.{maxFrames}
 use Rattle.gelmusko.proofs.rows.gelmusko_row_type.Statement.{statement}
 use Rattle.gelmusko.proofs.rows.gelmusko_row_type.Tie as tie
 
@@ -29,31 +32,31 @@ returns-2 c =
     let p = c .before .before .put-row .ensures in
     let e = c .before .before .before .before .before .before .before .before .row-type .ensures in (
       p .0
-          ∙ ap rowNumber
-          (e .0
-          ∙ row-clamped First 1024 (g .text .now) (length (g .frames .now)) (length (g .answers .now)) (g .row)
+          ∙ ap oneNumber
+          (e .1 .0
+          ∙ ap rowSaid (row-clamped First maxFrames (g .text .now) (length (g .frames .now)) (length (g .answers .now)) (g .row)
           (c .before .before .before .before .before .before .before .before .before .clamped .result)
-          (c .before .before .before .before .before .before .before .before .before .clamped .ensures))
+          (c .before .before .before .before .before .before .before .before .before .clamped .ensures)))
           ∙ has-room (g .out .now) _ _
           (c .before .before .before .before .before .before .before .before .before .before .before .before .if1 .left),
       (
-        e .1 .0
+        e .1 .1 .0
             ∙ has-room (g .out .now) _ _
             (c .before .before .before .before .before .before .before .before .before .before .before .before .if1 .left),
         (
-          e .1 .1
-              ∙ answers-clamped First 1024 (g .text .now) (length (g .frames .now)) (g .answers .now) (g .row)
+          e .1 .1 .1
+              ∙ answers-clamped First maxFrames (g .text .now) (length (g .frames .now)) (g .answers .now) (g .row)
               (c .before .before .before .before .before .before .before .before .before .clamped .result)
               (c .before .before .before .before .before .before .before .before .before .clamped .ensures)
               ∙ has-room (g .out .now) _ _
               (c .before .before .before .before .before .before .before .before .before .before .before .before .if1 .left),
           p .1
               ∙ ap (putFrame (g .out .now) 0)
-              (ap rowGivenFrame
-              (e .0
-              ∙ row-clamped First 1024 (g .text .now) (length (g .frames .now)) (length (g .answers .now)) (g .row)
+              (ap oneFrame
+              (e .1 .0
+              ∙ ap rowSaid (row-clamped First maxFrames (g .text .now) (length (g .frames .now)) (length (g .answers .now)) (g .row)
               (c .before .before .before .before .before .before .before .before .before .clamped .result)
-              (c .before .before .before .before .before .before .before .before .before .clamped .ensures))),
+              (c .before .before .before .before .before .before .before .before .before .clamped .ensures)))),
         ),
       ),
     )

@@ -30,10 +30,10 @@ returns-2 c =
       p .0 ∙ ap outcomeNumber (e .0)
           ∙ has-room (g .out .now) _ _ (c .before .before .before .before .before .before .before .before .before .before .before .if1 .left),
       (
-        e .1 .0
+        e .1 .1 .0
             ∙ has-room (g .out .now) _ _ (c .before .before .before .before .before .before .before .before .before .before .before .if1 .left),
         (
-          e .1 .1
+          e .1 .1 .1
               ∙ has-room (g .out .now) _ _ (c .before .before .before .before .before .before .before .before .before .before .before .if1 .left),
           p .1 ∙ ap (putFrame (g .out .now) 0) (ap outcomeFrame (e .0)),
         ),

@@ -6,6 +6,7 @@ use lib.ListN.{length}
 use Rattle.file_exports.specs.Exported.{saidNumber, saidFrame, handedFrame}
 use Rattle.answers.specs.Numbers.{samenessSaid}
 use Rattle.answers.specs.declared.Sameness.{Sameness}
+use Rattle.answers.specs.Limit.{maxFrames}
 use Rattle.frames.specs.declared.Frame.{Frame}
 use Rattle.file_read.specs.Types.{sameTypes}
 use borrow.Author.Needs.{needs}
@@ -33,24 +34,24 @@ returns-2 c =
           (e .0
           ∙ ap
           (λ (l : Frame).
-          sameTypes 1024 (g .text .now) (length (g .frames .now)) l
+          sameTypes maxFrames (g .text .now) (length (g .frames .now)) l
           (c .before .before .before .before .before .before .before .before .handed-frame2 .result))
           (c .before .before .before .before .before .before .before .before .before .handed-frame .ensures)
-          ∙ ap (sameTypes 1024 (g .text .now) (length (g .frames .now)) (handedFrame (g .left .now)))
+          ∙ ap (sameTypes maxFrames (g .text .now) (length (g .frames .now)) (handedFrame (g .left .now)))
           (c .before .before .before .before .before .before .before .before .handed-frame2 .ensures))
           ∙ has-room (g .out .now) _ _ (c .before .before .before .before .before .before .before .before .before .before .if1 .left),
       (
-        e .1 ∙ has-room (g .out .now) _ _ (c .before .before .before .before .before .before .before .before .before .before .if1 .left),
+        e .1 .1 ∙ has-room (g .out .now) _ _ (c .before .before .before .before .before .before .before .before .before .before .if1 .left),
         p .1
             ∙ ap (putFrame (g .out .now) 0)
             (ap (λ (s : Sameness). saidFrame (samenessSaid s))
             (e .0
             ∙ ap
             (λ (l : Frame).
-            sameTypes 1024 (g .text .now) (length (g .frames .now)) l
+            sameTypes maxFrames (g .text .now) (length (g .frames .now)) l
             (c .before .before .before .before .before .before .before .before .handed-frame2 .result))
             (c .before .before .before .before .before .before .before .before .before .handed-frame .ensures)
-            ∙ ap (sameTypes 1024 (g .text .now) (length (g .frames .now)) (handedFrame (g .left .now)))
+            ∙ ap (sameTypes maxFrames (g .text .now) (length (g .frames .now)) (handedFrame (g .left .now)))
             (c .before .before .before .before .before .before .before .before .handed-frame2 .ensures))),
       ),
     )

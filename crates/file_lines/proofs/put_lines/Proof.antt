@@ -1,0 +1,22 @@
+-- `put_lines`: all lines where there is room for them. Assumes nothing.
+use native.Mathlib.Omega.{arith}
+use borrow.Author.Needs.{needs}
+use Rattle.file_read.proofs.Printed.{lines-short, lines-all}
+use mathlib.Core.Path.{refl}
+use Rattle.file_lines.proofs.put_lines.Statement.{statement}
+use Rattle.file_lines.proofs.put_lines.Tie as tie
+
+pub put-lines-spec : {M : Type 1} → statement M
+put-lines-spec =
+    tie.close
+    (tie.spec
+    (λ c. search needs)
+    (λ c.
+    let g = c .before .before .before .args in
+    lines-short (g .frames .now) (g .out .now) _ refl (c .if1 .taken))
+    (λ c κs. search needs)
+    (λ c. search needs)
+    (λ c.
+    let g = c .before .before .before .before .before .before .before .args in
+    let w = c .before .before .write-text in
+    lines-all (g .frames .now) (g .out .now) _ refl (w .last .1 .0) (w .result) (omega (arith, c .before .before .before .before .if1 .left)) (w .ensures .0) (w .ensures .1)))
