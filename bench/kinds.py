@@ -41,7 +41,7 @@ def rows():
         'atomic_result': put(4, 25), 'uniform_load': put(4, 26), 'array_length': put(4, 27), 'vertex_positions': put(4, 28),
         'proceed': put(4, 29), 'intersection': put(4, 30), 'ballot': put(4, 31), 'subgroup': put(4, 32),
         'cooperative_load': reads(33, 'to_scalar', b6=8, b7=8), 'cooperative_multiply': reads(34, 'cooperative'),
-        'sample': reads(14, 'image'), 'gather': reads(14, 'image', b6=1), 'image_load': reads(15, 'image'), 'image_size': reads(16, 'image'),
+        'sample': reads(14, 'image'), 'gather': reads(14, 'image', b6=1), 'image_load': reads(15, 'image'), 'storage_load': reads(15, 'storage'), 'image_size': reads(16, 'image'),
         'image_levels': put(4, 16, b6=1), 'add': binary(0, 'vector', 'vector'), 'less': binary(7, 'vector', 'vector'),
         'and': binary(14, 'bool', 'bool'), 'scalar_times_vector': binary(2, 'scalar', 'vector'), 'matrix_times_vector': binary(2, 'matrix', 'vector'),
         'cooperative_times_cooperative': binary(2, 'cooperative', 'cooperative')}
@@ -59,7 +59,7 @@ def rows():
         'struct_times_array': binary(2, 'struct', 'array'), 'less_matrix': binary(7, 'matrix', 'vector'), 'and_scalar': binary(14, 'scalar', 'bool')}
     lead = LEAD + [reads(8, 'vector', b6=3)]
     passed = {name: put(4, kind, w2=len(LEAD)) for name, kind in (('unary', 17), ('access', 6), ('load', 13))}
-    newer = {'storage_load': reads(15, 'storage')}
+    newer = {'math': put(4, 22)}
     for group, named in (('typed', typed), ('refused', refused), ('passed_on', passed), ('newer', newer)):
         for name, row in named.items():
             yield group + '_' + name, lead, row

@@ -309,6 +309,16 @@ pub mod by_enums {
         const U32: Self = Self { kind: ScalarKind::Uint, width: 4 };
         const F32: Self = Self { kind: ScalarKind::Float, width: 4 };
         const BOOL: Self = Self { kind: ScalarKind::Bool, width: 1 };
+
+        /// The scalar of a storage format, by its number.
+        fn of_format(format: u8) -> Self {
+            let kind = match format {
+                2 | 4 | 9 | 11 | 14 | 19 | 22 | 25 | 26 | 29 | 32 => ScalarKind::Uint,
+                3 | 5 | 10 | 12 | 15 | 20 | 27 | 30 | 33 => ScalarKind::Sint,
+                _ => ScalarKind::Float,
+            };
+            Self { kind, width: if format == 25 { 8 } else { 4 } }
+        }
     }
 
     #[derive(Clone, Copy, PartialEq, Eq)]
@@ -714,7 +724,9 @@ pub mod by_enums {
                 }
                 ImageClass::Depth { .. } => value(TypeInner::Scalar(Scalar::F32)),
                 ImageClass::External => value(TypeInner::Vector { size: VectorSize::Quad, scalar: Scalar::F32 }),
-                ImageClass::Storage { .. } => Err(Refusal::Newer { row: here }),
+                ImageClass::Storage { format, .. } => {
+                    value(TypeInner::Vector { size: VectorSize::Quad, scalar: Scalar::of_format(format) })
+                }
             }
         }
 
@@ -1362,7 +1374,14 @@ pub mod on_bytes {
                 0 => Ok(vector(4, f[5], 4)),
                 1 => Ok(scalar(2, 4)),
                 2 => Ok(vector(4, 2, 4)),
-                _ => Err(refused(22, self.here, 0, 0)),
+                _ => {
+                    let kind = match f[5] {
+                        2 | 4 | 9 | 11 | 14 | 19 | 22 | 25 | 26 | 29 | 32 => 1,
+                        3 | 5 | 10 | 12 | 15 | 20 | 27 | 30 | 33 => 0,
+                        _ => 2,
+                    };
+                    Ok(vector(4, kind, if f[5] == 25 { 8 } else { 4 }))
+                }
             }
         }
 

@@ -1,5 +1,5 @@
-/* Gelmusko: types of archived shader rows. The functions of libgelmusko.a, which `rt staticlib gelmusko` writes to
- * target/staticlib (x86-64 Linux).
+/* Gelmusko: types of archived shader rows, and the texel of a density. The functions of libgelmusko.a, which
+ * `rt staticlib gelmusko` writes to target/staticlib (x86-64 Linux).
  *
  * THE FILE. `text` is a whole file: lines of 32 lower-case hexadecimal digits and a line feed, one frame of 16 bytes
  * a line. Any bytes may be handed in; what is no file is refused by its number. docs/RULES.md has the frames and the
@@ -37,8 +37,10 @@
  * Numbers of rows and types count from 0. One that the file does not have, whatever its size, is number 6 with place
  * 0, and `answers` stays as it was.
  *
- * Each function is proved, for all inputs, to return and to leave in each buffer what crates/file_exports/specs says;
- * it ends, and it never traps. */
+ * A TEXEL. gelmusko_texel asks for no file, and its `out` gets no frame but a texel, of 2 bytes.
+ *
+ * Each function is proved, for all inputs, to return and to leave in each buffer what crates/file_exports/specs says,
+ * and for a texel crates/texel/specs; it ends, and it never traps. */
 #ifndef GELMUSKO_H
 #define GELMUSKO_H
 
@@ -53,6 +55,7 @@ extern "C" {
 #define GELMUSKO_FRAMES_BYTES 16384
 #define GELMUSKO_ANSWERS_BYTES 32768
 #define GELMUSKO_OUT_BYTES 16
+#define GELMUSKO_TEXEL_BYTES 2
 
 /* what is returned */
 #define GELMUSKO_GIVEN 0u       /* what was asked for; of a comparison: the same type */
@@ -66,6 +69,7 @@ extern "C" {
                                    handed in */
 #define GELMUSKO_NEWER 22u      /* something that this reader does not know; place 0. Only of a comparison, a canonical
                                    form or a base */
+#define GELMUSKO_RANGE 40u      /* a density over 10,000. Only of gelmusko_texel */
 #define GELMUSKO_DIFFERENT 256u /* a comparison: not the same type. out: b0 = 10, number 0 */
 #define GELMUSKO_NO_POINTER 257u /* a base: the type is no pointer. out: b0 = 10, number 0 */
 
@@ -109,6 +113,12 @@ uint32_t gelmusko_canonical_form(const uint8_t *text, size_t text_len, uint8_t *
  * (b0 = 9). Returns 0 to 6, 22, or 257 where type n is no pointer. */
 uint32_t gelmusko_pointer_base(const uint8_t *text, size_t text_len, uint8_t *frames, size_t frames_len,
                                uint32_t n, uint8_t *out, size_t out_len);
+
+/* The R16Unorm texel of a density in hundredths of a per cent, 0 to 10,000: density times 65,535 divided by 10,000,
+ * rounded to the nearest whole number, halves going up. Returns 0, and the first two bytes of out are the texel, low
+ * byte first; or 3 where out has fewer than 2 bytes, else 40 where the density is over 10,000, and no byte of out is
+ * changed. */
+uint32_t gelmusko_texel(uint32_t density, uint8_t *out, size_t out_len);
 
 #ifdef __cplusplus
 }

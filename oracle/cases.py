@@ -1,6 +1,6 @@
 """The stored cases: whole files by hand, and the seeds and sizes of generated ones. store.py writes them.
 
-A case with `says` has its whole output written here by hand, from document 01.
+A case with `says` has its whole output written here by hand, from document 01, and document 02 for storage loads.
 """
 
 import random
@@ -104,8 +104,19 @@ case('multiply-order', [unknown(), t_scalar(), t_struct(0, 0)],
 case('storage-image', [put(1, 10, b2=2, b4=3, b5=40, b7=7), t_scalar(), t_pointer(0)],
      rows=[zero(0), over(14, 0), over(14, 0, b6=1), over(15, 0), over(16, 0), put(4, 16, b6=1), zero(1), over(14, 6),
            over(15, 6), zero(2), over(15, 9), load(9), over(15, 11), put(4, 22), over(15, 13)],
-     says=[number(0), refusal(22, 1), vector(4, F32), refusal(22, 3), vector(2, U32), scalar(U32), number(1), refusal(16, 6),
-           refusal(16, 6), number(2), refusal(16, 9), number(0), refusal(22, 12), refusal(22, 13), refusal(22, 13)])
+     says=[number(0), vector(4, F32), vector(4, F32), vector(4, F32), vector(2, U32), scalar(U32), number(1), refusal(16, 6),
+           refusal(16, 6), number(2), refusal(16, 9), number(0), vector(4, F32), refusal(22, 13), refusal(22, 13)])
+case('storage-global', [put(1, 10, b2=2, b4=3, b5=1, b7=3)], items=[put(3, 3, b6=5), put(3, 5)],
+     rows=[put(4, 11), local_row(0)] + [over(kind, n, **more) for n in (0, 1) for kind, more in ((14, {}), (14, dict(b6=1)), (15, {}), (16, {}))] +
+     [load(1), over(15, 10), over(17, 11)],
+     says=[number(0), value_of(6), vector(4, F32), vector(4, F32), vector(4, F32), vector(2, U32)] + [refusal(16, 1)] * 4 +
+     [number(0), vector(4, F32), vector(4, F32)])
+# Rgba8Unorm, R16Snorm, Rg11b10Ufloat, R16Float, R32Sint, Rgb10a2Uint, R64Uint, Rg32Uint: loads, samples, gathers, and what goes on from a load
+case('storage-scalars', [put(1, 10, b2=2, b4=3, b5=f, b7=1) for f in (17, 36, 24, 6, 12, 22, 25, 26)],
+     rows=[zero(n) for n in range(8)] + [over(15, n) for n in range(8)] + [over(14, n) for n in range(8)] + [over(14, n, b6=1) for n in range(8)] +
+     [index(14, 3), index(14, 4), binary(2, 14, 14)],
+     says=[number(n) for n in range(8)] + [vector(4, s) for s in (F32, F32, F32, F32, (0, 4), U32, (1, 8), U32)] * 2 + [vector(4, F32)] * 8 +
+     [scalar((1, 8)), refusal(10, 14, 4), vector(4, (1, 8))])
 case('logical-exact', [t_scalar(BOOL), t_scalar((3, 4)), t_vector(2, BOOL), unknown()],
      rows=[zero(0), binary(14, 0, 0), literal(9), binary(15, 2, 0), zero(1), binary(14, 4, 0), zero(2), binary(15, 6, 0),
            zero(3), binary(14, 8, 0), binary(15, 8, 0), binary(14, 0, 8)],
@@ -249,8 +260,9 @@ case('image-dimensions', [put(1, 10, b2=d, b3=a, b4=c) for d in (1, 2, 3, 4) for
      rows=[zero(n) for n in range(32)] + [over(kind, n, **more) for kind, more in ((14, {}), (14, dict(b6=1)), (15, {}), (16, {})) for n in range(32)])
 case('image-kinds', [put(1, 10, b2=2, b5=k, b6=m) for k in range(6) for m in (0, 1)],
      rows=[zero(n) for n in range(12)] + [over(kind, n, **more) for kind, more in ((14, {}), (14, dict(b6=1)), (15, {})) for n in range(12)])
-case('image-formats', [put(1, 10, b2=1, b4=3, b5=f, b7=f % 8) for f in range(41)],
-     rows=[zero(n) for n in range(41)] + [over(14, n, b6=1) for n in range(41)] + [over(15, n) for n in range(41)])
+for dimension in 1, 2, 3, 4:
+    case('storage-formats-dimension-%d' % dimension, [put(1, 10, b2=dimension, b3=f % 2, b4=3, b5=f, b7=f % 8) for f in range(41)],
+         rows=[zero(n) for n in range(41)] + [over(kind, n, **more) for kind, more in ((15, {}), (14, {}), (14, dict(b6=1))) for n in range(41)])
 case('scalar-widths', [t_scalar((k, w)) for k in range(6) for w in (0, 1, 3, 255)] + [t_vector(2, (3, 255)), t_atomic((5, 0)), t_pointer(25)],
      rows=[zero(n) for n in range(27)] + [over(8, n, b6=2) for n in range(24)] + [binary(14, n, 0) for n in range(24)] +
      [access(24), over(23, 24, b6=2), load(26)])
@@ -284,6 +296,9 @@ case('differs-load-write-only', [t_scalar()], items=[put(3, 3, b6=4, b7=2)], row
 case('differs-sample-uint', [image(2, b5=1)], items=[in_handle(0)], rows=[global_row(0), over(14, 0)])
 case('differs-gather-storage', [image(2, b4=3, b5=32, b7=1)], items=[in_handle(0)], rows=[global_row(0), over(14, 0, b6=1)])
 case('differs-load-cube', [image(4, b5=2)], items=[in_handle(0)], rows=[global_row(0), over(15, 0)])
+case('differs-storage-image', [image(2, b4=3, b5=17, b7=1), image(2, b4=3, b5=25, b7=1), image(2, b4=3, b5=32, b7=2), image(4, b4=3, b5=35, b7=1)],
+     items=[in_handle(n) for n in range(4)],
+     rows=[global_row(0), over(15, 0), over(14, 0), global_row(1), over(15, 3), global_row(2), over(15, 5), global_row(3), over(15, 7)])
 case('differs-operand-unread', rows=[put(4, 16, b6=n) for n in (1, 2, 3)] + [put(4, 21, b6=n) for n in (0, 1)] + [put(4, 27)])
 case('differs-unary', [t_scalar(), t_array(0, 2, 4)], rows=[zero(1), over(17, 0)])
 case('differs-scalar-plus-vector', [t_scalar(), t_vector(2)], rows=[zero(0), zero(1), binary(0, 0, 1)])
@@ -336,11 +351,6 @@ case('newer-bases', [unknown(15), t_pointer(0)], rows=[zero(1)] + reads(0),
      [refusal(22, 13)] + [number(1)] * 4 + [refusal(18) if op in LOOKING else number(1) for op in OPERATORS])
 case('newer-passed', rows=[MATH] + reads(0) + [literal(1), binary(2, 36, 0), binary(2, 0, 36)],
      says=[refusal(22)] * 36 + [scalar(F32)] + [refusal(22)] * 2)
-case('newer-storage', [put(1, 10, b2=2, b4=3, b5=1, b7=3)], items=[put(3, 3, b6=5), put(3, 5)],
-     rows=[put(4, 11), local_row(0)] + [over(kind, n, **more) for n in (0, 1) for kind, more in ((14, {}), (14, dict(b6=1)), (15, {}), (16, {}))] +
-     [load(1), over(15, 10), over(17, 11)],
-     says=[number(0), value_of(6), refusal(22, 2), vector(4, F32), refusal(22, 4), vector(2, U32)] + [refusal(16, 1)] * 4 +
-     [number(0), refusal(22, 11), refusal(22, 11)])
 case('refused-passed', rows=[ARGUMENT] + reads(0) + [MATH, literal(1), binary(2, 0, 36), binary(2, 36, 0), binary(2, 37, 0), binary(0, 37, 0)],
      says=[refusal(19)] * 36 + [refusal(22, 36), scalar(F32), refusal(19), refusal(22, 36), refusal(19), scalar(F32)])
 case('newer-not-read', [unknown()], rows=[MATH, put(4, 16, b6=1), put(4, 21), put(4, 21, b6=1), literal(9), binary(0, 4, 0), binary(5, 4, 0), binary(14, 4, 0)],

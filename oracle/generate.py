@@ -299,11 +299,7 @@ class Maker:
 
     def sample(self, kind):
         r = self.random
-        image = self.fit(10)
-        form = self.form(self.typing.answers[image])
-        gather = r.randrange(2)
-        if form and form[1] == 10 and form[4] == 3 and not self.newer:
-            return put(4, 14, w2=image, b6=1)
+        image, gather = self.fit(10), r.randrange(2)
         return put(4, kind, w2=image, b6=gather if kind == 14 else 0)
 
     def binary(self):

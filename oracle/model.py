@@ -1,7 +1,7 @@
-"""Document 01 written once more, over bytes: checks 1 to 6, rows, verdicts and comparison.
+"""Document 01 written once more, over bytes: checks 1 to 6, rows, verdicts and comparison; and document 02's storage loads.
 
 The generator uses it to know what it has made, and try.py holds it against the oracle. It was written from
-document 01, not from the source and not from this port.
+the documents, not from the source and not from this port.
 """
 
 ANY, ZERO, FLAG = range(256), (0,), (0, 1)
@@ -11,6 +11,13 @@ SCALAR = {4: KIND, 5: ANY}
 
 LITERALS = [(2, 8), (2, 4), (2, 2), (1, 2), (0, 2), (1, 4), (0, 4), (1, 8), (0, 8), (3, 1), (4, 8), (5, 8)]
 BOOL, U32, F32 = (3, 1), (1, 4), (2, 4)
+
+# The storage formats, in declared order, and the kind that a name ends in.
+FORMATS = '''R8Unorm R8Snorm R8Uint R8Sint R16Uint R16Sint R16Float Rg8Unorm Rg8Snorm Rg8Uint Rg8Sint R32Uint R32Sint R32Float
+Rg16Uint Rg16Sint Rg16Float Rgba8Unorm Rgba8Snorm Rgba8Uint Rgba8Sint Bgra8Unorm Rgb10a2Uint Rgb10a2Unorm Rg11b10Ufloat R64Uint
+Rg32Uint Rg32Sint Rg32Float Rgba16Uint Rgba16Sint Rgba16Float Rgba32Uint Rgba32Sint Rgba32Float
+R16Unorm R16Snorm Rg16Unorm Rg16Snorm Rgba16Unorm Rgba16Snorm'''.split()
+ENDINGS = {'Sint': 0, 'Uint': 1, 'Float': 2, 'Unorm': 2, 'Snorm': 2, 'Ufloat': 2}
 
 
 class Refused(Exception):
@@ -199,6 +206,13 @@ def put(family, kind, **at):
     return bytes(frame)
 
 
+def texel(format):
+    """The scalar of a storage format: the kind that its name ends in; width 4, and 8 for R64Uint."""
+    name = FORMATS[format]
+    kind, = {kind for ending, kind in ENDINGS.items() if name.endswith(ending)}
+    return kind, 8 if name == 'R64Uint' else 4
+
+
 def number(n):
     return put(8, 0, w2=n)
 
@@ -307,7 +321,7 @@ class Typing:
             if kind == 14 and mode == 1:
                 return vector(4, (f[5] if f[4] == 0 else 2, 4))
             if f[4] == 3:
-                raise Stop(refusal(22, at))
+                return vector(4, texel(f[5]))
             return [vector(4, (f[5], 4)), scalar(F32), vector(4, F32)][f[4]]
         if kind == 16:
             return scalar(U32)

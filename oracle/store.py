@@ -1,8 +1,9 @@
 #!/usr/bin/env python3
 """store.py ORACLE: writes the cases of cases.py, with what must be printed of each, for the program replay_answers.
 store.py ORACLE --confirm: asks the oracle and model.py again for each stored case, and counts differences.
+store.py ORACLE --first: holds the answers of the first rules (first_rules/) against the oracle, which must give the same but where they are 22.
 
-Each case has the source of its output: `hand` (written by hand from document 01; of an accepted file the oracle prints the same),
+Each case has the source of its output: `hand` (written by hand from documents 01 and 02; of an accepted file the oracle prints the same),
 `rust` (printed by the oracle) or `model` (a refused file's number and place, by model.py; the oracle only refuses it).
 """
 
@@ -18,6 +19,7 @@ import model
 from model import four, two
 
 HOME = pathlib.Path(__file__).parent.parent / 'crates' / 'replay_answers'
+FIRST = pathlib.Path(__file__).parent / 'first_rules'
 READS = (*range(6, 10), *range(13, 22), 23, 33, 34)
 MODES = {1: 12, 14: 2, 16: 4, 18: 18, 21: 4}
 TYPES = ('Scalar', 'Vector', 'Matrix', 'CooperativeMatrix', 'Atomic', 'Pointer', 'ValuePointer', 'Array', 'Struct', 'Image', 'Sampler',
@@ -78,7 +80,7 @@ def newer(file, answers, at):
     for word, form in zip(('looked into', 'right looked into'), forms):
         if not model.known_type(form):
             return word
-    return 'base looked into' if forms[0][1] == 6 else 'storage image'
+    return 'base looked into'
 
 
 def newer_part(file, answer):
@@ -100,6 +102,11 @@ def shown(file, frames):
         yield 'row', *(kind_of(row) if model.known_row(row) or row[1] == 22 else ('unknown',))
         if answer[0] == 10:
             yield ('refusal', 22, newer(file, answers, at), *kind_of(row)) if answer[1] == 22 else ('refusal', answer[1])
+        elif row[1] in (14, 15):
+            image = answers[two(row, 2)]
+            form = file.types[two(image, 2)] if image[0] == 8 else image
+            if form[4] == 3:
+                yield 'storage', *kind_of(row), form[2], form[5]
         depth.append(1 + depth[two(row, 2)] if row[1] in READS and two(row, 2) < at else 0)
         if row[1] == 5:
             verdict, ty = next(verdicts), type_kind(file.types[two(row, 2)])
@@ -115,7 +122,7 @@ def shown(file, frames):
 
 
 def wanted():
-    """What must be there, and what must be there by hand."""
+    """What must be there, what must be there by hand, and what must be there by the source."""
     row = {('row', kind) for kind in range(1, 35) if kind not in MODES} | {('row', 'unknown')}
     row |= {('row', kind, mode) for kind, many in MODES.items() for mode in range(many)}
     refusals = {('refusal', n) for n in range(10, 21)}
@@ -127,7 +134,7 @@ def wanted():
     looks |= {(18, op) for op in (2, *range(5, 11), 14, 15)}
     passes = {(17,), (19,), (20,), (34,)} | {(18, op) for op in range(18)}
     sorts = {('own kind', n) for n in (0, 22, 35, 255)} | {('looked into', *kind) for kind in looks} | {('right looked into', 18, 2)}
-    sorts |= {('base looked into', kind) for kind in (6, 7, 13, 33)} | {('storage image', 14, 0), ('storage image', 15)}
+    sorts |= {('base looked into', kind) for kind in (6, 7, 13, 33)}
     sorts |= {('passed on', *kind) for kind in looks | passes}
     hand = {('refusal', 22, *sort) for sort in sorts} | {('verdict', 33, ty) for ty in made} | {('verdict', 22, 'unknown')}
     hand |= {('verdict', 22, ty, where) for ty in made for where in ('row', 'type')}
@@ -135,7 +142,8 @@ def wanted():
     hand |= {('compared', word) for word in ('yes', 'no', '22', '5', '6')} | {('refused', n) for n in (1, 2, 4, 5, 6)}
     files = {('empty file',), ('1,024 frames',), ('1,024 frames, 500 rows',), ('500 composes',), ('chain of 300 rows',), ('33,793 bytes',),
              ('last line without its feed',)}
-    return row | refusals | verdicts | files | hand, hand | {('empty file',)}
+    reads = {('storage', *kind, dimension, form) for kind in ((14, 0), (14, 1), (15,)) for dimension in range(1, 5) for form in range(41)}
+    return row | refusals | verdicts | files | hand, hand | {('empty file',)}, reads
 
 
 def classes(text, pairs, said, file):
@@ -175,9 +183,10 @@ def write(oracle):
         met[source] |= shows
         if name.startswith('seed-') and file:
             newer_files[('newer',) in shows] += 1
-    every, hand = wanted()
+    every, hand, rust = wanted()
     assert not every - set.union(*met.values()), every - set.union(*met.values())
     assert not hand - met['hand'], hand - met['hand']
+    assert not rust - met['rust'], rust - met['rust']
     assert cases.CASES['p-example'].says
     assert len(data) >= 300 and newer_files[False] >= newer_files[True], newer_files
     (HOME / 'data').mkdir(parents=True, exist_ok=True)
@@ -186,9 +195,9 @@ def write(oracle):
     print(len(data), 'cases; of the generated files', newer_files[True], 'meet newer things,', newer_files[False], 'none')
 
 
-def stored():
+def stored(data, out):
     """The stored cases: name, source, text, pairs, and what must be printed."""
-    data, out = (HOME / 'data' / 'cases').read_bytes(), (HOME / 'stdout').read_text()
+    data, out = data.read_bytes(), out.read_text()
     while data:
         head, data = data[:59], data[59:]
         name, source, size, more = head.decode().split()
@@ -206,7 +215,7 @@ def stored():
 
 def confirm(oracle):
     met, wrong = collections.Counter(), 0
-    for name, source, text, pairs, said in stored():
+    for name, source, text, pairs, said in stored(HOME / 'data' / 'cases', HOME / 'stdout'):
         asked = oracle_says(oracle, text, pairs)
         by_model, file = model_says(text, pairs)
         if by_model.replace('!', '') != said or (asked.replace('!', '') != said if asked is not None else file is not None):
@@ -229,5 +238,28 @@ def confirm(oracle):
     return wrong > 0
 
 
+def first(oracle):
+    met, wrong = collections.Counter(), 0
+    for name, _, text, pairs, said in stored(FIRST / 'cases', FIRST / 'answers'):
+        asked = oracle_says(oracle, text, pairs)
+        met['cases'] += 1
+        if asked is None:
+            met['cases refused'] += 1
+            continue
+        met['files with a 22 that is another answer now'] += said != asked.replace('!', '')
+        for old, now in zip(said.split(), asked.replace('!', '').split(), strict=True):
+            frame = bytes.fromhex(old) if len(old) == 32 else bytes(2)
+            newer = frame[0] in (10, 11) and frame[1] == 22
+            met['lines kept' if not newer else '22 as before' if old == now else '22 before, and another answer now'] += 1
+            if old != now and not newer:
+                wrong += 1
+                print(name, old, now)
+    for words in sorted(met):
+        print(words, met[words])
+    print(wrong, 'differences')
+    return wrong > 0
+
+
 if __name__ == '__main__':
-    sys.exit(confirm(sys.argv[1]) if sys.argv[2:] == ['--confirm'] else write(sys.argv[1]))
+    ways = {'--confirm': confirm, '--first': first}
+    sys.exit(ways[sys.argv[2]](sys.argv[1]) if sys.argv[2:] else write(sys.argv[1]))

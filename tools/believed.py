@@ -29,10 +29,14 @@ contract file_pointers::canonical_form
 contract file_pointers::pointer_base
 contract text_encode::write_text
 contract explain_file::explain_text
+contract texel::texel_of
 contract gelmusko::*
 theorem file_read/proofs/Laws.antt accepted-when long-when torn-when short-when order-when field-when index-when by-file
 theorem file_read/proofs/Laws.antt buffer-written buffer-long buffer-torn buffer-short
 theorem law_rows/proofs/Range.antt range
+theorem ir/proofs/Formats.antt formats-named
+theorem rule/proofs/Shows.antt texels-shown sees-more
+theorem rule_rows/proofs/Storage.antt storage-typed first-storage-newer
 theorem law_verdicts/proofs/Numbers.antt verdict-numbers
 theorem law_verdicts/proofs/Each.antt one-each
 theorem file_read/proofs/Said.antt row-said verdict-said

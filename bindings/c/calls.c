@@ -48,5 +48,16 @@ int main(void)
     expect("frame of type 0", memcmp(out, number, 16) != 0, 0);
     expect("no pointer", gelmusko_pointer_base(text, 33, frames, 16, 0, out, 16), GELMUSKO_NO_POINTER);
     expect("65,536 is no type", gelmusko_pointer_base(text, 33, frames, 16, 65536, out, 16), GELMUSKO_INDEX);
+
+    /* a texel has two bytes, low byte first */
+    memcpy(out, before, 16);
+    expect("texel", gelmusko_texel(1000, out, 2), GELMUSKO_GIVEN);
+    expect("its bytes", out[0] + 256u * out[1], 6554);
+    expect("the byte after it", out[2], before[2]);
+    memcpy(out, before, 16);
+    expect("no room for a texel", gelmusko_texel(10001, out, 1), GELMUSKO_SHORT);
+    expect("no texel, no out", gelmusko_texel(0, NULL, 0), GELMUSKO_SHORT);
+    expect("over 10,000", gelmusko_texel(10001, out, 16), GELMUSKO_RANGE);
+    expect("out unchanged by a texel", memcmp(out, before, 16) != 0, 0);
     return wrong;
 }

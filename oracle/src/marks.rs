@@ -17,8 +17,6 @@ pub enum Newer {
     Passed(usize),
     /// A type of unknown kind is looked into.
     Look,
-    /// A storage image is sampled or loaded.
-    Storage,
 }
 
 /// The operands that a row's rule reads, in order.
@@ -82,13 +80,6 @@ pub fn row(file: &File, answers: &[Frame], at: usize) -> Option<Newer> {
     let (looks, through) = looks(row);
     if looks && read.iter().any(|operand| meets(file, &answers[*operand], through)) {
         return Some(Newer::Look);
-    }
-    let sampled = matches!((row[1], row[6]), (14, 0) | (15, _));
-    if sampled {
-        let form = form(file, &answers[read[0]]);
-        if form[1] == 10 && form[4] == 3 {
-            return Some(Newer::Storage);
-        }
     }
     None
 }

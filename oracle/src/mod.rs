@@ -35,8 +35,6 @@ fn type_rows(file: &File) -> Result<String, Fault> {
         let asked = ask::row(&read, &answers, at);
         let answer = match (&mark, asked) {
             (None, Ok(answer)) => answer,
-            // A storage image sampled or loaded: the source has a type, which is not taken.
-            (Some(marks::Newer::Storage), Ok(_)) => ask::Answer::Newer(at),
             (Some(marks::Newer::Own), Err(ask::Stop::NoRow)) => ask::Answer::Newer(at),
             (Some(marks::Newer::Look), Err(ask::Stop::Look)) => ask::Answer::Newer(at),
             (Some(marks::Newer::Passed(a)), Err(ask::Stop::Newer(b))) if *a == b => {

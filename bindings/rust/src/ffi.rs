@@ -70,4 +70,5 @@ extern "C" {
         out: *mut u8,
         out_len: usize,
     ) -> u32;
+    pub fn gelmusko_texel(density: u32, out: *mut u8, out_len: usize) -> u32;
 }

@@ -194,6 +194,14 @@ pub enum PointerBase {
     Refused(Outcome),
 }
 
+/// What asking for the texel of a density gives.
+#[derive(Clone, Copy, Debug, PartialEq, Eq)]
+pub enum Texel {
+    Given(u16),
+    /// 40: the density is over 10,000.
+    Range,
+}
+
 /// What a file hands back, in order: an answer for each row, and after a compose its verdict.
 #[derive(Clone, Copy, Debug, PartialEq, Eq)]
 pub enum Output {
@@ -456,6 +464,15 @@ pub fn pointer_base(text: &[u8], frames: &mut [u8], n: u32) -> PointerBase {
         NO_POINTER => PointerBase::NotPointer,
         22 => PointerBase::Newer,
         _ => PointerBase::Refused(Outcome::of(out)),
+    }
+}
+
+/// The R16Unorm texel of a density in hundredths of a per cent, 0 to 10,000: the nearest to as large a part of 65,535, of two that are equally near the greater.
+pub fn texel(density: u32) -> Texel {
+    let mut out = [0; 2];
+    match unsafe { ffi::gelmusko_texel(density, out.as_mut_ptr(), 2) } {
+        0 => Texel::Given(u16::from_le_bytes(out)),
+        _ => Texel::Range,
     }
 }
 

@@ -16,7 +16,7 @@ use Rattle.ir.specs.declared.RelationalFunction.{RelationalFunction}
 use Rattle.ir.specs.declared.RelationalFunction.the-variants as Rf
 use Rattle.ir.specs.declared.TypeInner.{TypeInner}
 use Rattle.ir.specs.declared.TypeInner.the-variants as Ti
-use Rattle.rule.specs.Answers.{TypeAnswer, number, Typed, given, refused, chosenRefusal, Place, row}
+use Rattle.rule.specs.Answers.{TypeAnswer, number, value, Typed, given, refused, chosenRefusal, Place, row}
 use Rattle.rule.specs.Things.{Shown, Form, Thing, Seen, Sight, kind, form, texels, see}
 use Rattle.rule.specs.Things as Row
 use Rattle.rule.specs.Rule.{Rule, done, come, Step, step, Readings, follow, placed}
@@ -83,7 +83,7 @@ module _ (sight : Sight) (earlier : Readings) where
 
   class-steps : (here image : RowNumber) (t : TypeInner)
       → steps (sampledFrom here image t) ≡ stepTo sight (row here) (ifImage t (λ d c. some (texels c)) none) []
-  class-steps here image (Ti.Image d a c) = come-steps (row here) (texels c) (λ s. done (sampledOf image s)) [] (λ s q. refl)
+  class-steps here image (Ti.Image d a c) = come-steps (row here) (texels c) (λ s. done (given (value (sampledOf s)))) [] (λ s q. refl)
   class-steps here image (Ti.Scalar x0) = refl
   class-steps here image (Ti.Vector x0 x1) = refl
   class-steps here image (Ti.Matrix x0 x1 x2) = refl

@@ -104,12 +104,12 @@ images = record {
       ∷ line (plain 4 3) (numbered 3)
       ∷ line (plain 4 4) (numbered 4)
       ∷ line (plain 4 5) (numbered 5)
-      -- 6 to 11: samples without gather; a storage image is newer
+      -- 6 to 11: samples without gather; of a storage image by its format, here Rgba32Sint
       ∷ line (marked 14 0 0) (vector 4 2 4)
       ∷ line (marked 14 1 0) (vector 4 1 4)
       ∷ line (marked 14 2 0) (scalar 2 4)
       ∷ line (marked 14 3 0) (vector 4 2 4)
-      ∷ line (marked 14 4 0) (refusal 22 10)
+      ∷ line (marked 14 4 0) (vector 4 0 4)
       ∷ line (marked 14 5 0) (refusal 16 5)
       -- 12 to 17: with gather; a storage image is Float
       ∷ line (marked 14 0 1) (vector 4 2 4)
@@ -121,7 +121,7 @@ images = record {
       -- 18 to 21: loads
       ∷ line (plain 15 1) (vector 4 1 4)
       ∷ line (plain 15 2) (scalar 2 4)
-      ∷ line (plain 15 4) (refusal 22 20)
+      ∷ line (plain 15 4) (vector 4 0 4)
       ∷ line (plain 15 5) (refusal 16 5)
       -- sizes, of a storage image too; levels, layers and samples
       ∷ line (marked 16 0 0) (vector 2 1 4)

@@ -53,7 +53,7 @@ intoBoth l r = record { operands = l ∷ r ∷ []; looks = type 0 ∷ type 1 ∷
 
 -- THE TABLE
 
--- a storage image is newer in a sample without gather alone, and in a load
+-- a sample without gather, and a load, come to the class too
 abbrev pub sampleReads : RowNumber → Bool → Reads
 sampleReads n true = into n
 sampleReads n false = intoClass n

@@ -6,7 +6,7 @@ use mathlib.Core.List.{List, [], _∷_, map}
 use mathlib.Core.Logic.{_⊎_, inl, inr}
 use types.Run.{OneOf}
 use denote.Enum.Declared.{tagOf}
-use Rattle.ir.specs.Numbers.{rowKindOf, typeKindOf, itemKindOf, relationalFunctionOf, imageQueryOf}
+use Rattle.ir.specs.Numbers.{rowKindOf, typeKindOf, itemKindOf, relationalFunctionOf, imageQueryOf, storageFormatOf}
 use Rattle.ir.specs.declared.RowKind.{RowKind}
 use Rattle.ir.specs.declared.RowKind.the-variants as Rk
 use Rattle.ir.proofs.RowKind as RowKind′
@@ -19,6 +19,9 @@ use Rattle.ir.proofs.ItemKind as ItemKind′
 use Rattle.ir.specs.declared.RelationalFunction.{RelationalFunction}
 use Rattle.ir.specs.declared.RelationalFunction.the-variants as Rf
 use Rattle.ir.proofs.RelationalFunction as RelationalFunction′
+use Rattle.ir.specs.declared.StorageFormat.{StorageFormat}
+use Rattle.ir.specs.declared.StorageFormat.the-variants as Sf
+use Rattle.ir.proofs.StorageFormat as StorageFormat′
 use Rattle.ir.specs.declared.ImageQuery.{ImageQuery}
 use Rattle.ir.specs.declared.ImageQuery.the-variants as Iq
 use Rattle.ir.proofs.ImageQuery as ImageQuery′
@@ -138,3 +141,50 @@ imageQuery-tag Iq.NumSamples = refl
 pub of-image-queries : {B : Type 0} (f : ImageQuery → B) {b : B} (ks : List ℕ)
     → map (λ (k : ℕ). f (imageQueryOf k)) ks ≡ map (λ (k : ℕ). b) ks → (a : ImageQuery) → OneOf ks (tagOf ImageQuery′.the-type a) → b ≡ f a
 of-image-queries f ks e a h = of-keys (λ (k : ℕ). f (imageQueryOf k)) ks e (tagOf ImageQuery′.the-type a) h ∙ ap f (imageQuery-tag a)
+
+format-tag : (a : StorageFormat) → storageFormatOf (tagOf StorageFormat′.the-type a) ≡ a
+format-tag Sf.R8Unorm = refl
+format-tag Sf.R8Snorm = refl
+format-tag Sf.R8Uint = refl
+format-tag Sf.R8Sint = refl
+format-tag Sf.R16Uint = refl
+format-tag Sf.R16Sint = refl
+format-tag Sf.R16Float = refl
+format-tag Sf.Rg8Unorm = refl
+format-tag Sf.Rg8Snorm = refl
+format-tag Sf.Rg8Uint = refl
+format-tag Sf.Rg8Sint = refl
+format-tag Sf.R32Uint = refl
+format-tag Sf.R32Sint = refl
+format-tag Sf.R32Float = refl
+format-tag Sf.Rg16Uint = refl
+format-tag Sf.Rg16Sint = refl
+format-tag Sf.Rg16Float = refl
+format-tag Sf.Rgba8Unorm = refl
+format-tag Sf.Rgba8Snorm = refl
+format-tag Sf.Rgba8Uint = refl
+format-tag Sf.Rgba8Sint = refl
+format-tag Sf.Bgra8Unorm = refl
+format-tag Sf.Rgb10a2Uint = refl
+format-tag Sf.Rgb10a2Unorm = refl
+format-tag Sf.Rg11b10Ufloat = refl
+format-tag Sf.R64Uint = refl
+format-tag Sf.Rg32Uint = refl
+format-tag Sf.Rg32Sint = refl
+format-tag Sf.Rg32Float = refl
+format-tag Sf.Rgba16Uint = refl
+format-tag Sf.Rgba16Sint = refl
+format-tag Sf.Rgba16Float = refl
+format-tag Sf.Rgba32Uint = refl
+format-tag Sf.Rgba32Sint = refl
+format-tag Sf.Rgba32Float = refl
+format-tag Sf.R16Unorm = refl
+format-tag Sf.R16Snorm = refl
+format-tag Sf.Rg16Unorm = refl
+format-tag Sf.Rg16Snorm = refl
+format-tag Sf.Rgba16Unorm = refl
+format-tag Sf.Rgba16Snorm = refl
+
+pub of-formats : {B : Type 0} (f : StorageFormat → B) {b : B} (ks : List ℕ)
+    → map (λ (k : ℕ). f (storageFormatOf k)) ks ≡ map (λ (k : ℕ). b) ks → (a : StorageFormat) → OneOf ks (tagOf StorageFormat′.the-type a) → b ≡ f a
+of-formats f ks e a h = of-keys (λ (k : ℕ). f (storageFormatOf k)) ks e (tagOf StorageFormat′.the-type a) h ∙ ap f (format-tag a)

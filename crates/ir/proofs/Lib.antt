@@ -2,3 +2,4 @@ pub mod Tables
 pub mod Numbered
 pub mod Others
 pub mod Keys
+pub mod Formats

@@ -2,3 +2,4 @@ pub mod Numbers
 pub mod Scalars
 pub mod TypeMethods
 pub mod ForProofs
+pub mod Formats

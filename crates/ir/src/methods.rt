@@ -4,10 +4,12 @@ use super::OptionScalar;
 use super::OptionTypeResolution;
 use super::OptionVectorSize;
 use super::Scalar;
+use super::StorageFormat;
 use super::TypeInner;
 use super::TypeResolution;
 ghost use mathlib.Core.Path.{_≡_};
 ghost use Rattle.ir.specs.Scalars.{equalScalars};
+ghost use Rattle.ir.specs.Formats.{storageScalar};
 ghost use Rattle.ir.specs.TypeMethods.{scalarIn, valueBase, pointerBase};
 ghost use Rattle.ir.specs.ForProofs.{pointerSpace};
 
@@ -83,6 +85,37 @@ impl TypeInner {
                 space: _,
             } => OptionTypeResolution::Some(TypeResolution::Value(value_base(size, scalar))),
             _ => OptionTypeResolution::None,
+        }
+    }
+}
+
+impl StorageFormat {
+    // The scalar of its texels: the source's Scalar::from(StorageFormat).
+    pub fn scalar(self) -> Scalar
+        ensures { λ r. ⌜ r ≡ storageScalar self ⌝ }
+    {
+        match self {
+            StorageFormat::R8Uint
+            | StorageFormat::R16Uint
+            | StorageFormat::Rg8Uint
+            | StorageFormat::R32Uint
+            | StorageFormat::Rg16Uint
+            | StorageFormat::Rgba8Uint
+            | StorageFormat::Rgb10a2Uint
+            | StorageFormat::Rg32Uint
+            | StorageFormat::Rgba16Uint
+            | StorageFormat::Rgba32Uint => Scalar::U32,
+            StorageFormat::R8Sint
+            | StorageFormat::R16Sint
+            | StorageFormat::Rg8Sint
+            | StorageFormat::R32Sint
+            | StorageFormat::Rg16Sint
+            | StorageFormat::Rgba8Sint
+            | StorageFormat::Rg32Sint
+            | StorageFormat::Rgba16Sint
+            | StorageFormat::Rgba32Sint => Scalar::I32,
+            StorageFormat::R64Uint => Scalar::U64,
+            _ => Scalar::F32,
         }
     }
 }

@@ -29,6 +29,7 @@ use Rattle.ir.specs.declared.OptionBytes.{OptionBytes}
 use Rattle.ir.specs.declared.TypeInner.{TypeInner}
 use Rattle.ir.specs.declared.TypeInner.the-variants as Ti
 use Rattle.ir.specs.Scalars.{U32, F32, BOOL, equalScalars}
+use Rattle.ir.specs.Formats.{storageScalar}
 use Rattle.answers.specs.declared.Refusal.{Refusal}
 use Rattle.archive.specs.declared.Starts.{Starts}
 use Rattle.archive.specs.Names.{isType, resultNames}
@@ -188,11 +189,11 @@ module _ (s : Starts) where
   pub gathered-of : (image : RowNumber) (t : TypeInner) → In (gatheredOf image t)
   gathered-of image t = by-image In t (λ d c. vector-in Vs.Quad (gatheredScalar c)) (no-type _)
 
-  pub sampled-of : (image : RowNumber) (c : ImageClass) → In (sampledOf image c)
-  sampled-of image (Ic.Depth m) = scalar-in F32
-  sampled-of image (Ic.Sampled k m) = vector-in Vs.Quad (sampledScalar k)
-  sampled-of image Ic.External = vector-in Vs.Quad F32
-  sampled-of image (Ic.Storage f a) = no-type _
+  pub sampled-of : (c : ImageClass) → In (given (value (sampledOf c)))
+  sampled-of (Ic.Depth m) = scalar-in F32
+  sampled-of (Ic.Sampled k m) = vector-in Vs.Quad (sampledScalar k)
+  sampled-of (Ic.Storage f a) = vector-in Vs.Quad (storageScalar f)
+  sampled-of Ic.External = vector-in Vs.Quad F32
 
   pub size-of : (d : ImageDimension) → In (given (value (sizeOf d)))
   size-of Id.D1 = scalar-in U32

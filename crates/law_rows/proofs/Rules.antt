@@ -79,7 +79,7 @@ module _ (fr : List ℕ) (good : Good fr) (here : RowNumber) where
   sampled-keeps : (n : RowNumber) → n .0 < here .0 → Keeps (sampled here n)
   sampled-keeps n l =
       operand-keeps n _ l (λ a i. look-keeps a _ i (λ x j.
-      by-image Keeps (x .inner) (λ d c. comes (row here) (texels c) (omega arith) tt (λ y q. ends (sampled-of (startsOf fr) n y))) (ends (refusal-number _))))
+      by-image Keeps (x .inner) (λ d c. comes (row here) (texels c) (omega arith) tt (λ y q. ends (sampled-of (startsOf fr) y))) (ends (refusal-number _))))
 
   sample-keeps : (n : RowNumber) (g : Bool) → n .0 < here .0 → Keeps (imageSample here n g)
   sample-keeps n true l = type-keeps n _ l (gathered-of (startsOf fr) n)

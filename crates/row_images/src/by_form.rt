@@ -11,7 +11,7 @@ use row_operands::values::scalar_type;
 use row_operands::values::vector_type;
 ghost use mathlib.Core.Path.{_≡_};
 ghost use Rattle.rule.specs.Answers.{value, given, told};
-ghost use Rattle.rule_rows.specs.Images.{gatheredScalar, gatheredOf, sizeOf, imageSizeOf};
+ghost use Rattle.rule_rows.specs.Images.{gatheredScalar, gatheredOf, sampledOf, sizeOf, imageSizeOf};
 ghost use Rattle.rule_rows.specs.Answered.{toResult};
 ghost use Rattle.rule_rows.specs.ForProofs.{sampledIn};
 
@@ -43,27 +43,30 @@ pub fn gathered_of(image: RowNumber, t: TypeInner) -> Answer
     }
 }
 
-// By the image's class; a storage image is newer.
-pub fn sampled_from(here: RowNumber, image: RowNumber, t: TypeInner) -> Answer
-    ensures { λ r. ⌜ toResult r ≡ sampledIn here image t ⌝ }
+// By the image's class.
+fn sampled_class(class: ImageClass) -> Answer
+    ensures { λ r. ⌜ toResult r ≡ told (given (value (sampledOf class))) ⌝ }
+{
+    match class {
+        ImageClass::Depth { multi: _ } => scalar_type(Scalar::F32),
+        ImageClass::Sampled { kind, multi: _ } => vector_type(
+            VectorSize::Quad,
+            Scalar { kind, width: 4 },
+        ),
+        ImageClass::Storage { format, access: _ } => vector_type(VectorSize::Quad, format.scalar()),
+        ImageClass::External => vector_type(VectorSize::Quad, Scalar::F32),
+    }
+}
+
+pub fn sampled_from(image: RowNumber, t: TypeInner) -> Answer
+    ensures { λ r. ⌜ toResult r ≡ told (sampledIn image t) ⌝ }
 {
     match t {
         TypeInner::Image {
             dim: _,
             arrayed: _,
             class,
-        } => match class {
-            ImageClass::Sampled { kind, multi: _ } => vector_type(
-                VectorSize::Quad,
-                Scalar { kind, width: 4 },
-            ),
-            ImageClass::Depth { multi: _ } => scalar_type(Scalar::F32),
-            ImageClass::External => vector_type(VectorSize::Quad, Scalar::F32),
-            ImageClass::Storage {
-                format: _,
-                access: _,
-            } => Answer::Newer { row: here },
-        },
+        } => sampled_class(class),
         _ => invalid_image(image),
     }
 }

@@ -47,7 +47,7 @@ pub fn sampled(
         ≡ ruled (now (frames .entry)) s (now (answers .entry)) (now (places .entry)) (sampled here image) ⌝ }
 {
     match look_into(frames, s, answers, places, here, image) {
-        Looked::Seen(inner) => sampled_from(here, image, inner),
+        Looked::Seen(inner) => sampled_from(image, inner),
         Looked::Ended(end) => ended(end),
     }
 }

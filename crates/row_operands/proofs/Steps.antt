@@ -10,7 +10,6 @@ use denote.Enum.Declared.{tagOf}
 use Rattle.ir.specs.declared.TypeNumber.{TypeNumber}
 use Rattle.ir.specs.declared.RowNumber.{RowNumber}
 use Rattle.ir.specs.declared.AddressSpace.{AddressSpace}
-use Rattle.ir.specs.declared.ImageClass.the-variants as Ic
 use Rattle.ir.specs.declared.TypeInner.{TypeInner}
 use Rattle.ir.specs.declared.TypeInner.the-variants as Ti
 use Rattle.ir.proofs.TypeInner as TypeInner′
@@ -115,12 +114,9 @@ module _ (fr : List ℕ) (s : Starts) (an pl : List ℕ) where
 
       -- OF AN IMAGE its class is come to
 
-      class-run : (t : TypeInner) → ran (sampledFrom here n t) ≡ sampledIn here n t
+      class-run : (t : TypeInner) → ran (sampledFrom here n t) ≡ told (sampledIn n t)
       unfolding ruled
-      class-run (Ti.Image d a (Ic.Sampled k m)) = refl
-      class-run (Ti.Image d a (Ic.Depth m)) = refl
-      class-run (Ti.Image d a Ic.External) = refl
-      class-run (Ti.Image d a (Ic.Storage f m)) = refl
+      class-run (Ti.Image d a c) = refl
       class-run (Ti.Scalar x0) = refl
       class-run (Ti.Vector x0 x1) = refl
       class-run (Ti.Matrix x0 x1 x2) = refl
@@ -135,7 +131,7 @@ module _ (fr : List ℕ) (s : Starts) (an pl : List ℕ) where
       class-run (Ti.RayQuery x0) = refl
       class-run (Ti.BindingArray x0 x1) = refl
 
-      pub sampled-seen : {i : TypeInner} → lookedIn fr s an pl here n ≡ Lo.Seen i → sampledIn here n i ≡ ran (sampled here n)
+      pub sampled-seen : {i : TypeInner} → lookedIn fr s an pl here n ≡ Lo.Seen i → told (sampledIn n i) ≡ ran (sampled here n)
       sampled-seen {i} q = sym (look-run n _ ∙ ap (λ (l : Looked). onLooked l (λ j. ran (sampledFrom here n j))) q ∙ class-run i)
 
       pub sampled-ended : {u : Unresolved} → lookedIn fr s an pl here n ≡ Lo.Ended u → endedBy u ≡ ran (sampled here n)

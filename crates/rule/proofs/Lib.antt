@@ -5,3 +5,4 @@ pub mod LaterIs
 pub mod Named
 pub mod Shows
 pub mod Wider
+pub mod Carried

@@ -1,5 +1,5 @@
--- What `see` shows nothing of, by the bytes of a file: exactly a type of unknown kind, a row of unknown kind, row kind 22, and the class of a
--- storage image. By the cases of what a frame reads as. Assumes nothing.
+-- What `see` shows nothing of, by the bytes of a file: exactly a type of unknown kind, a row of unknown kind and row kind 22; and how `firstSee`
+-- parts from it, at the class of a storage image. By the cases of what a frame reads as. Assumes nothing.
 use Prim.Native.Nat.{ℕ, _+_, _≤_, _<_}
 use native.Mathlib.Decide.{decLt}
 use native.Mathlib.Omega.{arith}
@@ -39,7 +39,7 @@ use Rattle.archive.specs.Access.{typeIn, typeAt, rowIn}
 use Rattle.archive.specs.ForProofs.{rowAt}
 use Rattle.rule.specs.declared.Fault.{Fault}
 use Rattle.rule.specs.declared.Fault.the-variants as Fa
-use Rattle.rule.specs.Things.{shown, kind, form, texels, inRange, valueFault, faultOf, soundForm, seeForm, see}
+use Rattle.rule.specs.Things.{Thing, Seen, firstSee, structNumber, fault, shown, kind, form, texels, inRange, valueFault, faultOf, soundForm, seeForm, see}
 
 never : {X : Type 0} → _≡_ {A = ℕ} 0 1 → X
 never z = absurd (omega arith)
@@ -211,16 +211,24 @@ module _ (fr : List ℕ) where
       back f (inl h) = inl (unknown-row-frame f .1 h)
       back f (inr h) = inr (math-frame f .1 h)
 
-  -- IMAGES: of the classes a storage image alone shows nothing
+  -- IMAGES: every class shows itself
 
-  pub sampled-shows : (k : _) (m : _) → see fr (texels (Ic.Sampled k m)) ≡ some (Ic.Sampled k m)
-  sampled-shows k m = refl
+  pub texels-shown : (c : ImageClass) → see fr (texels c) ≡ some c
+  texels-shown c = refl
 
-  pub depth-shows : (m : _) → see fr (texels (Ic.Depth m)) ≡ some (Ic.Depth m)
-  depth-shows m = refl
+  -- THE FIRST RULES
 
-  pub external-shows : see fr (texels Ic.External) ≡ some Ic.External
-  external-shows = refl
+  -- the class of a storage image shows nothing
+  pub first-storage : (f : StorageFormat) (a : StorageAccess) → firstSee fr (texels (Ic.Storage f a)) ≡ none
+  first-storage f a = refl
 
-  pub storage-newer : (f : StorageFormat) (a : StorageAccess) → see fr (texels (Ic.Storage f a)) ≡ none
-  storage-newer f a = refl
+  -- what `firstSee` shows, `see` shows alike
+  pub sees-more : (c : Thing) (s : Seen c) → firstSee fr c ≡ some s → see fr c ≡ some s
+  sees-more (kind n) s e = e
+  sees-more (form a) s e = e
+  sees-more (texels (Ic.Sampled k m)) s e = e
+  sees-more (texels (Ic.Depth m)) s e = e
+  sees-more (texels Ic.External) s e = e
+  sees-more (texels (Ic.Storage f a)) s e = never (cc)
+  sees-more (structNumber a) s e = e
+  sees-more (fault a) s e = e

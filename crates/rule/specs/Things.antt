@@ -1,5 +1,5 @@
 -- What a reading comes to, and what each thing shows in a file (document 01, "A row's type"). Newer are exactly a row of unknown kind, a Math
--- row, a type of unknown kind, and a storage image in a sample without gather or a load.
+-- row and a type of unknown kind (document 02, request 1).
 use Prim.Native.Nat.{ℕ, zero, suc, _+_, _-_}
 use mathlib.Core.Bool.{Bool, true, false, cond, not}
 use mathlib.Core.List.{List, [], _∷_, _++_}
@@ -272,11 +272,12 @@ abbrev pub seeRow : List ℕ → Starts → RowForm → Option Shown
 seeRow fr s (Ro.Known e) = shown fr s e
 seeRow fr s Ro.Unknown = none
 
-abbrev seeTexels : ImageClass → Option ImageClass
-seeTexels (Ic.Sampled k m) = some (Ic.Sampled k m)
-seeTexels (Ic.Depth m) = some (Ic.Depth m)
-seeTexels Ic.External = some Ic.External
-seeTexels (Ic.Storage f a) = none
+-- an image's class by document 01's first rules: a storage image shows nothing
+abbrev firstTexels : ImageClass → Option ImageClass
+firstTexels (Ic.Sampled k m) = some (Ic.Sampled k m)
+firstTexels (Ic.Depth m) = some (Ic.Depth m)
+firstTexels Ic.External = some Ic.External
+firstTexels (Ic.Storage f a) = none
 
 abbrev pub isStructInner : TypeInner → Bool
 isStructInner (Ti.Scalar k) = false
@@ -304,14 +305,23 @@ isStruct fr s (number n) = isStructForm (typeIn fr s n)
 isStruct fr s (value t) = false
 isStruct fr s (malformed f) = false
 
--- what each thing shows, over frames and where their families begin
+-- what each thing shows, over frames and where their families begin; an image's class always shows itself
 abbrev pub seeIn : List ℕ → Starts → Sight
 seeIn fr s (kind n) = seeRow fr s (rowIn fr s n)
 seeIn fr s (form a) = seeForm fr s (formIn fr s a)
-seeIn fr s (texels c) = seeTexels c
+seeIn fr s (texels c) = some c
 seeIn fr s (structNumber a) = some (isStruct fr s a)
 seeIn fr s (fault a) = some (faultOf s a)
 
 -- what each thing shows in a file, whose frames these are
 abbrev pub see : List ℕ → Sight
 see fr = seeIn fr (startsOf fr)
+
+-- what each thing showed by document 01's first rules, in which a storage image sampled without gather, or loaded, was newer: the same otherwise
+-- (document 02, requests 1 and 8)
+abbrev pub firstSee : List ℕ → Sight
+firstSee fr (kind n) = see fr (kind n)
+firstSee fr (form a) = see fr (form a)
+firstSee fr (texels c) = firstTexels c
+firstSee fr (structNumber a) = see fr (structNumber a)
+firstSee fr (fault a) = see fr (fault a)

@@ -1,3 +1,4 @@
 pub mod Loads
 pub mod Members
+pub mod Storage
 pub mod Written

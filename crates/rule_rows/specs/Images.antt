@@ -1,5 +1,4 @@
--- ImageSample, ImageLoad and ImageQuery, in the source's order (document 01, "A row's type"). Refusal: 16. A storage image in a sample without
--- gather, or in a load, is newer.
+-- ImageSample, ImageLoad and ImageQuery, in the source's order (document 01, "A row's type"; document 02, request 1). Refusal: 16.
 use mathlib.Core.Bool.{Bool, true, false}
 use Rattle.ir.specs.declared.RowNumber.{RowNumber}
 use Rattle.ir.specs.declared.VectorSize.the-variants as Vs
@@ -14,6 +13,7 @@ use Rattle.ir.specs.declared.ImageQuery.the-variants as Iq
 use Rattle.ir.specs.declared.TypeInner.{TypeInner}
 use Rattle.ir.specs.declared.TypeInner.the-variants as Ti
 use Rattle.ir.specs.Scalars.{U32, F32}
+use Rattle.ir.specs.Formats.{storageScalar}
 use Rattle.answers.specs.declared.Refusal.the-variants.{InvalidImage}
 use Rattle.rule.specs.Answers.{value, Typed, given, refused, row}
 use Rattle.rule.specs.Things.{texels}
@@ -44,16 +44,17 @@ gathered here image = byType here image (gatheredOf image)
 
 -- IMAGESAMPLE without gather, and IMAGELOAD. WGSL: "Texture Built-in Functions", textureSample and textureLoad.
 
--- by the class: a scalar of a depth image, else four components. No reading comes to the last line: a storage image shows nothing.
-abbrev pub sampledOf : RowNumber → ImageClass → Typed
-sampledOf image (Ic.Depth m) = given (value (Ti.Scalar F32))
-sampledOf image (Ic.Sampled k m) = given (value (Ti.Vector Vs.Quad (sampledScalar k)))
-sampledOf image Ic.External = given (value (Ti.Vector Vs.Quad F32))
-sampledOf image (Ic.Storage f a) = refused (InvalidImage image)
+-- by the class: a scalar of a depth image, else four components; of a storage image those of its format's scalar
+abbrev pub sampledOf : ImageClass → TypeInner
+sampledOf (Ic.Depth m) = Ti.Scalar F32
+sampledOf (Ic.Sampled k m) = Ti.Vector Vs.Quad (sampledScalar k)
+sampledOf (Ic.Storage f a) = Ti.Vector Vs.Quad (storageScalar f)
+sampledOf Ic.External = Ti.Vector Vs.Quad F32
 
 -- the class is come to once the type is seen to be an Image; every other type is number 16
 abbrev pub sampledFrom : RowNumber → RowNumber → TypeInner → Rule Typed
-sampledFrom here image t = ifImage t (λ d c. come (row here) (texels c) (λ s. done (sampledOf image s))) (done (refused (InvalidImage image)))
+sampledFrom here image t =
+    ifImage t (λ d c. come (row here) (texels c) (λ s. done (given (value (sampledOf s))))) (done (refused (InvalidImage image)))
 
 -- reads the image, looks into its type and, of an Image, comes to its class
 abbrev pub sampled : RowNumber → RowNumber → Rule Typed

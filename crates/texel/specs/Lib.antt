@@ -1,0 +1,2 @@
+pub mod Texel
+pub mod Exported
