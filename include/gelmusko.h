@@ -115,9 +115,9 @@ uint32_t gelmusko_pointer_base(const uint8_t *text, size_t text_len, uint8_t *fr
                                uint32_t n, uint8_t *out, size_t out_len);
 
 /* The R16Unorm texel of a density in hundredths of a per cent, 0 to 10,000: density times 65,535 divided by 10,000,
- * rounded to the nearest whole number, halves going up. Returns 0, and the first two bytes of out are the texel, low
- * byte first; or 3 where out has fewer than 2 bytes, else 40 where the density is over 10,000, and no byte of out is
- * changed. */
+ * rounded to the nearest whole number, a half to the even one. Returns 0, and the first two bytes of out are the
+ * texel, low byte first; or 3 where out has fewer than 2 bytes, else 40 where the density is over 10,000, and no
+ * byte of out is changed. */
 uint32_t gelmusko_texel(uint32_t density, uint8_t *out, size_t out_len);
 
 #ifdef __cplusplus

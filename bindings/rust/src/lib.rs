@@ -467,7 +467,7 @@ pub fn pointer_base(text: &[u8], frames: &mut [u8], n: u32) -> PointerBase {
     }
 }
 
-/// The R16Unorm texel of a density in hundredths of a per cent, 0 to 10,000: the nearest to as large a part of 65,535, of two that are equally near the greater.
+/// The R16Unorm texel of a density in hundredths of a per cent, 0 to 10,000: the nearest to as large a part of 65,535, of two that are equally near the even one.
 pub fn texel(density: u32) -> Texel {
     let mut out = [0; 2];
     match unsafe { ffi::gelmusko_texel(density, out.as_mut_ptr(), 2) } {

@@ -1,13 +1,15 @@
--- What holds of the texel of a density. Of a half the laws but `tie-up` know only that it goes to one of its two neighbours (`tied-near`), so that 10,000 times the texel is at
+-- What holds of the texel of a density. Of a half the laws but `tie-even` and those on what moved know only that it goes to one of its two neighbours (`tied-near`), so that 10,000 times the texel is at
 -- most 5,000 away from d times 65,535 (`close`); from that alone follow the nearest texel, the range, the order and the ends. Assumes nothing.
 use Prim.Native.Nat.{ℕ, _+_, _*_, _-_, _/_, _%_, _≤_, _<_}
 use native.Mathlib.Decide.{decLt, decLe}
 use native.Mathlib.Omega.{arith}
 use mathlib.Core.Path.{_≡_, refl, sym, ap, _∙_}
-use mathlib.Core.Bool.{Bool, true, false, cond}
+use mathlib.Core.Bool.{Bool, true, false, cond, _||_}
 use mathlib.Core.Logic.{_↔_}
-use lib.Dec.{ltb, leb}
-use borrow.Author.Tests.{lt-ltb, le-ltb, le-leb, lt-leb}
+use lib.Dec.{ltb, leb, eqb}
+use borrow.Author.Tests.{lt-ltb, le-ltb, le-leb, lt-leb, eqb-true}
+use Rattle.scan.specs.Lowest.{allBelow}
+use Rattle.scan.proofs.Laws.{all-each}
 use Rattle.texel.specs.declared.Texel.{Texel}
 use Rattle.texel.specs.declared.Texel.the-variants.{Given, Range}
 use Rattle.texel.specs.Texel.{tied, rounded, texelOf}
@@ -125,17 +127,50 @@ greatest =
     let z : rounded 655350000 ≡ 65535 = omega (arith, close 655350000) in
     is-given 10000 (omega arith) ∙ ap Given z
 
--- HALVES, the one law that says where they go: of two texels that are equally near the greater is given
-pub tie-up : (d t n : ℕ) → texelOf d ≡ Given t → distance d n ≡ distance d t → n ≤ t
+-- HALVES, where they go: of two texels that are equally near the even one is given
+pub tie-even : (d t n : ℕ) → texelOf d ≡ Given t → distance d n ≡ distance d t → (n ≡ t → ⊥) → t % 2 ≡ 0
 unfolding tied
-tie-up d t n e h = go (decLt (d * 65535 % 10000 * 2) 10000) (decLt 10000 (d * 65535 % 10000 * 2))
+tie-even d t n e h other = go (decLt (d * 65535 % 10000 * 2) 10000) (decLt 10000 (d * 65535 % 10000 * 2))
   where
     r : t ≡ rounded (d * 65535)
     r = given-when d t .0 e .1
 
-    go : Dec (d * 65535 % 10000 * 2 < 10000) → Dec (10000 < d * 65535 % 10000 * 2) → n ≤ t
-    go (yes b) a = omega (arith, r, below-half (d * 65535) b)
-    go (no b) (yes a) = omega (arith, r, above-half (d * 65535) a)
+    go : Dec (d * 65535 % 10000 * 2 < 10000) → Dec (10000 < d * 65535 % 10000 * 2) → t % 2 ≡ 0
+    go (yes b) a = absurd (other (omega (arith, r, below-half (d * 65535) b)))
+    go (no b) (yes a) = absurd (other (omega (arith, r, above-half (d * 65535) a)))
     go (no b) (no a) =
         let m : d * 65535 % 10000 * 2 ≡ 10000 = omega arith in
         omega (arith, r, at-half (d * 65535) m)
+
+-- WHAT MOVED when halves stopped going up: the texels of 3,000 and 7,000, each by one, and no other
+
+-- the texel with halves going up (document 02, request 1): a half more, rounded down
+abbrev pub upTexel : ℕ → ℕ
+upTexel d = (d * 65535 + 5000) / 10000
+
+-- the texel is the one with halves going up, or the density is one of the two: computed, over all 10,001
+abbrev sameOr : ℕ → Bool
+sameOr d = eqb d 3000 || (eqb d 7000 || eqb (rounded (d * 65535)) (upTexel d))
+
+all-same : allBelow sameOr 10001 ≡ true
+unfolding allBelow rounded tied
+all-same = refl
+
+pub stayed : (d t : ℕ) → texelOf d ≡ Given t → (d ≡ 3000 → ⊥) → (d ≡ 7000 → ⊥) → t ≡ upTexel d
+stayed d t e three seven =
+    let g = given-when d t .0 e in
+    g .1 ∙ eqb-true (rounded (d * 65535)) (upTexel d) (go (eqb d 3000) (eqb d 7000) refl refl (all-each sameOr 10001 d all-same (omega (arith, g .0))))
+  where
+    go : (a b : Bool) → eqb d 3000 ≡ a → eqb d 7000 ≡ b → (a || (b || eqb (rounded (d * 65535)) (upTexel d))) ≡ true
+        → eqb (rounded (d * 65535)) (upTexel d) ≡ true
+    go true b p q h = absurd (three (eqb-true d 3000 p))
+    go false true p q h = absurd (seven (eqb-true d 7000 q))
+    go false false p q h = h
+
+pub three-thousand : (texelOf 3000 ≡ Given 19660) × (upTexel 3000 ≡ 19661)
+unfolding texelOf rounded tied
+three-thousand = (refl, refl)
+
+pub seven-thousand : (texelOf 7000 ≡ Given 45874) × (upTexel 7000 ≡ 45875)
+unfolding texelOf rounded tied
+seven-thousand = (refl, refl)

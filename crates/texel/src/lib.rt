@@ -1,4 +1,4 @@
-// The texel of a density (document 02, request 1): hundredths of a per cent, 0 to 10,000, as an R16Unorm texel.
+// The texel of a density (document 02, requests 1 and 11): hundredths of a per cent, 0 to 10,000, as an R16Unorm texel.
 ghost use mathlib.Core.Path.{_≡_};
 ghost use mathlib.Core.Bool.{cond};
 ghost use Prim.Native.Nat.{_*_, _≤_};
@@ -13,12 +13,12 @@ pub enum Texel {
     Range,
 }
 
-// Which of q and q + 1 is given where both are equally near.
+// Which of q and q + 1 is given where both are equally near: the even one.
 fn tied_at(q: u32) -> u32
     requires { ⌜ q ≤ 65535 ⌝ }
     ensures { λ r. ⌜ r ≡ tied q ⌝ }
 {
-    q + 1
+    q + q % 2
 }
 
 // A 10,000th of n, as the nearest whole number.
