@@ -116,14 +116,22 @@ pub mod reading {
         }
     }
 
+    fn is_width(b: u8) -> bool {
+        matches!(b, 1 | 2 | 4 | 8)
+    }
+
+    fn is_scalar(f: &Frame) -> bool {
+        f[4] < 6 && is_width(f[5])
+    }
+
     fn type_fits(f: &Frame) -> bool {
         match f[1] {
-            1 | 5 => f[4] < 6 && f[2] == 0 && f[3] == 0 && zero(f, 6),
-            2 => is_size(f[2]) && f[4] < 6 && f[3] == 0 && zero(f, 6),
-            3 => is_size(f[2]) && is_size(f[3]) && f[4] < 6 && zero(f, 6),
-            4 => is_wide(f[2]) && is_wide(f[3]) && f[4] < 6 && f[6] < 3 && zero(f, 7),
+            1 | 5 => is_scalar(f) && f[2] == 0 && f[3] == 0 && zero(f, 6),
+            2 => is_size(f[2]) && is_scalar(f) && f[3] == 0 && zero(f, 6),
+            3 => is_size(f[2]) && is_size(f[3]) && is_scalar(f) && zero(f, 6),
+            4 => is_wide(f[2]) && is_wide(f[3]) && is_scalar(f) && f[6] < 3 && zero(f, 7),
             6 => is_space(f) && f[4] == 0 && f[5] == 0 && zero(f, 8),
-            7 => (f[2] == 0 || is_size(f[2])) && f[4] < 6 && is_space(f) && f[3] == 0 && zero(f, 8),
+            7 => (f[2] == 0 || is_size(f[2])) && is_scalar(f) && is_space(f) && f[3] == 0 && zero(f, 8),
             8 => is_array(f),
             9 => f[6] == 0 && f[7] == 0 && word(f, 8) == 0,
             10 => (1..5).contains(&f[2]) && f[3] < 2 && is_class(f) && zero(f, 8),
@@ -152,7 +160,7 @@ pub mod reading {
             16 => f[6] < 4 && (f[6] == 0 || half(f, 2) == 0) && half(f, 4) == 0 && zero(f, 7),
             18 => f[6] < 18 && zero(f, 7),
             21 => f[6] < 4 && (f[6] >= 2 || half(f, 2) == 0) && half(f, 4) == 0 && zero(f, 7),
-            23 => f[6] < 6 && f[7] < 2 && (f[7] == 1 || f[8] == 0) && half(f, 4) == 0 && zero(f, 9),
+            23 => f[6] < 6 && f[7] < 2 && (if f[7] == 1 { is_width(f[8]) } else { f[8] == 0 }) && half(f, 4) == 0 && zero(f, 9),
             27..=31 => zero(f, 2),
             33 => is_wide(f[6]) && is_wide(f[7]) && f[8] < 3 && half(f, 4) == 0 && zero(f, 9),
             0 | 22 | 35..=255 => true,

@@ -124,9 +124,9 @@ case('logical-exact', [t_scalar(BOOL), t_scalar((3, 4)), t_vector(2, BOOL), unkn
            refusal(22, 9), refusal(22, 10), scalar(BOOL)])
 case('as-matrix', [t_matrix(2, 3, (0, 4)), t_vector(3), t_scalar()],
      rows=[zero(0), over(23, 0, b6=2), over(23, 0, b6=3, b7=1, b8=1), zero(1), over(23, 3, b6=1), zero(2),
-           over(23, 5, b6=1, b7=1, b8=0), over(23, 5, b6=4, b7=1, b8=255)],
+           over(23, 5, b6=1, b7=1, b8=2), over(23, 5, b6=4, b7=1, b8=8)],
      says=[number(0), value_of(3, b2=2, b3=3, b4=0, b5=4), value_of(3, b2=2, b3=3, b4=0, b5=1), number(1), vector(3, (1, 4)),
-           number(2), scalar((1, 0)), scalar((4, 255))])
+           number(2), scalar((1, 2)), scalar((4, 8))])
 case('pass-unlooked', [unknown(), t_pointer(0), t_array(0, 2), t_pointer(2), t_pointer(1)],
      items=[local(0), put(3, 1, w2=0)][::-1],
      rows=[put(4, 2), zero(1), zero(2), access(2), zero(3), index(4, 9), load(5), zero(4), load(7), load(8), binary(1, 0, 0),
@@ -263,9 +263,32 @@ case('image-kinds', [put(1, 10, b2=2, b5=k, b6=m) for k in range(6) for m in (0,
 for dimension in 1, 2, 3, 4:
     case('storage-formats-dimension-%d' % dimension, [put(1, 10, b2=dimension, b3=f % 2, b4=3, b5=f, b7=f % 8) for f in range(41)],
          rows=[zero(n) for n in range(41)] + [over(kind, n, **more) for kind, more in ((15, {}), (14, {}), (14, dict(b6=1))) for n in range(41)])
-case('scalar-widths', [t_scalar((k, w)) for k in range(6) for w in (0, 1, 3, 255)] + [t_vector(2, (3, 255)), t_atomic((5, 0)), t_pointer(25)],
+# Widths (document 02, request 2): 1, 2, 4 and 8 in every kind that holds a scalar, and in As.
+
+WIDTHS, OTHER_WIDTHS = (1, 2, 4, 8), (0, 3, 5, 7, 16, 255)
+HOLDERS = [(1, {}), (2, dict(b2=3)), (3, dict(b2=3, b3=2)), (4, dict(b2=8, b3=16)), (5, {}), (7, dict(b2=2))]
+
+case('scalar-widths', [t_scalar((k, w)) for k in range(6) for w in WIDTHS] + [t_vector(2, (3, 8)), t_atomic((5, 1)), t_pointer(25)],
      rows=[zero(n) for n in range(27)] + [over(8, n, b6=2) for n in range(24)] + [binary(14, n, 0) for n in range(24)] +
      [access(24), over(23, 24, b6=2), load(26)])
+case('value-widths', [t for w in WIDTHS for t in (t_scalar((2, w)), t_vector(3, (2, w)), t_matrix(3, 2, (2, w)), t_atomic((1, w)))],
+     items=[local(n) for n in range(16)],
+     rows=[local_row(n) for n in range(16)] + [load(n) for n in range(16)] + [access(n) for n in range(32)] +
+     [index(n, 1) for n in range(32)] + [over(8, 16 + n, b6=2) for n in range(16)] + [over(9, 16 + n, b6=4) for n in range(16)] +
+     [binary(2, 18 + 4 * n, 17 + 4 * n) for n in range(4)] + [binary(7, 17 + 4 * n, 17) for n in range(4)] +
+     [over(23, 16 + n, b6=1) for n in range(16)] + [over(23, 16 + n, b6=0, b7=1, b8=w) for n in range(16) for w in WIDTHS])
+case('compare-widths', [t_scalar()], says=[],
+     pairs=[(value_of(k, b4=2, b5=w, **more), value_of(k, b4=2, b5=v, **more), 'yes' if w == v else 'no')
+            for k, more in HOLDERS for w in WIDTHS for v in WIDTHS] +
+     [pair for k, more in HOLDERS for w in OTHER_WIDTHS
+      for pair in ((value_of(k, b4=2, b5=w, **more), number(0), '!5'), (number(0), value_of(k, b4=2, b5=w, **more), '!5'))] +
+     [(value_of(1, b4=2, b5=3), number(1), '!5'), (number(1), value_of(1, b4=2, b5=3), '!6')])
+case('free-widths', [put(1, 200, b4=2, b5=3)], rows=[put(4, 22, b6=2, b7=1, b8=3), zero(0)], says=[refusal(22, 0), number(0)])
+for kind, more in HOLDERS:
+    for width in OTHER_WIDTHS:
+        refused('field-width-%d-in-kind-%d' % (width, kind), 5, 1, text_of([t_scalar(), put(1, kind, b4=2, b5=width, **more), zero(0)]))
+for width in OTHER_WIDTHS:
+    refused('field-as-width-%d' % width, 5, 1, text_of([literal(1), over(23, 0, b6=2, b7=1, b8=width)]))
 case('chain', [t_scalar()] + [t_array(n, 2) if n % 2 else t_struct(n // 2, 1) for n in range(40)] + [t_pointer(40)],
      [member(2 * n) for n in range(20)], items=[local(40)],
      rows=[local_row(0)] + [index(n, 0) for n in range(40)] + [load(40), zero(40)] + [index(42 + n, 0) for n in range(40)] +
@@ -320,9 +343,9 @@ case('differs-as-matrix', [t_matrix(2, 2)], rows=[zero(0), over(23, 0, b6=0, b7=
 case('differs-as-bits-bool', rows=[literal(9), over(23, 0, b6=1)])
 case('differs-as-bits-halves', [t_vector(2, F16)], rows=[zero(0), over(23, 0, b6=1)])
 case('differs-as-abstract', rows=[literal(1), over(23, 0, b6=4, b7=1, b8=8)])
-case('differs-as-width', rows=[literal(1), over(23, 0, b6=2, b7=1, b8=3)])
+case('differs-as-width', rows=[literal(1), over(23, 0, b6=2, b7=1, b8=1)])
 case('differs-named-result', [SAMPLER], rows=[put(4, kind) for kind in (25, 26, 32)])
-case('differs-width', [t_scalar((2, 3))], rows=[zero(0), over(8, 0, b6=2)])
+case('differs-width', [t_scalar((2, 1))], rows=[zero(0), over(8, 0, b6=2)])
 case('differs-not-carried', [t_vector(2)], rows=[zero(0), access(0), over(9, 0, b6=4)])
 
 

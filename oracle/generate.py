@@ -57,7 +57,7 @@ class Maker:
 
     def scalar(self):
         if self.often(0.05):
-            return self.random.randrange(6), self.random.randrange(256)
+            return self.random.randrange(6), self.random.choice(model.WIDTH)
         return self.random.choice(USUAL)
 
     def space(self):
@@ -275,7 +275,7 @@ class Maker:
         if kind == 21:
             return put(4, 21, w2=self.fit(1, 2), b6=r.randint(2, 3))
         if kind == 23:
-            width = dict(b7=1, b8=r.choice([1, 2, 4, 4, 8, 0, 255])) if self.often(0.6) else {}
+            width = dict(b7=1, b8=r.choice([1, 2, 4, 4, 8])) if self.often(0.6) else {}
             return put(4, 23, w2=self.fit(1, 2, 3), b6=r.choice([0, 1, 2, 3, 4, 5]), **width)
         if kind == 33:
             return put(4, 33, w2=self.fit(7, (6, 1), (6, 2), (6, 3), (6, 4)), b6=r.choice([8, 16]),
@@ -428,6 +428,8 @@ class Maker:
                 frame = model.scalar(self.scalar())
         else:
             frame = model.scalar(self.scalar())
+        if self.often(0.02):        # a width that no scalar has, mostly
+            frame = model.scalar((r.randrange(6), r.randrange(256)))
         if self.often(0.05):
             frame = bytearray(frame)
             frame[r.randrange(16)] = r.choice([0, 1, 2, 3, 9, r.randrange(256)])

@@ -1,13 +1,14 @@
-"""Document 01 written once more, over bytes: checks 1 to 6, rows, verdicts and comparison; and document 02's storage loads.
+"""Document 01 written once more, over bytes: checks 1 to 6, rows, verdicts and comparison; widths and storage loads as document 02, requests
+1 and 2.
 
 The generator uses it to know what it has made, and try.py holds it against the oracle. It was written from
 the documents, not from the source and not from this port.
 """
 
 ANY, ZERO, FLAG = range(256), (0,), (0, 1)
-KIND, SIZE, WIDE, ROLE, ACCESS = range(6), (2, 3, 4), (8, 16), range(3), range(8)
+KIND, SIZE, WIDE, ROLE, ACCESS, WIDTH = range(6), (2, 3, 4), (8, 16), range(3), range(8), (1, 2, 4, 8)
 NUMBER, LAST = {2: ANY, 3: ANY}, {at: ANY for at in range(12, 16)}
-SCALAR = {4: KIND, 5: ANY}
+SCALAR = {4: KIND, 5: WIDTH}
 
 LITERALS = [(2, 8), (2, 4), (2, 2), (1, 2), (0, 2), (1, 4), (0, 4), (1, 8), (0, 8), (3, 1), (4, 8), (5, 8)]
 BOOL, U32, F32 = (3, 1), (1, 4), (2, 4)
@@ -85,7 +86,7 @@ def row_fields(f):
     more = {
         1: {6: range(12)}, 5: {4: ANY, 5: ANY, **LAST}, 7: LAST, 8: {6: SIZE}, 9: {6: SIZE}, 10: LAST,
         14: {6: FLAG}, 16: {6: range(4)}, 18: {4: ANY, 5: ANY, 6: range(18)}, 21: {6: range(4)},
-        23: {6: KIND, 7: FLAG, 8: ANY if f[7] == 1 else ZERO}, 33: {6: WIDE, 7: WIDE, 8: ROLE},
+        23: {6: KIND, 7: FLAG, 8: WIDTH if f[7] == 1 else ZERO}, 33: {6: WIDE, 7: WIDE, 8: ROLE},
     }.get(kind, {})
     unread = kind in (1, 10, *range(27, 32)) or (kind == 16 and mode > 0) or (kind == 21 and mode < 2)
     return more if unread else {**NUMBER, **more}

@@ -250,8 +250,8 @@ def first(oracle):
         for old, now in zip(said.split(), asked.replace('!', '').split(), strict=True):
             frame = bytes.fromhex(old) if len(old) == 32 else bytes(2)
             newer = frame[0] in (10, 11) and frame[1] == 22
-            met['lines kept' if not newer else '22 as before' if old == now else '22 before, and another answer now'] += 1
-            if old != now and not newer:
+            met['comparisons with a width that is none' if old != now and now == '5' else 'lines kept' if not newer else '22 as before' if old == now else '22 before, and another answer now'] += 1
+            if old != now and not newer and now != '5':  # 5: a frame to compare has a width that is none (request 2)
                 wrong += 1
                 print(name, old, now)
     for words in sorted(met):

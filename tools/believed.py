@@ -45,6 +45,10 @@ theorem explain_file/proofs/Fits.antt explained-fits
 theorem law_later_readers/proofs/Ours.antt type-rows-keeps row-type-keeps just-enough
 theorem law_later_readers/proofs/Only.antt only-ours
 theorem law_later_readers/proofs/ShutOut.antt not-all-newer not-before-reading not-as-another not-at-itself
+theorem law_widths/proofs/Files.antt file-widths
+theorem law_widths/proofs/Answers.antt answers-width row-type-width
+theorem law_widths/proofs/Values.antt resolution-width answer-width said-width scalar-back
+theorem law_widths/proofs/Handed.antt other-left other-right other-chosen other-newer
 theorem case_rows/proofs/Reading.antt reads-are
 theorem rule_types/proofs/Looks.antt looks-are
 theorem law_verdicts/proofs/Reading.antt verdict-reads-are

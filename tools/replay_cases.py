@@ -289,13 +289,12 @@ accepted('example-of-the-document', [
 # ---- Number 5, types.
 accepted('scalar', [F32])
 accepted('scalar-every-kind', [ty(SCALAR, b4=k, b5=4) for k in range(6)])
-accepted('scalar-width-0-and-255', [ty(SCALAR, b4=5, b5=0), ty(SCALAR, b4=0, b5=255)])
 field('scalar-kind-6', 0, [ty(SCALAR, b4=6, b5=4)])
 field('scalar-kind-255', 0, [ty(SCALAR, b4=255, b5=4)])
 unused('scalar', [], F32, [2, 3, 6, 7, 8, 9, 10, 11, 12, 13, 14, 15])
 
 accepted('vector-every-size', [ty(VECTOR, b2=n, b4=FLOAT, b5=4) for n in (2, 3, 4)])
-accepted('vector-kind-5-width-255', [ty(VECTOR, b2=2, b4=5, b5=255)])
+accepted('vector-kind-5', [ty(VECTOR, b2=2, b4=5, b5=8)])
 field('vector-size-0', 0, [ty(VECTOR, b2=0, b4=FLOAT, b5=4)])
 field('vector-size-1', 0, [ty(VECTOR, b2=1, b4=FLOAT, b5=4)])
 field('vector-size-5', 0, [ty(VECTOR, b2=5, b4=FLOAT, b5=4)])
@@ -303,7 +302,7 @@ field('vector-kind-6', 0, [ty(VECTOR, b2=2, b4=6, b5=4)])
 unused('vector', [], VEC3, [3, 6, 7, 8, 9, 10, 11, 12, 13, 14, 15])
 
 accepted('matrix-every-size', [ty(MATRIX, b2=c, b3=r, b4=FLOAT, b5=4) for c in (2, 3, 4) for r in (2, 3, 4)])
-accepted('matrix-of-bool-width-9', [ty(MATRIX, b2=2, b3=2, b4=BOOL, b5=9)])
+accepted('matrix-of-bool', [ty(MATRIX, b2=2, b3=2, b4=BOOL, b5=1)])
 field('matrix-columns-1', 0, [ty(MATRIX, b2=1, b3=2, b4=FLOAT, b5=4)])
 field('matrix-columns-5', 0, [ty(MATRIX, b2=5, b3=2, b4=FLOAT, b5=4)])
 field('matrix-rows-1', 0, [ty(MATRIX, b2=2, b3=1, b4=FLOAT, b5=4)])
@@ -327,7 +326,7 @@ field('cooperative-role-3', 0, [ty(COOPERATIVE, b2=8, b3=8, b4=FLOAT, b5=4, b6=3
 unused('cooperative', [], COOP, [7, 8, 9, 10, 11, 12, 13, 14, 15])
 
 accepted('atomic', [ATOMIC_U32])
-accepted('atomic-kind-5-width-0', [ty(ATOMIC, b4=5, b5=0)])
+accepted('atomic-kind-5', [ty(ATOMIC, b4=5, b5=8)])
 field('atomic-kind-6', 0, [ty(ATOMIC, b4=6, b5=4)])
 unused('atomic', [], ATOMIC_U32, [2, 3, 6, 7, 8, 9, 10, 11, 12, 13, 14, 15])
 
@@ -343,7 +342,7 @@ unused('pointer', [F32], pointer(0, STORAGE, 3), [4, 5, 8, 9, 10, 11, 12, 13, 14
 
 accepted('value-pointer-every-size', [ty(VALUE_POINTER, b2=n, b4=FLOAT, b5=4) for n in (0, 2, 3, 4)])
 accepted('value-pointer-every-space', [ty(VALUE_POINTER, b4=UINT, b5=4, b6=s) for s in range(10)])
-accepted('value-pointer-storage-access-7', [ty(VALUE_POINTER, b4=5, b5=255, b6=STORAGE, b7=7)])
+accepted('value-pointer-storage-access-7', [ty(VALUE_POINTER, b4=5, b5=8, b6=STORAGE, b7=7)])
 field('value-pointer-size-1', 0, [ty(VALUE_POINTER, b2=1, b4=FLOAT, b5=4)])
 field('value-pointer-size-5', 0, [ty(VALUE_POINTER, b2=5, b4=FLOAT, b5=4)])
 field('value-pointer-kind-6', 0, [ty(VALUE_POINTER, b2=2, b4=6, b5=4)])
@@ -352,6 +351,21 @@ field('value-pointer-storage-access-8', 0, [ty(VALUE_POINTER, b2=2, b4=FLOAT, b5
 field('value-pointer-space-3-with-an-access', 0, [ty(VALUE_POINTER, b2=2, b4=FLOAT, b5=4, b6=3, b7=1)])
 field('value-pointer-space-5-with-an-access', 0, [ty(VALUE_POINTER, b2=2, b4=FLOAT, b5=4, b6=5, b7=7)])
 unused('value-pointer', [], ty(VALUE_POINTER, b2=2, b4=FLOAT, b5=4), [3, 8, 9, 10, 11, 12, 13, 14, 15])
+
+# ---- Number 5, widths (document 02, request 2): 1, 2, 4 and 8 in every kind that holds a scalar, of every scalar kind; no other.
+WIDTHS = (1, 2, 4, 8)
+OTHERS = (0, 3, 5, 7, 16, 255)
+for name, kind, fields in (
+        ('scalar', SCALAR, {}), ('vector', VECTOR, dict(b2=3)), ('matrix', MATRIX, dict(b2=3, b3=2)),
+        ('cooperative', COOPERATIVE, dict(b2=8, b3=16, b6=1)), ('atomic', ATOMIC, {}),
+        ('value-pointer', VALUE_POINTER, dict(b2=2, b6=STORAGE, b7=3))):
+    accepted(name + '-every-width', [ty(kind, b4=k, b5=w, **fields) for k in range(6) for w in WIDTHS])
+    for w in OTHERS:
+        field('%s-width-%d' % (name, w), 0, [ty(kind, b4=FLOAT, b5=w, **fields)])
+for k in range(6):
+    field('scalar-kind-%d-width-3' % k, 0, [ty(SCALAR, b4=k, b5=3)])
+field('width-3-lowest-of-two', 1, [F32, ty(VECTOR, b2=3, b4=FLOAT, b5=3), ty(SCALAR, b4=FLOAT, b5=0)])
+accepted('unknown-kind-width-3', [ty(200, b4=FLOAT, b5=3)])
 
 accepted('array-constant', [F32, array(0, 0, 1)])
 accepted('array-constant-every-count-byte', [F32] + [array(0, 0, c) for c in (1, 256, 65536, 16777216, 0xffffffff)])
@@ -544,7 +558,13 @@ accepted('row-queries-with-no-row-before', [row(QUERY, b6=q) for q in (1, 2, 3)]
 accepted('row-math', [row(MATH)])
 accepted('row-math-free', [row(MATH, **FREE)])
 accepted('row-as-every-kind', [LIT] + [row(AS, b6=k, b7=1, b8=4) for k in range(6)])
-accepted('row-as-every-width', [LIT, row(AS, b7=1, b8=0), row(AS, b7=1, b8=255), row(AS, b7=0, b8=0)])
+accepted('row-as-every-width', [LIT] + [row(AS, b6=k, b7=1, b8=w) for k in range(6) for w in WIDTHS] + [row(AS, b7=0, b8=0)])
+for w in OTHERS:
+    field('row-as-width-%d' % w, 1, [LIT, row(AS, b6=FLOAT, b7=1, b8=w)])
+for w in (1, 2, 3, 8, 255):
+    field('row-as-flag-clear-with-width-%d' % w, 1, [LIT, row(AS, b6=FLOAT, b7=0, b8=w)])
+field('row-as-width-3-second', 2, [LIT, row(AS, b6=FLOAT, b7=1, b8=4), row(AS, b6=FLOAT, b7=1, b8=3), row(AS, b7=1, b8=0)])
+accepted('row-math-width-3', [LIT, row(MATH, b6=FLOAT, b7=1, b8=3)])
 field('row-as-kind-6', 1, [LIT, row(AS, b6=6, b7=1, b8=4)])
 field('row-as-flag-2', 1, [LIT, row(AS, b6=FLOAT, b7=2, b8=4)])
 field('row-as-flag-2-width-0', 1, [LIT, row(AS, b6=FLOAT, b7=2)])

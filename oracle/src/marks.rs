@@ -186,7 +186,7 @@ pub enum Compared {
 /// Whether the byte values of a frame handed in are those of a type number or a value.
 fn sound(frame: &Frame) -> bool {
     let zero = |from: usize, to: usize| frame[from..to].iter().all(|byte| *byte == 0);
-    let scalar = frame[4] <= 5;
+    let scalar = frame[4] <= 5 && matches!(frame[5], 1 | 2 | 4 | 8);
     let size = |at: usize| matches!(frame[at], 2..=4);
     let wide = |at: usize| matches!(frame[at], 8 | 16);
     let space = match frame[6] {

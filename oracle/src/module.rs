@@ -65,10 +65,18 @@ fn kind(frame: &Frame, at: usize) -> Got<ScalarKind> {
     }
 }
 
+/// Document 02, request 2: the source takes any byte.
+fn width(frame: &Frame, at: usize) -> Got<u8> {
+    match frame[at] {
+        1 | 2 | 4 | 8 => Ok(frame[at]),
+        _ => bad("width", frame),
+    }
+}
+
 fn scalar(frame: &Frame) -> Got<Scalar> {
     Ok(Scalar {
         kind: kind(frame, 4)?,
-        width: frame[5],
+        width: width(frame, 5)?,
     })
 }
 
@@ -568,7 +576,10 @@ fn expression(file: &File, at: usize) -> Got<Option<Expression>> {
         23 => Expression::As {
             expr: operand()?,
             kind: kind(row, 6)?,
-            convert: flag(row, 7)?.then_some(row[8]),
+            convert: match flag(row, 7)? {
+                true => Some(width(row, 8)?),
+                false => None,
+            },
         },
         24 => Expression::CallResult(named(number, items(6), row)?),
         25 => Expression::AtomicResult {

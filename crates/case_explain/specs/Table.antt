@@ -18,10 +18,10 @@ pub record Case : Type 0 where
 abbrev whole : List String → List String → Case
 whole t l = record { text = t; lines = l; room = over 0 }
 
--- values of: a scalar of three bytes; a storage image; a pointer to a struct in storage; a struct
+-- values of: a bool of four bytes, which has no name; a storage image; a pointer to a struct in storage; a struct
 abbrev values : List String
 values =
-    "01010000020300000000000000000000" ∷
+    "01010000030400000000000000000000" ∷
     "010a0200031100020000000000000000" ∷
     "01090000000000000000000000000000" ∷
     "01060200000004030000000000000000" ∷
@@ -48,11 +48,13 @@ table =
     "row 3  vec4<f32>  (type 2)" ∷
     "row 3  verdict: 31 count: expected 4, given 6" ∷ [])
     ∷ whole values
-    ("row 0  float(3 bytes)  (type 0)" ∷
+    ("row 0  bool(4 bytes)  (type 0)" ∷
     "row 1  texture_storage_2d<rgba8unorm, write>  (type 1)" ∷
     "row 2  struct  (type 2)" ∷
     "row 3  ptr<storage, type 2, read_write>  (type 3)" ∷ [])
     ∷ whole noCount ("line 2: number 5, field: a byte is outside its values" ∷ [])
+    -- a scalar of three bytes
+    ∷ whole ("01010000020300000000000000000000" ∷ []) ("line 1: number 5, field: a byte is outside its values" ∷ [])
     ∷ whole ("0101" ∷ []) ("line 1: number 2, torn: not 32 digits and a line feed" ∷ [])
     ∷ whole [] []
     -- bytes past the lines stay; one byte too few, and none at all, is number 3 and changes nothing

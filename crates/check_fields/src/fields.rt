@@ -11,10 +11,11 @@ use frames::Frame;
 use ir::ItemKind;
 use ir::RowKind;
 use ir::TypeKind;
+use ir::Width;
 ghost use mathlib.Core.Path.{_≡_};
 ghost use mathlib.Core.Bool.{true};
 ghost use mathlib.Core.List.{[]};
-ghost use Rattle.frames.specs.Fields.{fits, fitsAll, isOption, query, relational, fields};
+ghost use Rattle.frames.specs.Fields.{fits, fitsAll, isOption, isConvert, query, relational, fields};
 ghost use Rattle.frames.specs.Layout.{itemLayout, rowLayout};
 ghost use Rattle.frames.specs.Forms.{fieldsFit};
 
@@ -22,6 +23,17 @@ fn option_fits(flag: u8, n: u16) -> bool
     ensures { λ r. ⌜ r ≡ isOption flag n ⌝ }
 {
     (flag < 2) & ((flag == 1) | (n == 0))
+}
+
+// A flag; where it is set a width, and where it is clear zero.
+fn convert_fits(flag: u8, width: u8) -> bool
+    ensures { λ r. ⌜ r ≡ isConvert flag width ⌝ }
+{
+    if flag == 1 {
+        Width::is_number(width)
+    } else {
+        (flag == 0) & (width == 0)
+    }
 }
 
 fn query_fits(f: Frame) -> bool
@@ -102,7 +114,7 @@ fn row_fits(kind: RowKind, f: Frame) -> bool
         RowKind::Relational => relational_fits(f)
             & ((f.b4 == 0) & ((f.b5 == 0) & ((f.b7 == 0) & (zero_from_8(f))))),
         RowKind::As => (f.b6 < 6)
-            & (option_fits(f.b7, f.b8 as u16)
+            & (convert_fits(f.b7, f.b8)
                 & ((f.b4 == 0)
                     & ((f.b5 == 0)
                         & ((f.b9 == 0) & ((f.b10 == 0) & ((f.b11 == 0) & (zero_from_12(f)))))))),

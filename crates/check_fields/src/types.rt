@@ -1,10 +1,11 @@
 // Number 5, of types: whether the bytes of a frame are within the values of its layout, and zero where no field stands.
 use frames::Frame;
 use ir::TypeKind;
+use ir::Width;
 ghost use mathlib.Core.Path.{_≡_};
 ghost use mathlib.Core.Bool.{true, _&&_, _||_};
 ghost use lib.Dec.{leb, ltb, eqb};
-ghost use Rattle.frames.specs.Fields.{fits, fitsAll, isSize, isSpace, isArraySize, class};
+ghost use Rattle.frames.specs.Fields.{fits, fitsAll, isSize, isSpace, isArraySize, class, scalar};
 ghost use Rattle.frames.specs.Layout.{typeLayout, numberLayout};
 
 pub fn size_fits(b: u8) -> bool
@@ -29,6 +30,13 @@ pub fn cooperative_fits(b: u8) -> bool
     ensures { λ r. ⌜ r ≡ (eqb b 8 || eqb b 16) ⌝ }
 {
     (b == 8) | (b == 16)
+}
+
+// A kind, and a width that a scalar may have.
+fn scalar_fits(f: Frame) -> bool
+    ensures { λ r. ⌜ r ≡ fits scalar f ⌝ }
+{
+    (f.b4 < 6) & Width::is_number(f.b5)
 }
 
 pub fn space_fits(space: u8, access: u8) -> bool
@@ -108,19 +116,20 @@ pub fn type_fits(kind: TypeKind, f: Frame) -> bool
 {
     match kind {
         TypeKind::Unknown => true,
-        TypeKind::Scalar | TypeKind::Atomic => (f.b4 < 6)
+        TypeKind::Scalar | TypeKind::Atomic => scalar_fits(f)
             & ((f.b2 == 0) & ((f.b3 == 0) & ((f.b6 == 0) & ((f.b7 == 0) & (zero_from_8(f)))))),
         TypeKind::Vector => size_fits(f.b2)
-            & ((f.b4 < 6) & ((f.b3 == 0) & ((f.b6 == 0) & ((f.b7 == 0) & (zero_from_8(f)))))),
+            & (scalar_fits(f) & ((f.b3 == 0) & ((f.b6 == 0) & ((f.b7 == 0) & (zero_from_8(f)))))),
         TypeKind::Matrix => size_fits(f.b2)
-            & (size_fits(f.b3) & ((f.b4 < 6) & ((f.b6 == 0) & ((f.b7 == 0) & (zero_from_8(f)))))),
+            & (size_fits(f.b3)
+                & (scalar_fits(f) & ((f.b6 == 0) & ((f.b7 == 0) & (zero_from_8(f)))))),
         TypeKind::CooperativeMatrix => cooperative_fits(f.b2)
             & (cooperative_fits(f.b3)
-                & ((f.b4 < 6) & ((f.b6 < 3) & ((f.b7 == 0) & (zero_from_8(f)))))),
+                & (scalar_fits(f) & ((f.b6 < 3) & ((f.b7 == 0) & (zero_from_8(f)))))),
         TypeKind::Pointer => space_fits(f.b6, f.b7)
             & ((f.b4 == 0) & ((f.b5 == 0) & (zero_from_8(f)))),
         TypeKind::ValuePointer => option_size_fits(f.b2)
-            & ((f.b4 < 6) & (space_fits(f.b6, f.b7) & ((f.b3 == 0) & (zero_from_8(f))))),
+            & (scalar_fits(f) & (space_fits(f.b6, f.b7) & ((f.b3 == 0) & (zero_from_8(f))))),
         TypeKind::Array => array_size_fits(f.b4, f.third())
             & ((f.b5 == 0) & ((f.b6 == 0) & ((f.b7 == 0)))),
         TypeKind::Struct => (f.b6 == 0) & ((f.b7 == 0) & (zero_8_11(f))),

@@ -11,6 +11,7 @@ use borrow.Author.Tests.{ltb-true, leb-true}
 use Rattle.ir.specs.declared.TypeNumber.{TypeNumber}
 use Rattle.ir.specs.declared.RowNumber.{RowNumber}
 use Rattle.ir.specs.declared.Scalar.{Scalar}
+use Rattle.ir.specs.Numbers.{isWidth}
 use Rattle.ir.specs.Scalars.{I16, I32, I64, U16, U32, U64, F16, F32, F64, BOOL, ABSTRACT-INT, ABSTRACT-FLOAT}
 use Rattle.frames.specs.declared.Frame.{Frame}
 use Rattle.frames.specs.Bytes.{half, word, frameAt}
@@ -20,7 +21,7 @@ use Rattle.explain_words.specs.Lines.{num, pieceBytes, spelled}
 use Rattle.explain_words.proofs.Long.{number-long, none-long, piece-long, longest, no-longer}
 use Rattle.explain_lines.specs.declared.ScalarWords.{ScalarWords}
 use Rattle.explain_lines.specs.declared.Short.{Short}
-use Rattle.explain_lines.specs.Types.{picked, isScalar, named, scalarWords, around, byNumber, vector, isBrief, brief, within, inside, pointer, array, cooperative, className, arrayedName, image, unknownKind, whole}
+use Rattle.explain_lines.specs.Types.{picked, isScalar, named, bytesOf, scalarWords, around, byNumber, vector, isBrief, brief, within, inside, pointer, array, cooperative, className, arrayedName, image, unknownKind, whole}
 use Rattle.explain_lines.specs.Answers.{manner, refusal, judged, said, shown, ending, lineOf, faultWords, faultOf}
 use Rattle.explain_lines.proofs.Runs.{three-spelled}
 
@@ -81,11 +82,15 @@ named-long kind width =
 abbrev ScalarLong : ScalarWords → Type 0
 ScalarLong s = length (pieceBytes (s .name)) + length (pieceBytes (s .width)) + length (pieceBytes (s .bytes)) ≤ 33
 
+bytes-long : (width : ℕ) → Piece (bytesOf width) 10
+unfolding pieceBytes wordBytes W.table
+bytes-long width = by-cond (λ p. Piece p 10) (isWidth width) (num width) W.none (number-long width) (word-long W.none 10 refl)
+
 scalar-long : (kind width : ℕ) → ScalarLong (scalarWords kind width)
 unfolding scalarWords pieceBytes wordBytes W.table longest
 scalar-long kind width =
     by-cond ScalarLong (eqb (named kind width) W.none) _ _
-    (omega (arith, picked-long W.plain 0 6 kind 16 refl refl, number-long width))
+    (omega (arith, picked-long W.plain 0 6 kind 16 refl refl, bytes-long width))
     (omega (arith, named-long kind width))
 
 -- A TYPE THAT ANOTHER NAMES

@@ -6,7 +6,7 @@ use mathlib.Core.List.{List, [], _∷_}
 use lib.Dec.{ltb, eqb}
 use Rattle.ir.specs.declared.TypeNumber.{TypeNumber}
 use Rattle.ir.specs.declared.Scalar.{Scalar}
-use Rattle.ir.specs.Numbers.{scalarKindNumber}
+use Rattle.ir.specs.Numbers.{scalarKindNumber, isWidth, widthNumber}
 use Rattle.ir.specs.Scalars.{I16, I32, I64, U16, U32, U64, F16, F32, F64, BOOL, ABSTRACT-INT, ABSTRACT-FLOAT}
 use Rattle.frames.specs.declared.Frame.{Frame}
 use Rattle.frames.specs.Bytes.{half, word, frameAt}
@@ -29,7 +29,7 @@ names =
 
 -- these bytes are the kind and the width of a scalar
 abbrev pub isScalar : Scalar → ℕ → ℕ → Bool
-isScalar s kind width = eqb kind (scalarKindNumber (s .kind)) && eqb width (s .width)
+isScalar s kind width = eqb kind (scalarKindNumber (s .kind)) && eqb width (widthNumber (s .width))
 
 -- the name of the first scalar that these bytes are, or none
 abbrev pub nameIn : List (Scalar × ℕ) → ℕ → ℕ → ℕ
@@ -40,10 +40,14 @@ nameIn (n ∷ l) kind width = cond (isScalar (n .0) kind width) (n .1) (nameIn l
 unfoldable pub named : ℕ → ℕ → ℕ
 named kind width = nameIn names kind width
 
--- a scalar by its name; one that has none by its kind and width, as `float(3 bytes)`
+-- how many bytes, of a width; no accepted file has another
+abbrev pub bytesOf : ℕ → ℕ
+bytesOf width = cond (isWidth width) (num width) W.none
+
+-- a scalar by its name; one that has none by its kind and width, as `bool(4 bytes)`
 unfoldable pub scalarWords : ℕ → ℕ → ScalarWords
 scalarWords kind width =
-    cond (eqb (named kind width) W.none) (record { name = picked W.plain 0 6 kind; width = num width; bytes = W.bytes })
+    cond (eqb (named kind width) W.none) (record { name = picked W.plain 0 6 kind; width = bytesOf width; bytes = W.bytes })
     (record { name = named kind width; width = W.none; bytes = W.none })
 
 -- A TYPE THAT ANOTHER NAMES

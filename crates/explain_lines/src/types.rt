@@ -7,11 +7,12 @@ use frames::Frame;
 use frames::frame_at;
 use ir::Scalar;
 use ir::TypeNumber;
+use ir::Width;
 ghost use mathlib.Core.Path.{_≡_};
 ghost use mathlib.Core.Bool.{cond};
 ghost use mathlib.Core.List.{[], _∷_};
 ghost use Prim.Native.Nat.{_+_};
-ghost use Rattle.explain_lines.specs.Types.{picked, isScalar, named, scalarWords, around, byNumber, vector, isBrief, brief, within, pointer, array, cooperative, className, arrayedName, image, unknownKind, inside, whole};
+ghost use Rattle.explain_lines.specs.Types.{picked, isScalar, named, bytesOf, scalarWords, around, byNumber, vector, isBrief, brief, within, pointer, array, cooperative, className, arrayedName, image, unknownKind, inside, whole};
 ghost use Rattle.explain_lines.specs.ForProofs.{filled};
 
 // A byte's number, as a piece.
@@ -40,7 +41,8 @@ fn is_scalar(s: Scalar, kind: u8, width: u8) -> bool
     ensures { λ r. ⌜ r ≡ isScalar s kind width ⌝ }
 {
     let k = s.kind;
-    (kind == k.number()) & (width == s.width)
+    let w = s.width;
+    (kind == k.number()) & (width == w.number())
 }
 
 // The scalar's name, if these bytes are that scalar, else the other.
@@ -77,13 +79,23 @@ fn named(kind: u8, width: u8) -> u64
     name_or(Scalar::I16, table::I16, kind, width, n)
 }
 
+// How many bytes, of a width.
+fn bytes_of(width: u8) -> u64
+    ensures { λ r. ⌜ r ≡ bytesOf width ⌝ }
+{
+    if Width::is_number(width) {
+        return small(width);
+    }
+    0
+}
+
 fn scalar_words(kind: u8, width: u8) -> ScalarWords
     ensures { λ r. ⌜ r ≡ scalarWords kind width ⌝ }
 {
     let n = named(kind, width);
     if n == 0 {
         let name = pick(table::PLAIN, 0, 6, kind);
-        let w = small(width);
+        let w = bytes_of(width);
         return ScalarWords {
             name,
             width: w,

@@ -12,13 +12,13 @@ use lib.Dec.{leb, ltb, eqb}
 use lib.ListN.{length, getD}
 use borrow.Author.Tests.{ltb-true, leb-true, eqb-true, ne-eqb}
 use Rattle.ir.proofs.Tables.{at-place}
-use Rattle.ir.proofs.Numbered.{vectorSize-number, cooperativeRole-number, scalarKind-number, imageDimension-number, storageFormat-number, literal-number, binaryOperator-number, relationalFunction-number, imageQuery-number}
+use Rattle.ir.proofs.Numbered.{vectorSize-number, cooperativeRole-number, scalarKind-number, width-number, imageDimension-number, storageFormat-number, literal-number, binaryOperator-number, relationalFunction-number, imageQuery-number}
 use Rattle.ir.specs.declared.AddressSpace.the-variants as Sp
-use Rattle.ir.specs.Numbers.{vectorSizeOf, vectorSizeNumber, cooperativeSizeOf, cooperativeSizeNumber, scalarKindOf, scalarKindNumber, flagOf, flagNumber, accessOf, accessNumber, spaces, spaceOf, spaceNumber, spaceAccess}
+use Rattle.ir.specs.Numbers.{vectorSizeOf, vectorSizeNumber, cooperativeSizeOf, cooperativeSizeNumber, scalarKindOf, scalarKindNumber, widthOf, widthNumber, flagOf, flagNumber, accessOf, accessNumber, spaces, spaceOf, spaceNumber, spaceAccess}
 use Rattle.frames.specs.declared.Frame.{Frame}
 use Rattle.frames.specs.Bytes.{bytesOf, byte, half, word, framed}
 use Rattle.frames.specs.Fields.{Field, vectorSize, optionSize, cooperativeSize, role, scalarKind, dimension, flag, literal, operator, number, wide, scalar, space, arraySize, class, result, query, relational, convert}
-use Rattle.frames.specs.Fields.{among, takes, read, fits, write, isSize, isSpace, isArraySize, isClass, isOption, optionSizeOf, optionSizeNumber, arraySizeOf, formNumber, formCount, classOf, classBytes, resultOf, resultBytes, convertOf, convertBytes, halfByte, wordByte}
+use Rattle.frames.specs.Fields.{among, takes, read, fits, write, isSize, isSpace, isArraySize, isClass, isOption, isConvert, optionSizeOf, optionSizeNumber, arraySizeOf, formNumber, formCount, classOf, classBytes, resultOf, resultBytes, convertOf, convertBytes, halfByte, wordByte}
 use Rattle.frames.specs.Fields.{fields, ValsOf, readEach, readAll, taken, places, allOf, fitsAll, writeEach, laid}
 
 -- every byte of a frame is below 256
@@ -230,9 +230,9 @@ result-number a b zero p q h = let z = eqb-true (a + b * 256) 0 h in three _ _ (
 result-number a b (suc zero) p q h = three _ _ (omega arith) (omega arith) refl
 result-number a b (suc (suc m)) p q h = let l = ltb-true (suc (suc m)) 2 (both (ltb (suc (suc m)) 2) _ h .0) in absurd (omega arith)
 
-convert-number : (m n : ℕ) → isOption m n ≡ true → (j : ℕ) → j < 2 → getD (convertBytes (convertOf m n)) j 0 ≡ getD (m ∷ n ∷ []) j 0
+convert-number : (m n : ℕ) → isConvert m n ≡ true → (j : ℕ) → j < 2 → getD (convertBytes (convertOf m n)) j 0 ≡ getD (m ∷ n ∷ []) j 0
 convert-number zero n h = two _ _ refl (sym (eqb-true n 0 h))
-convert-number (suc zero) n h = two _ _ refl refl
+convert-number (suc zero) n h = two _ _ refl (width-number n h)
 convert-number (suc (suc m)) n h = let l = ltb-true (suc (suc m)) 2 (both (ltb (suc (suc m)) 2) _ h .0) in absurd (omega arith)
 
 -- THE LAW OF A FIELD
@@ -253,9 +253,10 @@ write-read (operator i) f w h k t = binaryOperator-number (byte f i) (ltb-true _
 write-read (number i) f w h k t = offset f i 2 (halfByte (half f i)) (half-at f w i) k t
 write-read (wide i) f w h k t = offset f i 4 (wordByte (word f i)) (word-at f w i) k t
 write-read scalar f w h k t =
+    let q = both (ltb (f .b4) 6) _ h in
     offset f 4 2 _
-    (two (λ (j : ℕ). getD (scalarKindNumber (scalarKindOf (f .b4)) ∷ f .b5 ∷ []) j 0) (λ (j : ℕ). byte f (4 + j))
-    (scalarKind-number (f .b4) (ltb-true _ 6 h)) refl)
+    (two (λ (j : ℕ). getD (scalarKindNumber (scalarKindOf (f .b4)) ∷ widthNumber (widthOf (f .b5)) ∷ []) j 0) (λ (j : ℕ). byte f (4 + j))
+    (scalarKind-number (f .b4) (ltb-true _ 6 (q .0))) (width-number (f .b5) (q .1)))
     k t
 write-read space f w h k t =
     offset f 6 2 _

@@ -4,7 +4,7 @@ use Prim.Native.Nat.{ℕ, _+_, _*_, _/_, _%_}
 use native.Mathlib.Omega.{arith}
 use mathlib.Core.Path.{_≡_, refl, ap}
 use borrow.Author.Tests.{ne-eqb}
-use Rattle.ir.proofs.Numbered.{vectorSize-back, cooperativeSize-back, cooperativeRole-back, scalarKind-back, imageDimension-back, storageFormat-back, flag-back, access-back, space-back}
+use Rattle.ir.proofs.Numbered.{vectorSize-back, cooperativeSize-back, cooperativeRole-back, scalarKind-back, width-back, imageDimension-back, storageFormat-back, flag-back, access-back, space-back}
 use Rattle.ir.specs.declared.RowNumber.{RowNumber}
 use Rattle.ir.specs.declared.VectorSize.the-variants as Vs
 use Rattle.ir.specs.declared.OptionVectorSize.{OptionVectorSize}
@@ -51,14 +51,14 @@ size-back As.Dynamic = refl
 -- a type's frame, of any family, reads as the type
 pub type-back : (t : TypeInner) (family : ℕ) → typeOf (typeFrame family t) ≡ Tf.Known t
 unfolding typeOf
-type-back (Ti.Scalar s) family = rw (scalarKind-back (s .kind))
-type-back (Ti.Vector n s) family = rw (vectorSize-back n, scalarKind-back (s .kind))
-type-back (Ti.Matrix c r s) family = rw (vectorSize-back c, vectorSize-back r, scalarKind-back (s .kind))
+type-back (Ti.Scalar s) family = rw (scalarKind-back (s .kind), width-back (s .width))
+type-back (Ti.Vector n s) family = rw (vectorSize-back n, scalarKind-back (s .kind), width-back (s .width))
+type-back (Ti.Matrix c r s) family = rw (vectorSize-back c, vectorSize-back r, scalarKind-back (s .kind), width-back (s .width))
 type-back (Ti.CooperativeMatrix c r s o) family =
-    rw (cooperativeSize-back c, cooperativeSize-back r, scalarKind-back (s .kind), cooperativeRole-back o)
-type-back (Ti.Atomic s) family = rw (scalarKind-back (s .kind))
+    rw (cooperativeSize-back c, cooperativeSize-back r, scalarKind-back (s .kind), width-back (s .width), cooperativeRole-back o)
+type-back (Ti.Atomic s) family = rw (scalarKind-back (s .kind), width-back (s .width))
 type-back (Ti.Pointer b p) family = rw (half-back (b .0), space-back p)
-type-back (Ti.ValuePointer n s p) family = rw (option-back n, scalarKind-back (s .kind), space-back p)
+type-back (Ti.ValuePointer n s p) family = rw (option-back n, scalarKind-back (s .kind), width-back (s .width), space-back p)
 type-back (Ti.Array b z t) family = rw (half-back (b .0), size-back z, word-back t)
 type-back (Ti.Struct m n t) family = rw (half-back (m .0), half-back n, word-back t)
 type-back (Ti.Image d a (Ic.Sampled k m)) family = rw (imageDimension-back d, flag-back a, scalarKind-back k, flag-back m)

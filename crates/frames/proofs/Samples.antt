@@ -21,6 +21,7 @@ use Rattle.ir.specs.declared.BinaryOperator.the-variants as Bo
 use Rattle.ir.specs.declared.RelationalFunction.the-variants as Rl
 use Rattle.ir.specs.declared.ImageQuery.the-variants as Iq
 use Rattle.ir.specs.declared.OptionBytes.the-variants as Ob
+use Rattle.ir.specs.declared.Width.the-variants as Wd
 use Rattle.ir.specs.declared.TypeInner.{TypeInner}
 use Rattle.ir.specs.declared.TypeInner.the-variants as Ti
 use Rattle.ir.specs.declared.TypeForm.the-variants as Tf
@@ -35,16 +36,16 @@ use Rattle.frames.specs.Out.{kindOf}
 use Rattle.frames.specs.ForProofs.{rowKind}
 
 abbrev f32 : Scalar
-f32 = record { kind = Sk.Float; width = 4 }
+f32 = record { kind = Sk.Float; width = Wd.Four }
 
 -- a frame of each kind of type, and the type
 abbrev pub typeSamples : List (List ℕ × TypeInner)
 typeSamples =
     (1 ∷ 1 ∷ 0 ∷ 0 ∷ 2 ∷ 4 ∷ 0 ∷ 0 ∷ 0 ∷ 0 ∷ 0 ∷ 0 ∷ 0 ∷ 0 ∷ 0 ∷ 0 ∷ [], Ti.Scalar f32)
-    ∷ (1 ∷ 2 ∷ 3 ∷ 0 ∷ 1 ∷ 4 ∷ 0 ∷ 0 ∷ 0 ∷ 0 ∷ 0 ∷ 0 ∷ 0 ∷ 0 ∷ 0 ∷ 0 ∷ [], Ti.Vector Vs.Tri (record { kind = Sk.Uint; width = 4 }))
+    ∷ (1 ∷ 2 ∷ 3 ∷ 0 ∷ 1 ∷ 4 ∷ 0 ∷ 0 ∷ 0 ∷ 0 ∷ 0 ∷ 0 ∷ 0 ∷ 0 ∷ 0 ∷ 0 ∷ [], Ti.Vector Vs.Tri (record { kind = Sk.Uint; width = Wd.Four }))
     ∷ (1 ∷ 3 ∷ 2 ∷ 4 ∷ 2 ∷ 4 ∷ 0 ∷ 0 ∷ 0 ∷ 0 ∷ 0 ∷ 0 ∷ 0 ∷ 0 ∷ 0 ∷ 0 ∷ [], Ti.Matrix Vs.Bi Vs.Quad f32)
     ∷ (1 ∷ 4 ∷ 8 ∷ 16 ∷ 2 ∷ 4 ∷ 1 ∷ 0 ∷ 0 ∷ 0 ∷ 0 ∷ 0 ∷ 0 ∷ 0 ∷ 0 ∷ 0 ∷ [], Ti.CooperativeMatrix Cs.Eight Cs.Sixteen f32 Cr.B)
-    ∷ (1 ∷ 5 ∷ 0 ∷ 0 ∷ 0 ∷ 8 ∷ 0 ∷ 0 ∷ 0 ∷ 0 ∷ 0 ∷ 0 ∷ 0 ∷ 0 ∷ 0 ∷ 0 ∷ [], Ti.Atomic (record { kind = Sk.Sint; width = 8 }))
+    ∷ (1 ∷ 5 ∷ 0 ∷ 0 ∷ 0 ∷ 8 ∷ 0 ∷ 0 ∷ 0 ∷ 0 ∷ 0 ∷ 0 ∷ 0 ∷ 0 ∷ 0 ∷ 0 ∷ [], Ti.Atomic (record { kind = Sk.Sint; width = Wd.Eight }))
     ∷ (
       1 ∷ 6 ∷ 2 ∷ 1 ∷ 0 ∷ 0 ∷ 4 ∷ 3 ∷ 0 ∷ 0 ∷ 0 ∷ 0 ∷ 0 ∷ 0 ∷ 0 ∷ 0 ∷ [],
       Ti.Pointer (record {
@@ -57,7 +58,7 @@ typeSamples =
       Ti.ValuePointer Os.None (record {
         kind =
             Sk.Bool;
-        width = 1;
+        width = Wd.One;
       }) Sp.IncomingRayPayload,
     )
     ∷ (1 ∷ 8 ∷ 5 ∷ 0 ∷ 0 ∷ 0 ∷ 0 ∷ 0 ∷ 3 ∷ 0 ∷ 0 ∷ 1 ∷ 16 ∷ 0 ∷ 0 ∷ 0 ∷ [], Ti.Array (record { 0 = 5 }) (As.Constant 16777219) 16)
@@ -108,7 +109,7 @@ rowSamples =
     ∷ (4 ∷ 20 ∷ 3 ∷ 0 ∷ 0 ∷ 0 ∷ 0 ∷ 0 ∷ 0 ∷ 0 ∷ 0 ∷ 0 ∷ 0 ∷ 0 ∷ 0 ∷ 0 ∷ [], Ex.Derivative (record { 0 = 3 }))
     ∷ (4 ∷ 21 ∷ 3 ∷ 0 ∷ 0 ∷ 0 ∷ 2 ∷ 0 ∷ 0 ∷ 0 ∷ 0 ∷ 0 ∷ 0 ∷ 0 ∷ 0 ∷ 0 ∷ [], Ex.Relational Rl.IsNan (record { 0 = 3 }))
     ∷ (4 ∷ 22 ∷ 9 ∷ 9 ∷ 9 ∷ 9 ∷ 9 ∷ 9 ∷ 9 ∷ 9 ∷ 9 ∷ 9 ∷ 9 ∷ 9 ∷ 9 ∷ 9 ∷ [], Ex.Math)
-    ∷ (4 ∷ 23 ∷ 3 ∷ 0 ∷ 0 ∷ 0 ∷ 2 ∷ 1 ∷ 8 ∷ 0 ∷ 0 ∷ 0 ∷ 0 ∷ 0 ∷ 0 ∷ 0 ∷ [], Ex.As (record { 0 = 3 }) Sk.Float (Ob.Some 8))
+    ∷ (4 ∷ 23 ∷ 3 ∷ 0 ∷ 0 ∷ 0 ∷ 2 ∷ 1 ∷ 8 ∷ 0 ∷ 0 ∷ 0 ∷ 0 ∷ 0 ∷ 0 ∷ 0 ∷ [], Ex.As (record { 0 = 3 }) Sk.Float (Ob.Some Wd.Eight))
     ∷ (4 ∷ 24 ∷ 3 ∷ 0 ∷ 0 ∷ 0 ∷ 0 ∷ 0 ∷ 0 ∷ 0 ∷ 0 ∷ 0 ∷ 0 ∷ 0 ∷ 0 ∷ 0 ∷ [], Ex.CallResult (record { 0 = 3 }))
     ∷ (4 ∷ 25 ∷ 3 ∷ 0 ∷ 0 ∷ 0 ∷ 0 ∷ 0 ∷ 0 ∷ 0 ∷ 0 ∷ 0 ∷ 0 ∷ 0 ∷ 0 ∷ 0 ∷ [], Ex.AtomicResult (record { 0 = 3 }))
     ∷ (4 ∷ 26 ∷ 3 ∷ 0 ∷ 0 ∷ 0 ∷ 0 ∷ 0 ∷ 0 ∷ 0 ∷ 0 ∷ 0 ∷ 0 ∷ 0 ∷ 0 ∷ 0 ∷ [], Ex.WorkGroupUniformLoadResult (record { 0 = 3 }))

@@ -30,6 +30,7 @@ use Rattle.ir.specs.declared.OptionBytes.the-variants as Ob
 use Rattle.ir.specs.Numbers.{scalarKindOf, scalarKindNumber, vectorSizeOf, vectorSizeNumber, cooperativeSizeOf, cooperativeSizeNumber}
 use Rattle.ir.specs.Numbers.{cooperativeRoleOf, cooperativeRoleNumber, spaceOf, spaceNumber, spaceAccess, accessOf, accessNumber}
 use Rattle.ir.specs.Numbers.{imageDimensionOf, imageDimensionNumber, storageFormatOf, storageFormatNumber, flagOf, flagNumber}
+use Rattle.ir.specs.Numbers.{isWidth, widthOf, widthNumber}
 use Rattle.ir.specs.Numbers.{literalOf, literalNumber, binaryOperatorOf, binaryOperatorNumber}
 use Rattle.ir.specs.Numbers.{relationalFunctionOf, relationalFunctionNumber, imageQueryOf, imageQueryNumber}
 use Rattle.frames.specs.declared.Frame.{Frame}
@@ -40,7 +41,7 @@ pub data Field : Type 0 where
   vectorSize optionSize cooperativeSize role scalarKind dimension flag literal operator : ℕ → Field
   -- a number of two bytes, or of four, from the place given on
   number wide : ℕ → Field
-  -- byte 4 the kind, byte 5 the width
+  -- byte 4 the kind, byte 5 the width, 1, 2, 4 or 8
   scalar : Field
   -- byte 6 the space, byte 7 the access, which only Storage has
   space : Field
@@ -52,7 +53,7 @@ pub data Field : Type 0 where
   result : Field
   -- byte 6 the query or the function, bytes 2 and 3 the operand, where it is read
   query relational : Field
-  -- byte 7 the flag, byte 8 the width
+  -- byte 7 the flag, byte 8 the width, 1, 2, 4 or 8 where the flag is set
   convert : Field
 
 -- what a field holds
@@ -124,7 +125,7 @@ abbrev pub resultOf : ℕ → TypeNumber → FunctionResult
 resultOf b t = cond (flagOf b) (Fr.Some t) Fr.None
 
 abbrev pub convertOf : ℕ → ℕ → OptionBytes
-convertOf b w = cond (flagOf b) (Ob.Some w) Ob.None
+convertOf b w = cond (flagOf b) (Ob.Some (widthOf w)) Ob.None
 
 abbrev pub read : (x : Field) → Frame → Val x
 read (vectorSize i) f = vectorSizeOf (byte f i)
@@ -138,7 +139,7 @@ read (literal i) f = literalOf (byte f i)
 read (operator i) f = binaryOperatorOf (byte f i)
 read (number i) f = half f i
 read (wide i) f = word f i
-read scalar f = record { kind = scalarKindOf (byte f 4); width = byte f 5 }
+read scalar f = record { kind = scalarKindOf (byte f 4); width = widthOf (byte f 5) }
 read space f = spaceOf (byte f 6) (byte f 7)
 read arraySize f = arraySizeOf (byte f 4) (word f 8)
 read class f = classOf (byte f 4) (byte f 5) (byte f 6) (byte f 7)
@@ -173,6 +174,10 @@ isClass c b5 b6 b7 =
 abbrev pub isOption : ℕ → ℕ → Bool
 isOption b n = ltb b 2 && (flagOf b || eqb n 0)
 
+-- As: a flag; where it is set, the width converted to, and where it is clear zero
+abbrev pub isConvert : ℕ → ℕ → Bool
+isConvert b w = ltb b 2 && cond (flagOf b) (isWidth w) (eqb w 0)
+
 abbrev pub fits : Field → Frame → Bool
 fits (vectorSize i) f = isSize (byte f i)
 fits (optionSize i) f = eqb (byte f i) 0 || isSize (byte f i)
@@ -185,7 +190,7 @@ fits (literal i) f = ltb (byte f i) 12
 fits (operator i) f = ltb (byte f i) 18
 fits (number i) f = true
 fits (wide i) f = true
-fits scalar f = ltb (byte f 4) 6
+fits scalar f = ltb (byte f 4) 6 && isWidth (byte f 5)
 fits space f = isSpace (byte f 6) (byte f 7)
 fits arraySize f = isArraySize (byte f 4) (word f 8)
 fits class f = isClass (byte f 4) (byte f 5) (byte f 6) (byte f 7)
@@ -193,7 +198,7 @@ fits result f = isOption (byte f 4) (half f 2)
 -- the operand is read for a size, and for IsNan and IsInf; else it is zero
 fits query f = ltb (byte f 6) 4 && (eqb (byte f 6) 0 || eqb (half f 2) 0)
 fits relational f = ltb (byte f 6) 4 && (leb 2 (byte f 6) || eqb (half f 2) 0)
-fits convert f = isOption (byte f 7) (byte f 8)
+fits convert f = isConvert (byte f 7) (byte f 8)
 
 -- WHAT IS WRITTEN
 
@@ -233,7 +238,7 @@ resultBytes (Fr.Some t) = t .0 % 256 ∷ t .0 / 256 ∷ 1 ∷ []
 -- bytes 7 and 8
 abbrev pub convertBytes : OptionBytes → List ℕ
 convertBytes Ob.None = 0 ∷ 0 ∷ []
-convertBytes (Ob.Some w) = 1 ∷ w ∷ []
+convertBytes (Ob.Some w) = 1 ∷ widthNumber w ∷ []
 
 -- the byte that a field writes at place k, one of those that it takes
 abbrev pub write : (x : Field) → Val x → ℕ → ℕ
@@ -248,7 +253,7 @@ write (literal i) v k = literalNumber v
 write (operator i) v k = binaryOperatorNumber v
 write (number i) v k = halfByte v (k - i)
 write (wide i) v k = wordByte v (k - i)
-write scalar v k = getD (scalarKindNumber (v .kind) ∷ v .width ∷ []) (k - 4) 0
+write scalar v k = getD (scalarKindNumber (v .kind) ∷ widthNumber (v .width) ∷ []) (k - 4) 0
 write space v k = getD (spaceNumber v ∷ spaceAccess v ∷ []) (k - 6) 0
 write arraySize v k = cond (eqb k 4) (formNumber v) (wordByte (formCount v) (k - 8))
 write class v k = getD (classBytes v) (k - 4) 0

@@ -20,6 +20,7 @@ use ir::TypeInner;
 use ir::TypeKind;
 use ir::TypeNumber;
 use ir::VectorSize;
+use ir::Width;
 ghost use mathlib.Core.Path.{_≡_};
 ghost use Prim.Native.Nat.{_+_, _*_};
 ghost use Rattle.ir.specs.declared.TypeKind.the-variants.{Unknown};
@@ -103,10 +104,8 @@ impl Frame {
         ensures { λ r. ⌜ r ≡ read scalar self ⌝ }
     {
         let kind = ScalarKind::from_number(self.b4);
-        Scalar {
-            kind,
-            width: self.b5,
-        }
+        let width = Width::from_number(self.b5);
+        Scalar { kind, width }
     }
 
     // Bytes 4 to 7.

@@ -14,7 +14,7 @@ use ir::TypeResolution;
 use ir::numbers::flag_number;
 ghost use mathlib.Core.Path.{_≡_};
 ghost use Prim.Native.Nat.{_/_, _%_};
-ghost use Rattle.ir.specs.Numbers.{scalarKindNumber, flagNumber};
+ghost use Rattle.ir.specs.Numbers.{scalarKindNumber, widthNumber, flagNumber};
 ghost use Rattle.frames.specs.Fields.{optionSizeNumber, formNumber, formCount};
 ghost use Rattle.frames.specs.Out.{typeFrame, numberFrame, resolutionFrame};
 ghost use Rattle.frames.specs.ForProofs.{packed};
@@ -126,10 +126,11 @@ fn image_frame(dim: ImageDimension, arrayed: bool, class: ImageClass) -> Frame
 
 // A value of a kind that has a scalar in bytes 4 and 5.
 pub fn scalar_frame(kind: u8, b2: u8, b3: u8, s: Scalar, b6: u8, b7: u8) -> Frame
-    ensures { λ r. ⌜ r ≡ packed 9 kind b2 b3 (scalarKindNumber (s .kind)) (s .width) b6 b7 0 0 ⌝ }
+    ensures { λ r. ⌜ r ≡ packed 9 kind b2 b3 (scalarKindNumber (s .kind)) (widthNumber (s .width)) b6 b7 0 0 ⌝ }
 {
     let k = s.kind;
-    packed(9, kind, b2, b3, k.number(), s.width, b6, b7, 0, 0)
+    let w = s.width;
+    packed(9, kind, b2, b3, k.number(), w.number(), b6, b7, 0, 0)
 }
 
 // A pointer: base, space and access.

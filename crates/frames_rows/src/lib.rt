@@ -20,6 +20,7 @@ use ir::RowNumber;
 use ir::ScalarKind;
 use ir::TypeNumber;
 use ir::VectorSize;
+use ir::Width;
 ghost use mathlib.Core.Path.{_≡_};
 ghost use Rattle.ir.specs.declared.RowKind.the-variants.{Unknown};
 ghost use Rattle.ir.specs.declared.RowForm.the-variants.{Known};
@@ -41,7 +42,7 @@ fn converted(b: u8, width: u8) -> OptionBytes
     ensures { λ r. ⌜ r ≡ convertOf b width ⌝ }
 {
     if b == 1 {
-        OptionBytes::Some(width)
+        OptionBytes::Some(Width::from_number(width))
     } else {
         OptionBytes::None
     }

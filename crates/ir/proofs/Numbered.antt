@@ -4,13 +4,15 @@ use Prim.Native.Nat.{ℕ, _+_, _-_, _≤_, _<_}
 use native.Mathlib.Nat.{zero-add}
 use native.Mathlib.Omega.{arith}
 use mathlib.Core.Path.{_≡_, refl, sym, ap, _∙_}
-use mathlib.Core.Bool.{Bool, true, false}
+use mathlib.Core.Bool.{Bool, true, false, _||_}
 use mathlib.Core.List.{List, map}
 use mathlib.Core.Logic.{_⊎_, inl, inr, _↔_}
 use native.Mathlib.Decide.{decLe}
+use lib.Dec.{eqb}
+use borrow.Author.Tests.{eqb-true}
 use lib.ListN.{length, getD, List·getD-eq-default}
 use Rattle.ir.proofs.Tables.{upFrom, at-place}
-use Rattle.ir.specs.Numbers.{typeKinds, typeKindOf, typeKindNumber, itemKinds, itemKindOf, rowKinds, rowKindOf, rowKindNumber, vectorSizes, vectorSizeOf, vectorSizeNumber, cooperativeRoles, cooperativeRoleOf, cooperativeRoleNumber, scalarKinds, scalarKindOf, scalarKindNumber, imageDimensions, imageDimensionOf, imageDimensionNumber, storageFormats, storageFormatOf, storageFormatNumber, literals, literalOf, literalNumber, binaryOperators, binaryOperatorOf, binaryOperatorNumber, relationalFunctions, relationalFunctionOf, relationalFunctionNumber, imageQueries, imageQueryOf, imageQueryNumber, cooperativeSizeOf, cooperativeSizeNumber, flagOf, flagNumber, accessOf, accessNumber, spaceOf, spaceNumber, spaceAccess}
+use Rattle.ir.specs.Numbers.{typeKinds, typeKindOf, typeKindNumber, itemKinds, itemKindOf, rowKinds, rowKindOf, rowKindNumber, vectorSizes, vectorSizeOf, vectorSizeNumber, cooperativeRoles, cooperativeRoleOf, cooperativeRoleNumber, scalarKinds, scalarKindOf, scalarKindNumber, imageDimensions, imageDimensionOf, imageDimensionNumber, storageFormats, storageFormatOf, storageFormatNumber, literals, literalOf, literalNumber, binaryOperators, binaryOperatorOf, binaryOperatorNumber, relationalFunctions, relationalFunctionOf, relationalFunctionNumber, imageQueries, imageQueryOf, imageQueryNumber, cooperativeSizeOf, cooperativeSizeNumber, isWidth, widthOf, widthNumber, flagOf, flagNumber, accessOf, accessNumber, spaceOf, spaceNumber, spaceAccess}
 use Rattle.ir.specs.ForProofs.{itemKindNumber}
 use Rattle.ir.specs.declared.AddressSpace.{AddressSpace}
 use Rattle.ir.specs.declared.BinaryOperator.{BinaryOperator}
@@ -27,6 +29,7 @@ use Rattle.ir.specs.declared.StorageAccess.{StorageAccess}
 use Rattle.ir.specs.declared.StorageFormat.{StorageFormat}
 use Rattle.ir.specs.declared.TypeKind.{TypeKind}
 use Rattle.ir.specs.declared.VectorSize.{VectorSize}
+use Rattle.ir.specs.declared.Width.{Width}
 use Rattle.ir.specs.declared.AddressSpace.the-variants as AddressSpace′
 use Rattle.ir.specs.declared.BinaryOperator.the-variants as BinaryOperator′
 use Rattle.ir.specs.declared.CooperativeRole.the-variants as CooperativeRole′
@@ -41,6 +44,7 @@ use Rattle.ir.specs.declared.ScalarKind.the-variants as ScalarKind′
 use Rattle.ir.specs.declared.StorageFormat.the-variants as StorageFormat′
 use Rattle.ir.specs.declared.TypeKind.the-variants as TypeKind′
 use Rattle.ir.specs.declared.VectorSize.the-variants as VectorSize′
+use Rattle.ir.specs.declared.Width.the-variants as Width′
 
 -- the rule of a table whose cases are numbered from b on
 numbered : {A : Type 0} (num : A → ℕ) (d : A) (l : List A) (b : ℕ) → map num l ≡ upFrom b (length l) → (k : ℕ) → b ≤ k → k < b + length l
@@ -157,6 +161,29 @@ storageFormat-back StorageFormat′.Rgba16Snorm = refl
 pub cooperativeSize-back : (e : CooperativeSize) → cooperativeSizeOf (cooperativeSizeNumber e) ≡ e
 cooperativeSize-back CooperativeSize′.Eight = refl
 cooperativeSize-back CooperativeSize′.Sixteen = refl
+
+pub width-back : (e : Width) → widthOf (widthNumber e) ≡ e
+width-back Width′.One = refl
+width-back Width′.Two = refl
+width-back Width′.Four = refl
+width-back Width′.Eight = refl
+
+-- every width has a number that a width may have, and each of these is the number of the width that it is read as
+pub width-one : (w : Width) → isWidth (widthNumber w) ≡ true
+width-one Width′.One = refl
+width-one Width′.Two = refl
+width-one Width′.Four = refl
+width-one Width′.Eight = refl
+
+pub width-number : (k : ℕ) → isWidth k ≡ true → widthNumber (widthOf k) ≡ k
+width-number k h = first (eqb k 1) (eqb k 2) (eqb k 4) (eqb k 8) refl refl refl refl h
+  where
+    first : (p q r s : Bool) → eqb k 1 ≡ p → eqb k 2 ≡ q → eqb k 4 ≡ r → eqb k 8 ≡ s → (p || (q || (r || s))) ≡ true → widthNumber (widthOf k) ≡ k
+    first true q r s e1 e2 e4 e8 t = rw (eqb-true k 1 e1)
+    first false true r s e1 e2 e4 e8 t = rw (eqb-true k 2 e2)
+    first false false true s e1 e2 e4 e8 t = rw (eqb-true k 4 e4)
+    first false false false true e1 e2 e4 e8 t = rw (eqb-true k 8 e8)
+    first false false false false e1 e2 e4 e8 t = cc
 
 pub flag-back : (q : Bool) → flagOf (flagNumber q) ≡ q
 flag-back true = refl

@@ -1,6 +1,5 @@
 -- The scalar of a storage format's texels (document 02, request 1): the source's Scalar::from(StorageFormat), proc/mod.rs, lines 34 to 86, and
 -- beside it document 02's words, by the format's name. That the two agree is `formats-named` (proofs/Formats.antt).
-use Prim.Native.Nat.{ℕ}
 use Prim.Native.Char.{code}
 use Prim.Native.String.{String}
 use Prim.Native.String as S
@@ -11,6 +10,8 @@ use lib.Dec.{eqb}
 use Rattle.ir.specs.declared.Scalar.{Scalar}
 use Rattle.ir.specs.declared.ScalarKind.{ScalarKind}
 use Rattle.ir.specs.declared.ScalarKind.the-variants as Sk
+use Rattle.ir.specs.declared.Width.{Width}
+use Rattle.ir.specs.declared.Width.the-variants as Wd
 use Rattle.ir.specs.declared.StorageFormat.{StorageFormat}
 use Rattle.ir.specs.declared.StorageFormat.the-variants as Sf
 use Rattle.ir.specs.Scalars.{I32, U32, F32, U64}
@@ -92,8 +93,8 @@ kindNamed n =
     (cond (endsIn "Float" n || (endsIn "Unorm" n || (endsIn "Snorm" n || endsIn "Ufloat" n))) (some Sk.Float) none))
 
 -- width 4, and 8 for R64Uint alone
-abbrev pub widthNamed : String → ℕ
-widthNamed n = cond (sameWord n "R64Uint") 8 4
+abbrev pub widthNamed : String → Width
+widthNamed n = cond (sameWord n "R64Uint") Wd.Eight Wd.Four
 
 -- the scalar of that kind, by the name's width; none where the name has no kind
 abbrev pub ofKind : String → Option ScalarKind → Option Scalar

@@ -1,7 +1,7 @@
 -- The numbers of kinds and cases (document 01, "The file"): one table for each enum, in the order of the source's declaration.
 -- `..Of` is the case that a number stands for, `..Number` a case's number.
 use Prim.Native.Nat.{ℕ, _+_, _*_, _-_, _/_, _%_}
-use mathlib.Core.Bool.{Bool, true, false, cond}
+use mathlib.Core.Bool.{Bool, true, false, cond, _||_}
 use mathlib.Core.List.{List, [], _∷_}
 use lib.Dec.{eqb}
 use lib.ListN.{getD}
@@ -20,6 +20,7 @@ use Rattle.ir.specs.declared.StorageAccess.{StorageAccess}
 use Rattle.ir.specs.declared.StorageFormat.{StorageFormat}
 use Rattle.ir.specs.declared.TypeKind.{TypeKind}
 use Rattle.ir.specs.declared.VectorSize.{VectorSize}
+use Rattle.ir.specs.declared.Width.{Width}
 use Rattle.ir.specs.declared.AddressSpace.the-variants as AddressSpace′
 use Rattle.ir.specs.declared.BinaryOperator.the-variants as BinaryOperator′
 use Rattle.ir.specs.declared.CooperativeRole.the-variants as CooperativeRole′
@@ -34,6 +35,7 @@ use Rattle.ir.specs.declared.ScalarKind.the-variants as ScalarKind′
 use Rattle.ir.specs.declared.StorageFormat.the-variants as StorageFormat′
 use Rattle.ir.specs.declared.TypeKind.the-variants as TypeKind′
 use Rattle.ir.specs.declared.VectorSize.the-variants as VectorSize′
+use Rattle.ir.specs.declared.Width.the-variants as Width′
 
 -- types, kinds 1 to 14 in `TypeInner` order ("The file", 1); 0 and every number past 14 are unknown
 abbrev pub typeKinds : List TypeKind
@@ -334,6 +336,19 @@ cooperativeSizeOf k = cond (eqb k 16) CooperativeSize′.Sixteen CooperativeSize
 abbrev pub cooperativeSizeNumber : CooperativeSize → ℕ
 cooperativeSizeNumber CooperativeSize′.Eight = 8
 cooperativeSizeNumber CooperativeSize′.Sixteen = 16
+
+-- a width is its number of bytes: 1, 2, 4 or 8 (document 02, request 2)
+abbrev pub isWidth : ℕ → Bool
+isWidth k = eqb k 1 || (eqb k 2 || (eqb k 4 || eqb k 8))
+
+abbrev pub widthOf : ℕ → Width
+widthOf k = cond (eqb k 2) Width′.Two (cond (eqb k 4) Width′.Four (cond (eqb k 8) Width′.Eight Width′.One))
+
+abbrev pub widthNumber : Width → ℕ
+widthNumber Width′.One = 1
+widthNumber Width′.Two = 2
+widthNumber Width′.Four = 4
+widthNumber Width′.Eight = 8
 
 -- a flag is 0 or 1
 abbrev pub flagOf : ℕ → Bool

@@ -50,71 +50,79 @@ pub enum ScalarKind {
     AbstractFloat,
 }
 
+// The width of a scalar in bytes, 1, 2, 4 or 8 (document 02, request 2). The source has any number of bytes, `Bytes`.
+pub enum Width {
+    One,
+    Two,
+    Four,
+    Eight,
+}
+
 pub struct Scalar {
     pub kind: ScalarKind,
-    pub width: u8,
+    pub width: Width,
 }
 
 // proc/type_methods.rs, lines 25 to 73
 impl Scalar {
     pub const I16: Self = Self {
         kind: ScalarKind::Sint,
-        width: 2,
+        width: Width::Two,
     };
 
     pub const U16: Self = Self {
         kind: ScalarKind::Uint,
-        width: 2,
+        width: Width::Two,
     };
 
     pub const I32: Self = Self {
         kind: ScalarKind::Sint,
-        width: 4,
+        width: Width::Four,
     };
 
     pub const U32: Self = Self {
         kind: ScalarKind::Uint,
-        width: 4,
+        width: Width::Four,
     };
 
     pub const F16: Self = Self {
         kind: ScalarKind::Float,
-        width: 2,
+        width: Width::Two,
     };
 
     pub const F32: Self = Self {
         kind: ScalarKind::Float,
-        width: 4,
+        width: Width::Four,
     };
 
     pub const F64: Self = Self {
         kind: ScalarKind::Float,
-        width: 8,
+        width: Width::Eight,
     };
 
     pub const I64: Self = Self {
         kind: ScalarKind::Sint,
-        width: 8,
+        width: Width::Eight,
     };
 
     pub const U64: Self = Self {
         kind: ScalarKind::Uint,
-        width: 8,
+        width: Width::Eight,
     };
 
     pub const BOOL: Self = Self {
         kind: ScalarKind::Bool,
-        width: 1,
+        width: Width::One,
     };
 
     pub const ABSTRACT_INT: Self = Self {
         kind: ScalarKind::AbstractInt,
-        width: 8,
+        width: Width::Eight,
     };
 
     pub const ABSTRACT_FLOAT: Self = Self {
         kind: ScalarKind::AbstractFloat,
-        width: 8,
+        width: Width::Eight,
     };
 }
 
@@ -376,7 +384,7 @@ pub enum ImageQuery {
 // The source's Option<Bytes>.
 pub enum OptionBytes {
     None,
-    Some(u8),
+    Some(Width),
 }
 
 // A row's expression, with what a row's frame carries. A compose's components are the frames of family 5 from `first` on,

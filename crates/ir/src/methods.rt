@@ -30,7 +30,9 @@ impl Scalar {
     {
         let kind = self.kind;
         let wanted = other.kind;
-        (kind.number() == wanted.number()) & (self.width == other.width)
+        let width = self.width;
+        let asked = other.width;
+        (kind.number() == wanted.number()) & (width.number() == asked.number())
     }
 }
 

@@ -15,11 +15,12 @@ use super::StorageAccess;
 use super::StorageFormat;
 use super::TypeKind;
 use super::VectorSize;
+use super::Width;
 ghost use mathlib.Core.Path.{_≡_};
 ghost use Prim.Native.Nat.{_≤_};
 ghost use lib.Dec.{eqb};
 ghost use Rattle.ir.specs.declared.RowKind.the-variants.{Compose};
-ghost use Rattle.ir.specs.Numbers.{typeKindOf, itemKindOf, rowKindOf, rowKindNumber, vectorSizeOf, vectorSizeNumber, cooperativeRoleOf, cooperativeRoleNumber, scalarKindOf, scalarKindNumber, imageDimensionOf, imageDimensionNumber, storageFormatOf, storageFormatNumber, literalOf, binaryOperatorOf, relationalFunctionOf, imageQueryOf, flagNumber, cooperativeSizeOf, cooperativeSizeNumber, accessOf, accessNumber, spaceOf, spaceNumber, spaceAccess};
+ghost use Rattle.ir.specs.Numbers.{typeKindOf, itemKindOf, rowKindOf, rowKindNumber, vectorSizeOf, vectorSizeNumber, cooperativeRoleOf, cooperativeRoleNumber, scalarKindOf, scalarKindNumber, imageDimensionOf, imageDimensionNumber, storageFormatOf, storageFormatNumber, literalOf, binaryOperatorOf, relationalFunctionOf, imageQueryOf, flagNumber, cooperativeSizeOf, cooperativeSizeNumber, widthOf, widthNumber, isWidth, accessOf, accessNumber, spaceOf, spaceNumber, spaceAccess};
 
 impl TypeKind {
     pub fn from_number(n: u8) -> Self
@@ -419,6 +420,40 @@ impl CooperativeSize {
             CooperativeSize::Eight => 8,
             CooperativeSize::Sixteen => 16,
         }
+    }
+}
+
+impl Width {
+    pub fn from_number(n: u8) -> Self
+        ensures { λ r. ⌜ r ≡ widthOf n ⌝ }
+    {
+        if n == 2 {
+            Width::Two
+        } else {
+            if n == 4 {
+                Width::Four
+            } else {
+                if n == 8 { Width::Eight } else { Width::One }
+            }
+        }
+    }
+
+    pub fn number(self) -> u8
+        ensures { λ r. ⌜ r ≡ widthNumber self ⌝ }
+    {
+        match self {
+            Width::One => 1,
+            Width::Two => 2,
+            Width::Four => 4,
+            Width::Eight => 8,
+        }
+    }
+
+    // Whether a width has this number.
+    pub fn is_number(n: u8) -> bool
+        ensures { λ r. ⌜ r ≡ isWidth n ⌝ }
+    {
+        (n == 1) | ((n == 2) | ((n == 4) | (n == 8)))
     }
 }
 

@@ -6,6 +6,7 @@ use ir::RowNumber;
 use ir::Scalar;
 use ir::TypeInner;
 use ir::VectorSize;
+use ir::Width;
 use row_operands::values::invalid_image;
 use row_operands::values::scalar_type;
 use row_operands::values::vector_type;
@@ -20,7 +21,10 @@ fn gathered_scalar(class: ImageClass) -> Scalar
     ensures { λ r. ⌜ r ≡ gatheredScalar class ⌝ }
 {
     match class {
-        ImageClass::Sampled { kind, multi: _ } => Scalar { kind, width: 4 },
+        ImageClass::Sampled { kind, multi: _ } => Scalar {
+            kind,
+            width: Width::Four,
+        },
         ImageClass::Depth { multi: _ } => Scalar::F32,
         ImageClass::External => Scalar::F32,
         ImageClass::Storage {
@@ -51,7 +55,10 @@ fn sampled_class(class: ImageClass) -> Answer
         ImageClass::Depth { multi: _ } => scalar_type(Scalar::F32),
         ImageClass::Sampled { kind, multi: _ } => vector_type(
             VectorSize::Quad,
-            Scalar { kind, width: 4 },
+            Scalar {
+                kind,
+                width: Width::Four,
+            },
         ),
         ImageClass::Storage { format, access: _ } => vector_type(VectorSize::Quad, format.scalar()),
         ImageClass::External => vector_type(VectorSize::Quad, Scalar::F32),

@@ -4,6 +4,7 @@ use ir::OptionBytes;
 use ir::Scalar;
 use ir::ScalarKind;
 use ir::TypeInner;
+use ir::Width;
 use row_operands::values::incompatible_operands;
 use row_operands::values::matrix_type;
 use row_operands::values::scalar_type;
@@ -41,7 +42,7 @@ pub fn logical_of(t: TypeInner) -> Answer
 }
 
 // The width converted to, or the own one.
-fn width_or(convert: OptionBytes, own: u8) -> u8
+fn width_or(convert: OptionBytes, own: Width) -> Width
     ensures { λ r. ⌜ r ≡ widthOr convert own ⌝ }
 {
     match convert {
@@ -56,11 +57,13 @@ pub fn cast_of(kind: ScalarKind, convert: OptionBytes, t: TypeInner) -> Answer
 {
     match t {
         TypeInner::Scalar(scalar) => {
-            let width = width_or(convert, scalar.width);
+            let had = scalar.width;
+            let width = width_or(convert, had);
             scalar_type(Scalar { kind, width })
         },
         TypeInner::Vector { size, scalar } => {
-            let width = width_or(convert, scalar.width);
+            let had = scalar.width;
+            let width = width_or(convert, had);
             vector_type(size, Scalar { kind, width })
         },
         TypeInner::Matrix {
@@ -69,7 +72,8 @@ pub fn cast_of(kind: ScalarKind, convert: OptionBytes, t: TypeInner) -> Answer
             scalar,
         } => {
             let own = scalar.kind;
-            let width = width_or(convert, scalar.width);
+            let had = scalar.width;
+            let width = width_or(convert, had);
             matrix_type(columns, rows, Scalar { kind: own, width })
         },
         _ => incompatible_operands(),

@@ -4,6 +4,7 @@ use Rattle.ir.specs.declared.RowNumber.{RowNumber}
 use Rattle.ir.specs.declared.VectorSize.the-variants as Vs
 use Rattle.ir.specs.declared.ScalarKind.{ScalarKind}
 use Rattle.ir.specs.declared.Scalar.{Scalar}
+use Rattle.ir.specs.declared.Width.the-variants as Wd
 use Rattle.ir.specs.declared.ImageDimension.{ImageDimension}
 use Rattle.ir.specs.declared.ImageDimension.the-variants as Id
 use Rattle.ir.specs.declared.ImageClass.{ImageClass}
@@ -23,7 +24,7 @@ use Rattle.rule_rows.specs.Steps.{operand, look, byType}
 
 -- the scalar of a sampled kind: its width is 4
 abbrev pub sampledScalar : ScalarKind → Scalar
-sampledScalar k = record { kind = k; width = 4 }
+sampledScalar k = record { kind = k; width = Wd.Four }
 
 -- IMAGESAMPLE with gather. WGSL: "Texture Built-in Functions", textureGather.
 

@@ -7,6 +7,7 @@ use Rattle.ir.specs.declared.CooperativeSize.{CooperativeSize}
 use Rattle.ir.specs.declared.CooperativeRole.{CooperativeRole}
 use Rattle.ir.specs.declared.ScalarKind.{ScalarKind}
 use Rattle.ir.specs.declared.Scalar.{Scalar}
+use Rattle.ir.specs.declared.Width.{Width}
 use Rattle.ir.specs.declared.BinaryOperator.{BinaryOperator}
 use Rattle.ir.specs.declared.BinaryOperator.the-variants as Bo
 use Rattle.ir.specs.declared.RelationalFunction.{RelationalFunction}
@@ -141,7 +142,7 @@ relational here Rf.IsInf argument = byType here argument boolsOf
 -- Functions".
 
 -- the width converted to; without one the width that was there
-abbrev pub widthOr : OptionBytes → ℕ → ℕ
+abbrev pub widthOr : OptionBytes → Width → Width
 widthOr (Ob.Some w) own = w
 widthOr Ob.None own = own
 

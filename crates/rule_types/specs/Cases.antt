@@ -52,6 +52,14 @@ table =
     ∷ case (short 9 200 0 0 0 0 0 0) (numbered 0) (told field) ∷ case (short 9 9 0 0 1 0 0 0) (numbered 3) (told field)
     ∷ case (short 1 1 0 0 2 4 0 0) (numbered 0) (told field) ∷ case (short 9 1 0 0 6 4 0 0) (short 9 1 0 0 6 4 0 0) (told field)
     ∷ case (short 9 8 0 0 0 0 0 0) (numbered 0) (told field)
+    -- 5: a width other than 1, 2, 4 and 8 (document 02, request 2) in each kind that holds a scalar, on either side, and of two identical frames
+    ∷ case (short 9 1 0 0 2 3 0 0) (numbered 0) (told field) ∷ case (numbered 0) (short 9 2 3 0 2 0 0 0) (told field)
+    ∷ case (short 9 3 2 2 2 5 0 0) (numbered 0) (told field) ∷ case (numbered 0) (short 9 4 8 8 2 7 0 0) (told field)
+    ∷ case (short 9 5 0 0 2 16 0 0) (numbered 0) (told field) ∷ case (numbered 2) (short 9 7 0 0 2 255 0 0) (told field)
+    ∷ case (short 9 1 0 0 2 3 0 0) (short 9 1 0 0 2 3 0 0) (told field)
+    -- with the other three widths it is another type
+    ∷ case (short 9 1 0 0 2 1 0 0) (numbered 0) (told unlike) ∷ case (short 9 1 0 0 2 2 0 0) (numbered 0) (told unlike)
+    ∷ case (short 9 1 0 0 2 8 0 0) (numbered 0) (told unlike)
     -- 6: a number, a base or an override out of range; a left 6 comes before a right 5, and in one frame 5 before 6
     ∷ case (numbered 8) (numbered 8) (told index) ∷ case (short 9 6 8 0 0 0 0 0) (numbered 0) (told index)
     ∷ case (short 9 8 0 0 1 0 0 0) (numbered 0) (told index) ∷ case (numbered 8) (short 8 1 0 0 0 0 0 0) (told index)

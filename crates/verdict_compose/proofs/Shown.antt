@@ -13,11 +13,12 @@ use Rattle.ir.specs.declared.TypeNumber.{TypeNumber}
 use Rattle.ir.specs.declared.RowNumber.{RowNumber}
 use Rattle.ir.specs.declared.ScalarKind.{ScalarKind}
 use Rattle.ir.specs.declared.Scalar.{Scalar}
+use Rattle.ir.specs.declared.Width.{Width}
 use Rattle.ir.specs.declared.TypeInner.{TypeInner}
 use Rattle.ir.specs.declared.TypeInner.the-variants as Ti
 use Rattle.ir.specs.declared.TypeForm.{TypeForm}
 use Rattle.ir.specs.declared.TypeForm.the-variants as Tf
-use Rattle.ir.specs.Numbers.{typeKindOf, spaceOf, scalarKindOf, vectorSizeOf}
+use Rattle.ir.specs.Numbers.{typeKindOf, spaceOf, scalarKindOf, widthOf, vectorSizeOf}
 use Rattle.answers.specs.declared.Answer.the-variants as An
 use Rattle.answers.specs.declared.Refusal.the-variants.{MissingSpecialType}
 use Rattle.frames.specs.declared.Frame.{Frame}
@@ -95,7 +96,7 @@ plain-form f h = go (eqb (byte f 1) 1) (eqb (byte f 1) 2) (eqb (byte f 1) 3) ref
     go false false true p q r o = record { inner = _; is = matrix-form f (eqb-true _ _ r) }
     go false false false p q r o = never (cc)
 
-abbrev made : ScalarKind → ℕ → Scalar
+abbrev made : ScalarKind → Width → Scalar
 made k w = record { kind = k; width = w }
 
 module _ (fr : List ℕ) (s : Starts) where
@@ -161,7 +162,7 @@ module _ (fr : List ℕ) (s : Starts) where
       e5 = eqb-true _ _ (and-second (eqb (byte f 4) (byte g 4)) _ h4)
 
       scalars : scalarShown g ≡ scalarShown f
-      scalars = sym (ap (λ (b : ℕ). made (scalarKindOf b) (byte f 5)) e4 ∙ ap (λ (b : ℕ). made (scalarKindOf (byte g 4)) b) e5)
+      scalars = sym (ap (λ (b : ℕ). made (scalarKindOf b) (widthOf (byte f 5))) e4 ∙ ap (λ (b : ℕ). made (scalarKindOf (byte g 4)) (widthOf b)) e5)
 
       go : (x y z : Bool) → eqb (byte f 1) 1 ≡ x → eqb (byte f 1) 2 ≡ y → eqb (byte f 1) 3 ≡ z → (x || (y || z)) ≡ true → Valued n f
       go true y z p q r o =

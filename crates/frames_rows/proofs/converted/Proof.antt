@@ -7,5 +7,6 @@ pub converted-spec : {M : Type 1} → statement M
 converted-spec =
     tie.close
     (tie.spec
-    (λ c. rw (eq-eqb _ _ (c .if1 .taken)))
+    (λ c κs. tt)
+    (λ c. rw (eq-eqb _ _ (c .before .if1 .taken), c .from-number .ensures))
     (λ c. rw (ne-eqb _ _ (c .if1 .left))))

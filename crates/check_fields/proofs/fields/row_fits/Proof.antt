@@ -4,7 +4,6 @@ use mathlib.Core.List.{[], _∷_}
 use Rattle.ir.proofs.Keys.{of-row-kinds}
 use Rattle.frames.specs.Fields.{fitsAll}
 use Rattle.frames.specs.Layout.{rowLayout}
-use borrow.Author.Needs.{needs}
 use Rattle.check_fields.proofs.fields.row_fits.Statement.{statement}
 use Rattle.check_fields.proofs.fields.row_fits.Tie as tie
 
@@ -33,7 +32,6 @@ row-fits-spec =
     (λ c κs. tt)
     (λ c κs. tt)
     (λ c. c .match .keys11)
-    (λ c. search needs)
     (λ c κs. tt)
     (λ c κs. tt)
     (λ c κs. tt)
@@ -67,9 +65,9 @@ row-fits-spec =
     ))
     (λ c.
     rw (
-      c .before .before .before .before .before .before .before .before .before .enum-told9 .given .1,
+      c .before .before .before .before .before .before .before .before .enum-told9 .given .1,
       c .zero-from-12 .ensures,
-      c .before .before .before .before .before .before .option-fits .ensures,
+      c .before .before .before .before .before .before .convert-fits .ensures,
     ))
     (λ c.
     let a = c .before .before .args in

@@ -14,10 +14,13 @@ type-fits-spec =
     (tie.spec
     (λ c. c .match .keys1)
     (λ c κs. tt)
+    (λ c κs. tt)
     (λ c. c .match .keys3)
     (λ c κs. tt)
     (λ c κs. tt)
+    (λ c κs. tt)
     (λ c. c .match .keys4)
+    (λ c κs. tt)
     (λ c κs. tt)
     (λ c κs. tt)
     (λ c κs. tt)
@@ -25,10 +28,12 @@ type-fits-spec =
     (λ c κs. tt)
     (λ c κs. tt)
     (λ c κs. tt)
+    (λ c κs. tt)
     (λ c. c .match .keys6)
     (λ c κs. tt)
     (λ c κs. tt)
     (λ c. c .match .keys7)
+    (λ c κs. tt)
     (λ c κs. tt)
     (λ c κs. tt)
     (λ c κs. tt)
@@ -49,19 +54,21 @@ type-fits-spec =
     (λ c. rw (c .enum-told .given .1))
     (λ c.
     let a = c .before .before .before .before .before .before .before .args in
-    rw (c .zero-from-8 .ensures)
+    rw (c .zero-from-8 .ensures, c .before .before .before .before .before .scalar-fits .ensures)
     (of-type-kinds (λ k. fitsAll (typeLayout k) (a .f)) (1 ∷ 5 ∷ []) refl (a .kind)
     (c .before .before .before .before .before .before .match .keys2)))
     (λ c.
     rw (
       c .before .before .before .before .before .before .enum-told2 .given .1,
       c .zero-from-82 .ensures,
+      c .before .before .before .before .scalar-fits2 .ensures,
       c .before .before .before .before .before .size-fits .ensures,
     ))
     (λ c.
     rw (
       c .before .before .before .before .before .before .enum-told3 .given .1,
       c .zero-from-83 .ensures,
+      c .before .before .before .scalar-fits3 .ensures,
       c .before .before .before .before .size-fits3 .ensures,
       c .before .before .before .before .before .size-fits2 .ensures,
     ))
@@ -69,6 +76,7 @@ type-fits-spec =
     rw (
       c .before .before .before .before .before .before .enum-told4 .given .1,
       c .zero-from-84 .ensures,
+      c .before .before .before .scalar-fits4 .ensures,
       c .before .before .before .before .cooperative-fits2 .ensures,
       c .before .before .before .before .before .cooperative-fits .ensures,
     ))
@@ -78,6 +86,7 @@ type-fits-spec =
     rw (
       c .before .before .before .before .before .enum-told6 .given .1,
       c .zero-from-86 .ensures,
+      c .before .before .before .scalar-fits5 .ensures,
       c .before .before .space-fits2 .ensures,
       c .before .before .before .before .option-size-fits .ensures,
     ))

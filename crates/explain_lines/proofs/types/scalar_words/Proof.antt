@@ -12,15 +12,15 @@ named-requires c κs = search needs
 pick-requires : tie.Need-pick-requires
 pick-requires c κs = search needs
 
-small-requires : tie.Need-small-requires
-small-requires c κs = search needs
+bytes-of-requires : tie.Need-bytes-of-requires
+bytes-of-requires c κs = search needs
 
 returns : tie.Need-returns
 unfolding scalarWords
 returns c =
     simp (
       eq-eqb _ _ (sym (c .before .before .before .named .ensures) ∙ c .before .before .if1 .taken),
-      c .small .ensures,
+      c .bytes-of .ensures,
       c .before .pick .ensures,
       c .before .before .before .named .ensures,
     )
@@ -31,4 +31,4 @@ returns-2 c = simp (ne-eqb _ _ (λ e. c .if1 .left (c .before .named .ensures �
 
 pub scalar-words-spec : {M : Type 1} → statement M
 scalar-words-spec =
-    tie.close (tie.spec named-requires pick-requires small-requires returns returns-2)
+    tie.close (tie.spec named-requires pick-requires bytes-of-requires returns returns-2)

@@ -8,4 +8,5 @@ scalar-spec =
     tie.close
     (tie.spec
     (λ c κs. search needs)
-    (λ c. rw (c .from-number .ensures)))
+    (λ c κs. search needs)
+    (λ c. rw (c .from-number2 .ensures, c .before .from-number .ensures)))

@@ -5,4 +5,9 @@ use Rattle.frames_answers.proofs.types.scalar_frame.Tie as tie
 
 pub scalar-frame-spec : {M : Type 1} → statement M
 scalar-frame-spec =
-    tie.close (tie.spec (λ c κs. search needs) (λ c κs. search needs) (λ c. rw (c .packed .ensures, c .before .number .ensures)))
+    tie.close
+    (tie.spec
+    (λ c κs. search needs)
+    (λ c κs. search needs)
+    (λ c κs. search needs)
+    (λ c. rw (c .packed .ensures, c .before .number2 .ensures, c .before .before .number .ensures)))

@@ -1,0 +1,4 @@
+pub mod Values
+pub mod Files
+pub mod Handed
+pub mod Answers
