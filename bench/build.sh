@@ -32,12 +32,12 @@ fn accepted(o: Outcome) -> usize {
 
 #[no_mangle]
 pub extern "C" fn bench_type_rows(text: &[u8], frames: &mut [u8], answers: &mut [u8]) -> usize {
-    accepted(type_rows(Pass::First, 1024, text, frames, answers))
+    accepted(type_rows(Pass::First, text, 1024, frames, answers))
 }
 
 #[no_mangle]
 pub extern "C" fn bench_read_file(text: &[u8], frames: &mut [u8]) -> usize {
-    accepted(read_file(1024, text, frames))
+    accepted(read_file(text, 1024, frames))
 }
 END
 echo 'bench_rows: answers rule_rows file_read file_rows' >>crates.txt

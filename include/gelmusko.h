@@ -5,6 +5,9 @@
  * a line. Any bytes may be handed in; what is no file is refused by its number. docs/RULES.md has the frames and the
  * rules.
  *
+ * THE LIMIT. `limit` is the most frames that the file may have, 1 to 1,024. Any other number counts as 1,024, and so
+ * does 0. It is new: callers of an earlier header hand in 0 after the text's length.
+ *
  * SLICES. Each slice is a pointer and a length in bytes. It must point to that many bytes, which the caller may read,
  * and, unless it is const, write. A slice of length 0 is neither read nor written, and its pointer may be null; a
  * null pointer with another length is undefined. Slices that are written (frames, answers, out) may not overlap each
@@ -59,7 +62,8 @@ extern "C" {
 
 /* what is returned */
 #define GELMUSKO_GIVEN 0u       /* what was asked for; of a comparison: the same type */
-#define GELMUSKO_LONG 1u        /* the text has over 33,792 bytes, as many as 1,024 lines have; place 1,024 */
+#define GELMUSKO_LONG 1u        /* the text has more than 33 bytes for each frame of the limit; place: the limit
+                                   that holds */
 #define GELMUSKO_TORN 2u        /* a line is not 32 lower-case digits and a line feed; place: the line, from 0 */
 #define GELMUSKO_SHORT 3u       /* a lent buffer is too short; place 0 */
 #define GELMUSKO_ORDER 4u       /* a frame of unknown family or item kind, out of order, or a second item of kind 7
@@ -74,25 +78,29 @@ extern "C" {
 #define GELMUSKO_NO_POINTER 257u /* a base: the type is no pointer. out: b0 = 10, number 0 */
 
 /* Whether a file is accepted. Returns 0 to 6. out: number 0 to 6. */
-uint32_t gelmusko_read_file(const uint8_t *text, size_t text_len, uint8_t *frames, size_t frames_len,
+uint32_t gelmusko_read_file(const uint8_t *text, size_t text_len, uint32_t limit,
+                            uint8_t *frames, size_t frames_len,
                             uint8_t *out, size_t out_len);
 
 /* Types every row and judges every compose. Returns 0 to 6. Of an accepted file `answers` has at its front, for each
  * row in order, its answer (b0 = 8, 9 or 10), and after a compose its verdict (b0 = 11); otherwise `answers` stays as
  * it was. out: number 0 to 6. */
-uint32_t gelmusko_type_rows(const uint8_t *text, size_t text_len, uint8_t *frames, size_t frames_len,
+uint32_t gelmusko_type_rows(const uint8_t *text, size_t text_len, uint32_t limit,
+                            uint8_t *frames, size_t frames_len,
                             uint8_t *answers, size_t answers_len, uint8_t *out, size_t out_len);
 
 /* The answer of one row. Returns 0 also where that answer is a refusal (10 to 20) or 22: it stands in out. Returns 1
  * to 6 where the file is refused, and 6 where it has no such row. The buffers are left as gelmusko_type_rows leaves
  * them, but `answers` as it was where there is no such row. */
-uint32_t gelmusko_row_type(const uint8_t *text, size_t text_len, uint8_t *frames, size_t frames_len,
+uint32_t gelmusko_row_type(const uint8_t *text, size_t text_len, uint32_t limit,
+                           uint8_t *frames, size_t frames_len,
                            uint8_t *answers, size_t answers_len, uint32_t row, uint8_t *out, size_t out_len);
 
 /* The verdict on one compose, by its row. Returns 0 also where the verdict is 22 or 30 to 33: it stands in out.
  * Returns 1 to 6 where the file is refused, and 6 where it has no such row, or the row is no compose; `answers` stays
  * as it was then, and is else as gelmusko_type_rows leaves it. */
-uint32_t gelmusko_compose_verdict(const uint8_t *text, size_t text_len, uint8_t *frames, size_t frames_len,
+uint32_t gelmusko_compose_verdict(const uint8_t *text, size_t text_len, uint32_t limit,
+                                  uint8_t *frames, size_t frames_len,
                                   uint8_t *answers, size_t answers_len, uint32_t row,
                                   uint8_t *out, size_t out_len);
 
@@ -100,18 +108,21 @@ uint32_t gelmusko_compose_verdict(const uint8_t *text, size_t text_len, uint8_t 
  * back. Returns 0 where they are, 256 where not, 22, 1 to 6 where the file is refused, 5 where a frame has another
  * length than 16, is no type number or value, or has a bad byte, and 6 where it names what the file does not have; the
  * left frame's 5 or 6 comes before the right one's. out: number 0 to 6 or 22. */
-uint32_t gelmusko_same_type(const uint8_t *text, size_t text_len, uint8_t *frames, size_t frames_len,
+uint32_t gelmusko_same_type(const uint8_t *text, size_t text_len, uint32_t limit,
+                            uint8_t *frames, size_t frames_len,
                             const uint8_t *left, size_t left_len, const uint8_t *right, size_t right_len,
                             uint8_t *out, size_t out_len);
 
 /* The canonical form of type n: of a pointer to a scalar or a vector the value pointer (b0 = 9), of any other type its
  * own number (b0 = 8). Returns 0 to 6 or 22. */
-uint32_t gelmusko_canonical_form(const uint8_t *text, size_t text_len, uint8_t *frames, size_t frames_len,
+uint32_t gelmusko_canonical_form(const uint8_t *text, size_t text_len, uint32_t limit,
+                                 uint8_t *frames, size_t frames_len,
                                  uint32_t n, uint8_t *out, size_t out_len);
 
 /* The base of type n: of a pointer its base's number (b0 = 8), of a value pointer the scalar or vector by value
  * (b0 = 9). Returns 0 to 6, 22, or 257 where type n is no pointer. */
-uint32_t gelmusko_pointer_base(const uint8_t *text, size_t text_len, uint8_t *frames, size_t frames_len,
+uint32_t gelmusko_pointer_base(const uint8_t *text, size_t text_len, uint32_t limit,
+                               uint8_t *frames, size_t frames_len,
                                uint32_t n, uint8_t *out, size_t out_len);
 
 /* The R16Unorm texel of a density in hundredths of a per cent, 0 to 10,000: density times 65,535 divided by 10,000,

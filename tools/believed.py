@@ -28,6 +28,7 @@ contract file_lines::type_text
 contract file_pointers::canonical_form
 contract file_pointers::pointer_base
 contract text_encode::write_text
+contract text_limit::limit_of
 contract explain_file::explain_text
 contract texel::texel_of
 contract gelmusko::*

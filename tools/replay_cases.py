@@ -2,8 +2,8 @@
 """Writes crates/replay/data/cases and crates/replay/stdout from the list below.
 
 The outcomes were written by hand from document 01 ("The file", "Numbers handed back"); no program made them.
-A case has a name, the text (frames, or bytes where the text is damaged), and the number and place that reading it must
-give; an accepted text has number 0 and its number of frames. The frame buffer is one frame longer than it must be, unless
+A case has a name, the text (frames, or bytes where the text is damaged), the limit of frames, 1,024 unless the case says
+another, and the number and place that reading it must give; an accepted text has number 0 and its number of frames. The frame buffer is one frame longer than it must be, unless
 the case says how long it is. Numbers 1 to 3 leave the buffer as it was lent, and so does a text without frames; otherwise
 the frames stand at its front, and its bytes past them stay.
 Run it from anywhere: python3 tools/replay_cases.py
@@ -13,9 +13,9 @@ import os
 CASES = []
 
 
-def store(name, text, room, number, place):
+def store(name, text, room, number, place, limit=1024):
     assert len(name) <= 40 and all(name != c[0] for c in CASES), name
-    CASES.append((name, text, room, number, place))
+    CASES.append((name, text, room, number, place, limit))
 
 
 def text_of(frames):
@@ -148,6 +148,23 @@ store('lines-1024-and-a-digit', LINE * 1024 + b'0', 16400, 1, 1024)
 store('lines-1025', LINE * 1025, 16400, 1, 1024)
 store('long-before-torn-and-short', b'x' * 33793, 16, 1, 1024)
 store('garbage-33792', b'x' * 33792, 16400, 2, 0)
+
+# ---- Number 1 within a limit (document 02, request 7): 1 to 1,024, any other counting as 1,024; more than 33 bytes for each of
+# its frames; place: the limit that holds. Then the order of the numbers, a torn line, a short buffer and disorder at the limit.
+HOLDS = {0: 1024, 1: 1, 255: 255, 256: 256, 257: 257, 1023: 1023, 1024: 1024, 1025: 1024, 65792: 1024}
+for asked, holds in HOLDS.items():
+    room = 16 * holds + 16
+    store('limit-%d-just' % asked, LINE * holds, room, 0, holds, asked)
+    store('limit-%d-and-a-digit' % asked, LINE * holds + b'0', room, 1, holds, asked)
+    store('limit-%d-and-a-line' % asked, LINE * (holds + 1), room + 16, 1, holds, asked)
+    store('limit-%d-garbage' % asked, b'x' * (33 * holds), room, 2, 0, asked)
+    store('limit-%d-garbage-and-one' % asked, b'x' * (33 * holds + 1), 0, 1, holds, asked)
+    store('limit-%d-torn-last' % asked, LINE * (holds - 1) + LINE[:-1] + b'0', room, 2, holds - 1, asked)
+    store('limit-%d-short' % asked, LINE * holds, 16 * holds - 1, 3, 0, asked)
+    store('limit-%d-one-line' % asked, LINE, 16, 0, 1, asked)
+    store('limit-%d-none' % asked, b'', 0, 0, 0, asked)
+    if holds > 1:
+        store('limit-%d-disorder' % asked, text_of([F32] * (holds - 2) + [LIT, F32]), room, 4, holds - 1, asked)
 
 # ---- Number 2: the lowest line that isn't 32 digits and a line feed.
 store('empty-text', b'', 16, 0, 0)
@@ -853,8 +870,8 @@ index('index-at-1023', 1023, [F32] * 1023 + [pointer(1023)])
 def main():
     top = os.path.join(os.path.dirname(os.path.abspath(__file__)), '..', 'crates', 'replay')
     with open(os.path.join(top, 'data', 'cases'), 'wb') as data, open(os.path.join(top, 'stdout'), 'w') as out:
-        for name, text, room, number, place in CASES:
-            data.write(b'%-40s %05d %05d\n' % (name.encode(), room, len(text)) + text + b'\n')
+        for name, text, room, number, place, limit in CASES:
+            data.write(b'%-40s %05d %05d %05d\n' % (name.encode(), room, len(text), limit) + text + b'\n')
             buffer = 'kept' if number in (1, 2, 3) or not text else 'written'
             out.write('%-40s %d %d %s\n' % (name, number, place, buffer))
     print(len(CASES), 'cases')

@@ -9,7 +9,7 @@ const LENT: u8 = 238;
 fn number(outcome: Outcome) -> (u32, u32) {
     match outcome {
         Outcome::Accepted => (0, 0),
-        Outcome::Long => (1, 1024),
+        Outcome::Long { limit } => (1, limit.into()),
         Outcome::Torn { line } => (2, line.into()),
         Outcome::Short => (3, 0),
         Outcome::Order { frame } => (4, frame.into()),

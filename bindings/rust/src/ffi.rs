@@ -3,6 +3,7 @@ extern "C" {
     pub fn gelmusko_read_file(
         text: *const u8,
         text_len: usize,
+        limit: u32,
         frames: *mut u8,
         frames_len: usize,
         out: *mut u8,
@@ -11,6 +12,7 @@ extern "C" {
     pub fn gelmusko_type_rows(
         text: *const u8,
         text_len: usize,
+        limit: u32,
         frames: *mut u8,
         frames_len: usize,
         answers: *mut u8,
@@ -21,6 +23,7 @@ extern "C" {
     pub fn gelmusko_row_type(
         text: *const u8,
         text_len: usize,
+        limit: u32,
         frames: *mut u8,
         frames_len: usize,
         answers: *mut u8,
@@ -32,6 +35,7 @@ extern "C" {
     pub fn gelmusko_compose_verdict(
         text: *const u8,
         text_len: usize,
+        limit: u32,
         frames: *mut u8,
         frames_len: usize,
         answers: *mut u8,
@@ -43,6 +47,7 @@ extern "C" {
     pub fn gelmusko_same_type(
         text: *const u8,
         text_len: usize,
+        limit: u32,
         frames: *mut u8,
         frames_len: usize,
         left: *const u8,
@@ -55,6 +60,7 @@ extern "C" {
     pub fn gelmusko_canonical_form(
         text: *const u8,
         text_len: usize,
+        limit: u32,
         frames: *mut u8,
         frames_len: usize,
         n: u32,
@@ -64,6 +70,7 @@ extern "C" {
     pub fn gelmusko_pointer_base(
         text: *const u8,
         text_len: usize,
+        limit: u32,
         frames: *mut u8,
         frames_len: usize,
         n: u32,

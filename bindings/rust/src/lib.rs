@@ -65,8 +65,10 @@ pub fn frames_of(buffer: &[u8]) -> impl Iterator<Item = Frame> + '_ {
 #[derive(Clone, Copy, Debug, PartialEq, Eq)]
 pub enum Outcome {
     Accepted,
-    /// 1: over 1,024 lines.
-    Long,
+    /// 1: the text has more than 33 bytes for each frame of the limit that holds, which it names.
+    Long {
+        limit: u16,
+    },
     /// 2: that line is not 32 lower-case digits and a line feed.
     Torn {
         line: u16,
@@ -219,7 +221,9 @@ impl Outcome {
     fn of(frame: Frame) -> Outcome {
         match frame.0[1] {
             0 => Outcome::Accepted,
-            1 => Outcome::Long,
+            1 => Outcome::Long {
+                limit: frame.place(),
+            },
             2 => Outcome::Torn {
                 line: frame.place(),
             },
@@ -306,165 +310,231 @@ impl Output {
     }
 }
 
+/// The most frames that a file may have, 1 to 1,024; any other number counts as 1,024, which is the default. Number 1 names it as its place. A file within two limits is
+/// answered alike at either.
+#[derive(Clone, Copy, Debug, PartialEq, Eq)]
+pub struct Limit(pub u32);
+
+impl Default for Limit {
+    fn default() -> Self {
+        Limit(1_024)
+    }
+}
+
 // In each call below the slices are those of references, so they point to as many bytes as they say, and those that are written overlap no other.
+impl Limit {
+    /// Whether a file is accepted. After numbers 1 to 3 the buffer is as it was; else the text's frames stand at its front.
+    pub fn read_file(self, text: &[u8], frames: &mut [u8]) -> Outcome {
+        let mut out = Frame::default();
+        unsafe {
+            ffi::gelmusko_read_file(
+                text.as_ptr(),
+                text.len(),
+                self.0,
+                frames.as_mut_ptr(),
+                frames.len(),
+                out.0.as_mut_ptr(),
+                16,
+            )
+        };
+        Outcome::of(out)
+    }
 
-/// Whether a file is accepted. After numbers 1 to 3 the buffer is as it was; else the text's frames stand at its front.
+    /// Types every row and judges every compose. Of an accepted file the answers and verdicts stand at the front of the answer buffer; else that is as it was.
+    pub fn type_rows(self, text: &[u8], frames: &mut [u8], answers: &mut [u8]) -> Outcome {
+        let mut out = Frame::default();
+        unsafe {
+            ffi::gelmusko_type_rows(
+                text.as_ptr(),
+                text.len(),
+                self.0,
+                frames.as_mut_ptr(),
+                frames.len(),
+                answers.as_mut_ptr(),
+                answers.len(),
+                out.0.as_mut_ptr(),
+                16,
+            )
+        };
+        Outcome::of(out)
+    }
+
+    /// The answer of one row, with the buffers as [`Limit::type_rows`] leaves them; number 6, and the answer buffer as it was, where the file has no such row.
+    pub fn row_type(
+        self,
+        text: &[u8],
+        frames: &mut [u8],
+        answers: &mut [u8],
+        row: u32,
+    ) -> Result<Answer, Outcome> {
+        let mut out = Frame::default();
+        let number = unsafe {
+            ffi::gelmusko_row_type(
+                text.as_ptr(),
+                text.len(),
+                self.0,
+                frames.as_mut_ptr(),
+                frames.len(),
+                answers.as_mut_ptr(),
+                answers.len(),
+                row,
+                out.0.as_mut_ptr(),
+                16,
+            )
+        };
+        if number == 0 {
+            Ok(Answer::of(out))
+        } else {
+            Err(Outcome::of(out))
+        }
+    }
+
+    /// The verdict on one compose, by its row, with the buffers as [`Limit::type_rows`] leaves them; number 6, and the answer buffer as it was, where the file has no such row or the row is
+    /// no compose.
+    pub fn compose_verdict(
+        self,
+        text: &[u8],
+        frames: &mut [u8],
+        answers: &mut [u8],
+        row: u32,
+    ) -> Result<Verdict, Outcome> {
+        let mut out = Frame::default();
+        let number = unsafe {
+            ffi::gelmusko_compose_verdict(
+                text.as_ptr(),
+                text.len(),
+                self.0,
+                frames.as_mut_ptr(),
+                frames.len(),
+                answers.as_mut_ptr(),
+                answers.len(),
+                row,
+                out.0.as_mut_ptr(),
+                16,
+            )
+        };
+        if number == 0 {
+            Ok(Verdict::of(out))
+        } else {
+            Err(Outcome::of(out))
+        }
+    }
+
+    /// Whether two types of a file are the same. Each is a frame of family 8 or 9, as [`Type::frame`] gives it; one of another length than 16 gets 5.
+    pub fn same_type(self, text: &[u8], frames: &mut [u8], left: &[u8], right: &[u8]) -> Sameness {
+        let mut out = Frame::default();
+        let number = unsafe {
+            ffi::gelmusko_same_type(
+                text.as_ptr(),
+                text.len(),
+                self.0,
+                frames.as_mut_ptr(),
+                frames.len(),
+                left.as_ptr(),
+                left.len(),
+                right.as_ptr(),
+                right.len(),
+                out.0.as_mut_ptr(),
+                16,
+            )
+        };
+        match number {
+            0 => Sameness::Same,
+            DIFFERENT => Sameness::Different,
+            22 => Sameness::Newer,
+            _ => Sameness::Refused(Outcome::of(out)),
+        }
+    }
+
+    /// The canonical form of type n: of a pointer to a scalar or a vector the value pointer, of any other type its own number.
+    pub fn canonical_form(self, text: &[u8], frames: &mut [u8], n: u32) -> CanonicalForm {
+        let mut out = Frame::default();
+        let number = unsafe {
+            ffi::gelmusko_canonical_form(
+                text.as_ptr(),
+                text.len(),
+                self.0,
+                frames.as_mut_ptr(),
+                frames.len(),
+                n,
+                out.0.as_mut_ptr(),
+                16,
+            )
+        };
+        match number {
+            0 => CanonicalForm::Form(Type::of(out)),
+            22 => CanonicalForm::Newer,
+            _ => CanonicalForm::Refused(Outcome::of(out)),
+        }
+    }
+
+    /// The base of type n: of a pointer its base's number, of a value pointer the scalar or vector by value.
+    pub fn pointer_base(self, text: &[u8], frames: &mut [u8], n: u32) -> PointerBase {
+        let mut out = Frame::default();
+        let number = unsafe {
+            ffi::gelmusko_pointer_base(
+                text.as_ptr(),
+                text.len(),
+                self.0,
+                frames.as_mut_ptr(),
+                frames.len(),
+                n,
+                out.0.as_mut_ptr(),
+                16,
+            )
+        };
+        match number {
+            0 => PointerBase::Base(Type::of(out)),
+            NO_POINTER => PointerBase::NotPointer,
+            22 => PointerBase::Newer,
+            _ => PointerBase::Refused(Outcome::of(out)),
+        }
+    }
+}
+
+/// [`Limit::read_file`] within 1,024 frames.
 pub fn read_file(text: &[u8], frames: &mut [u8]) -> Outcome {
-    let mut out = Frame::default();
-    unsafe {
-        ffi::gelmusko_read_file(
-            text.as_ptr(),
-            text.len(),
-            frames.as_mut_ptr(),
-            frames.len(),
-            out.0.as_mut_ptr(),
-            16,
-        )
-    };
-    Outcome::of(out)
+    Limit::default().read_file(text, frames)
 }
 
-/// Types every row and judges every compose. Of an accepted file the answers and verdicts stand at the front of the answer buffer; else that is as it was.
+/// [`Limit::type_rows`] within 1,024 frames.
 pub fn type_rows(text: &[u8], frames: &mut [u8], answers: &mut [u8]) -> Outcome {
-    let mut out = Frame::default();
-    unsafe {
-        ffi::gelmusko_type_rows(
-            text.as_ptr(),
-            text.len(),
-            frames.as_mut_ptr(),
-            frames.len(),
-            answers.as_mut_ptr(),
-            answers.len(),
-            out.0.as_mut_ptr(),
-            16,
-        )
-    };
-    Outcome::of(out)
+    Limit::default().type_rows(text, frames, answers)
 }
 
-/// The answer of one row, with the buffers as [`type_rows`] leaves them; number 6, and the answer buffer as it was, where the file has no such row.
+/// [`Limit::row_type`] within 1,024 frames.
 pub fn row_type(
     text: &[u8],
     frames: &mut [u8],
     answers: &mut [u8],
     row: u32,
 ) -> Result<Answer, Outcome> {
-    let mut out = Frame::default();
-    let number = unsafe {
-        ffi::gelmusko_row_type(
-            text.as_ptr(),
-            text.len(),
-            frames.as_mut_ptr(),
-            frames.len(),
-            answers.as_mut_ptr(),
-            answers.len(),
-            row,
-            out.0.as_mut_ptr(),
-            16,
-        )
-    };
-    if number == 0 {
-        Ok(Answer::of(out))
-    } else {
-        Err(Outcome::of(out))
-    }
+    Limit::default().row_type(text, frames, answers, row)
 }
 
-/// The verdict on one compose, by its row, with the buffers as [`type_rows`] leaves them; number 6, and the answer buffer as it was, where the file has no such row or the row is
-/// no compose.
+/// [`Limit::compose_verdict`] within 1,024 frames.
 pub fn compose_verdict(
     text: &[u8],
     frames: &mut [u8],
     answers: &mut [u8],
     row: u32,
 ) -> Result<Verdict, Outcome> {
-    let mut out = Frame::default();
-    let number = unsafe {
-        ffi::gelmusko_compose_verdict(
-            text.as_ptr(),
-            text.len(),
-            frames.as_mut_ptr(),
-            frames.len(),
-            answers.as_mut_ptr(),
-            answers.len(),
-            row,
-            out.0.as_mut_ptr(),
-            16,
-        )
-    };
-    if number == 0 {
-        Ok(Verdict::of(out))
-    } else {
-        Err(Outcome::of(out))
-    }
+    Limit::default().compose_verdict(text, frames, answers, row)
 }
 
-/// Whether two types of a file are the same. Each is a frame of family 8 or 9, as [`Type::frame`] gives it; one of another length than 16 gets 5.
+/// [`Limit::same_type`] within 1,024 frames.
 pub fn same_type(text: &[u8], frames: &mut [u8], left: &[u8], right: &[u8]) -> Sameness {
-    let mut out = Frame::default();
-    let number = unsafe {
-        ffi::gelmusko_same_type(
-            text.as_ptr(),
-            text.len(),
-            frames.as_mut_ptr(),
-            frames.len(),
-            left.as_ptr(),
-            left.len(),
-            right.as_ptr(),
-            right.len(),
-            out.0.as_mut_ptr(),
-            16,
-        )
-    };
-    match number {
-        0 => Sameness::Same,
-        DIFFERENT => Sameness::Different,
-        22 => Sameness::Newer,
-        _ => Sameness::Refused(Outcome::of(out)),
-    }
+    Limit::default().same_type(text, frames, left, right)
 }
 
-/// The canonical form of type n: of a pointer to a scalar or a vector the value pointer, of any other type its own number.
+/// [`Limit::canonical_form`] within 1,024 frames.
 pub fn canonical_form(text: &[u8], frames: &mut [u8], n: u32) -> CanonicalForm {
-    let mut out = Frame::default();
-    let number = unsafe {
-        ffi::gelmusko_canonical_form(
-            text.as_ptr(),
-            text.len(),
-            frames.as_mut_ptr(),
-            frames.len(),
-            n,
-            out.0.as_mut_ptr(),
-            16,
-        )
-    };
-    match number {
-        0 => CanonicalForm::Form(Type::of(out)),
-        22 => CanonicalForm::Newer,
-        _ => CanonicalForm::Refused(Outcome::of(out)),
-    }
+    Limit::default().canonical_form(text, frames, n)
 }
 
-/// The base of type n: of a pointer its base's number, of a value pointer the scalar or vector by value.
+/// [`Limit::pointer_base`] within 1,024 frames.
 pub fn pointer_base(text: &[u8], frames: &mut [u8], n: u32) -> PointerBase {
-    let mut out = Frame::default();
-    let number = unsafe {
-        ffi::gelmusko_pointer_base(
-            text.as_ptr(),
-            text.len(),
-            frames.as_mut_ptr(),
-            frames.len(),
-            n,
-            out.0.as_mut_ptr(),
-            16,
-        )
-    };
-    match number {
-        0 => PointerBase::Base(Type::of(out)),
-        NO_POINTER => PointerBase::NotPointer,
-        22 => PointerBase::Newer,
-        _ => PointerBase::Refused(Outcome::of(out)),
-    }
+    Limit::default().pointer_base(text, frames, n)
 }
 
 /// The R16Unorm texel of a density in hundredths of a per cent, 0 to 10,000: the nearest to as large a part of 65,535, of two that are equally near the even one.

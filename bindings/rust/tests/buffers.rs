@@ -89,8 +89,8 @@ fn long_and_torn_files_change_no_buffer() {
     let mut more = text(PAPER);
     more.push(b'\n');
     for (file, outcome) in [
-        (lines(1025), Outcome::Long),
-        (vec![0; 33_793], Outcome::Long),
+        (lines(1025), Outcome::Long { limit: 1_024 }),
+        (vec![0; 33_793], Outcome::Long { limit: 1_024 }),
         (vec![0; 33_792], Outcome::Torn { line: 0 }),
         (upper, Outcome::Torn { line: 2 }),
         (cut, Outcome::Torn { line: 10 }),
@@ -154,13 +154,13 @@ fn with_out(
         (function(out.as_mut_ptr()), out)
     };
     vec![
-        call(&|o| unsafe { ffi::gelmusko_read_file(t, n, f, m, o, out_bytes) }),
-        call(&|o| unsafe { ffi::gelmusko_type_rows(t, n, f, m, a, k, o, out_bytes) }),
-        call(&|o| unsafe { ffi::gelmusko_row_type(t, n, f, m, a, k, 0, o, out_bytes) }),
-        call(&|o| unsafe { ffi::gelmusko_compose_verdict(t, n, f, m, a, k, 2, o, out_bytes) }),
-        call(&|o| unsafe { ffi::gelmusko_same_type(t, n, f, m, l, z, l, z, o, out_bytes) }),
-        call(&|o| unsafe { ffi::gelmusko_canonical_form(t, n, f, m, 0, o, out_bytes) }),
-        call(&|o| unsafe { ffi::gelmusko_pointer_base(t, n, f, m, 0, o, out_bytes) }),
+        call(&|o| unsafe { ffi::gelmusko_read_file(t, n, 0, f, m, o, out_bytes) }),
+        call(&|o| unsafe { ffi::gelmusko_type_rows(t, n, 0, f, m, a, k, o, out_bytes) }),
+        call(&|o| unsafe { ffi::gelmusko_row_type(t, n, 0, f, m, a, k, 0, o, out_bytes) }),
+        call(&|o| unsafe { ffi::gelmusko_compose_verdict(t, n, 0, f, m, a, k, 2, o, out_bytes) }),
+        call(&|o| unsafe { ffi::gelmusko_same_type(t, n, 0, f, m, l, z, l, z, o, out_bytes) }),
+        call(&|o| unsafe { ffi::gelmusko_canonical_form(t, n, 0, f, m, 0, o, out_bytes) }),
+        call(&|o| unsafe { ffi::gelmusko_pointer_base(t, n, 0, f, m, 0, o, out_bytes) }),
     ]
 }
 

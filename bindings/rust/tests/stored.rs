@@ -20,6 +20,7 @@ fn handed_back(text: &[u8]) -> Vec<Frame> {
         ffi::gelmusko_type_rows(
             text.as_ptr(),
             text.len(),
+            0,
             frames.as_mut_ptr(),
             frames.len(),
             answers.as_mut_ptr(),
@@ -94,7 +95,7 @@ fn word(text: &[u8], left: &[u8], right: &[u8]) -> String {
         Sameness::Newer => "22".into(),
         Sameness::Refused(outcome) => match outcome {
             Outcome::Accepted => unreachable!(),
-            Outcome::Long => "1".into(),
+            Outcome::Long { .. } => "1".into(),
             Outcome::Torn { .. } => "2".into(),
             Outcome::Short => "3".into(),
             Outcome::Order { .. } => "4".into(),

@@ -44,7 +44,7 @@ lent c = replicate (sized (length (lines (c .lines))) (c .room)) 7
 
 -- what is given, and what is left of the buffer
 abbrev given : Case → Printed × List ℕ
-given c = (printed (explained (lines (c .text))) (length (lent c)), printedAfter (explained (lines (c .text))) (lent c))
+given c = (printed (explained (c .limit) (lines (c .text))) (length (lent c)), printedAfter (explained (c .limit) (lines (c .text))) (lent c))
 
 abbrev left : List ℕ → Room → Printed × List ℕ
 left l (over k) = (Bytes (length l), l ++ replicate k 7)

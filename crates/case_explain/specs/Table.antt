@@ -2,21 +2,23 @@
 use Prim.Native.Nat.{ℕ}
 use Prim.Native.String.{String}
 use mathlib.Core.List.{List, [], _∷_}
+use Rattle.answers.specs.Limit.{maxFrames}
 use Rattle.case_file.specs.Table.{paper, composes, noCount}
 
 -- the length of an output buffer: so many bytes more than the lines have, or so many fewer
 pub data Room : Type 0 where
   over below : ℕ → Room
 
--- a text, all of its lines, and an output buffer's length
+-- a text and a limit of frames, all of its lines, and an output buffer's length
 pub record Case : Type 0 where
   pub text : List String
+  pub limit : ℕ
   pub lines : List String
   pub room : Room
 
 -- with just the room for them
 abbrev whole : List String → List String → Case
-whole t l = record { text = t; lines = l; room = over 0 }
+whole t l = record { text = t; limit = maxFrames; lines = l; room = over 0 }
 
 -- values of: a bool of four bytes, which has no name; a storage image; a pointer to a struct in storage; a struct
 abbrev values : List String
@@ -57,8 +59,11 @@ table =
     ∷ whole ("01010000020300000000000000000000" ∷ []) ("line 1: number 5, field: a byte is outside its values" ∷ [])
     ∷ whole ("0101" ∷ []) ("line 1: number 2, torn: not 32 digits and a line feed" ∷ [])
     ∷ whole [] []
+    -- a text of eight lines, within seven frames; a limit of 0 counts as 1,024
+    ∷ record { text = values; limit = 7; lines = "number 1, long: over 7 frames (231 bytes)" ∷ []; room = over 0 }
+    ∷ record { text = "0101" ∷ []; limit = 0; lines = "line 1: number 2, torn: not 32 digits and a line feed" ∷ []; room = over 0 }
     -- bytes past the lines stay; one byte too few, and none at all, is number 3 and changes nothing
-    ∷ record { text = noCount; lines = "line 2: number 5, field: a byte is outside its values" ∷ []; room = over 3 }
-    ∷ record { text = noCount; lines = "line 2: number 5, field: a byte is outside its values" ∷ []; room = below 1 }
-    ∷ record { text = "0101" ∷ []; lines = "line 1: number 2, torn: not 32 digits and a line feed" ∷ []; room = below 54 }
+    ∷ record { text = noCount; limit = maxFrames; lines = "line 2: number 5, field: a byte is outside its values" ∷ []; room = over 3 }
+    ∷ record { text = noCount; limit = maxFrames; lines = "line 2: number 5, field: a byte is outside its values" ∷ []; room = below 1 }
+    ∷ record { text = "0101" ∷ []; limit = maxFrames; lines = "line 1: number 2, torn: not 32 digits and a line feed" ∷ []; room = below 54 }
     ∷ []

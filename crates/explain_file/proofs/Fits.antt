@@ -7,7 +7,7 @@ use mathlib.Core.List.{List}
 use lib.ListN.{length}
 use Rattle.answers.specs.declared.Outcome.{Outcome}
 use Rattle.answers.specs.declared.Outcome.the-variants.{Accepted, Long, Torn, Short, Order, Field, Index}
-use Rattle.answers.specs.Limit.{maxFrames, maxFrameBytes, maxAnswerBytes}
+use Rattle.answers.specs.Limit.{maxFrameBytes, maxAnswerBytes}
 use Rattle.text.specs.declared.AnswerRoom.the-variants.{Lent}
 use Rattle.text.specs.Lines.{decoded}
 use Rattle.frames.specs.Bytes.{frameAt, frameCount}
@@ -24,15 +24,15 @@ use Rattle.explain_file.proofs.Fitting.{joined-long}
 fault-fits : (o : Outcome) → length (allOf (faultLines o)) ≤ maxExplainedBytes
 fault-fits o = omega (arith, joined-long (faultLines o .line) 1 (λ k. fault-long (outcomeFrame o)))
 
-pub explained-fits : (t : List ℕ) → length (explained t) ≤ maxExplainedBytes
+pub explained-fits : (limit : ℕ) (t : List ℕ) → length (explained limit t) ≤ maxExplainedBytes
 unfolding linesOf
-explained-fits t = go (readFile maxFrames t maxFrameBytes (Lent maxAnswerBytes)) refl
+explained-fits limit t = go (readFile limit t maxFrameBytes (Lent maxAnswerBytes)) refl
   where
-    go : (o : Outcome) → readFile maxFrames t maxFrameBytes (Lent maxAnswerBytes) ≡ o → length (allOf (overFile faultLines fileLines t o)) ≤ maxExplainedBytes
+    go : (o : Outcome) → readFile limit t maxFrameBytes (Lent maxAnswerBytes) ≡ o → length (allOf (overFile faultLines fileLines t o)) ≤ maxExplainedBytes
     go (Accepted n) e =
         let fr = decoded t n in
         let an = outputBytes First fr in
-        omega (arith, joined-long (lineAt fr an) (frameCount an) (λ k. line-long fr (rowAt an k) (frameAt an k)), few-outputs First maxFrames t maxFrameBytes maxAnswerBytes n e)
+        omega (arith, joined-long (lineAt fr an) (frameCount an) (λ k. line-long fr (rowAt an k) (frameAt an k)), few-outputs First limit t maxFrameBytes maxAnswerBytes n e)
     go (Long m) e = fault-fits (Long m)
     go (Torn k) e = fault-fits (Torn k)
     go Short e = fault-fits Short

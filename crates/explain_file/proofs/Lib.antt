@@ -1,3 +1,4 @@
 pub mod Fitting
 pub mod File
 pub mod Fits
+pub mod Alike

@@ -59,13 +59,13 @@ fileLines fr = answerLines fr (outputBytes First fr)
 abbrev pub faultLines : Outcome → Lines
 faultLines o = record { count = 1; line = λ (k : ℕ). faultOf (outcomeFrame o) }
 
--- those of a text, with buffers of the largest sizes that a file asks for
-unfoldable pub linesOf : List ℕ → Lines
-linesOf t = overFile faultLines fileLines t (readFile maxFrames t maxFrameBytes (Lent maxAnswerBytes))
+-- those of a text within a limit, with buffers of the largest sizes that a file asks for
+unfoldable pub linesOf : (limit : ℕ) → List ℕ → Lines
+linesOf limit t = overFile faultLines fileLines t (readFile limit t maxFrameBytes (Lent maxAnswerBytes))
 
 -- THE TEXT for people
-abbrev pub explained : List ℕ → List ℕ
-explained t = allOf (linesOf t)
+abbrev pub explained : (limit : ℕ) → List ℕ → List ℕ
+explained limit t = allOf (linesOf limit t)
 
 -- the bytes that it fits into, whatever the file: two lines for each frame, of at most 142 bytes each
 abbrev pub maxExplainedBytes : ℕ

@@ -2,7 +2,6 @@
 use answers::MAX_ANSWER_BYTES;
 use answers::MAX_FRAME_BYTES;
 use answers::MAX_FRAMES;
-use answers::MAX_LIMIT;
 use answers::Outcome;
 use answers::Printed;
 use explain_lines::lines::put_fault;
@@ -75,6 +74,7 @@ fn explain_fault(o: Outcome, line: &mut [u8], out: &mut [u8]) -> usize
 // The lines of a text, over lent buffers of the largest sizes that a file asks for.
 fn explain_with(
     text: &[u8],
+    limit: u32,
     frames: &mut [u8],
     answers: &mut [u8],
     line: &mut [u8],
@@ -84,9 +84,9 @@ fn explain_with(
     requires answers { ⌜ length (now answers) ≡ maxAnswerBytes ⌝ }
     requires line { ⌜ length (now line) ≡ 1056 ⌝ }
     requires out { ⌜ length (now out) ≡ maxExplainedBytes ⌝ }
-    ensures { λ r. ⌜ Shown (linesOf (now (text .entry))) (now (out .entry)) r (now (out .exit)) ⌝ }
+    ensures { λ r. ⌜ Shown (linesOf limit (now (text .entry))) (now (out .entry)) r (now (out .exit)) ⌝ }
 {
-    let typed = type_file(Pass::First, MAX_LIMIT, text, frames, answers);
+    let typed = type_file(Pass::First, text, limit, frames, answers);
     let read = typed.outcome;
     match frames_in(read) {
         OptionUsize::None => explain_fault(read, line, out),
@@ -100,17 +100,24 @@ fn explain_with(
 
 // Explains a file: writes its lines, and gives how many bytes they are; where the output buffer is too small it gives number 3 and changes nothing. MAX_EXPLAINED_BYTES are room
 // for any file's (`explained-fits`, proofs/Fits.antt).
-pub fn explain_text(text: &[u8], out: &mut [u8]) -> Printed
-    ensures outcome { λ r. ⌜ r ≡ printed (explained (now (text .entry))) (length (now (out .entry))) ⌝ }
+pub fn explain_text(text: &[u8], limit: u32, out: &mut [u8]) -> Printed
+    ensures outcome { λ r. ⌜ r ≡ printed (explained limit (now (text .entry))) (length (now (out .entry))) ⌝ }
     ensures said { λ r. ⌜ printedSaid r
-        ≡ printedSaid (printed (explained (now (text .entry))) (length (now (out .entry)))) ⌝ }
-    ensures out { λ r. ⌜ now (out .exit) ≡ printedAfter (explained (now (text .entry))) (now (out .entry)) ⌝ }
+        ≡ printedSaid (printed (explained limit (now (text .entry))) (length (now (out .entry)))) ⌝ }
+    ensures out { λ r. ⌜ now (out .exit) ≡ printedAfter (explained limit (now (text .entry))) (now (out .entry)) ⌝ }
 {
     let mut frames = [0u8; MAX_FRAME_BYTES];
     let mut answers = [0u8; MAX_ANSWER_BYTES];
     let mut line = [0u8; 1056];
     let mut lines = [0u8; MAX_EXPLAINED_BYTES];
-    let m = explain_with(text, &mut frames, &mut answers, &mut line, &mut lines);
+    let m = explain_with(
+        text,
+        limit,
+        &mut frames,
+        &mut answers,
+        &mut line,
+        &mut lines,
+    );
     if out.len() < m {
         return Printed::Short;
     }

@@ -276,7 +276,9 @@ unfolding faultWords pieceBytes wordBytes W.table longest
 fault-long f =
     let short : Pieces (W.number ∷ num (f .b1) ∷ picked W.fault 1 6 (f .b1) ∷ W.feed ∷ []) 142 =
     simp (piece-long, none-long) (omega (arith, number-long (f .b1), picked-long W.fault 1 6 (f .b1) 48 refl refl)) in
-    by-cond (λ l. Pieces l 142) (eqb (f .b1) 1) _ _ short
+    by-cond (λ l. Pieces l 142) (eqb (f .b1) 1) _ _
+    (simp (piece-long, none-long)
+    (omega (arith, number-long (f .b1), number-long (half f 2), number-long (33 * half f 2), picked-long W.fault 1 6 (f .b1) 48 refl refl)))
     (by-cond (λ l. Pieces l 142) (eqb (f .b1) 3) _ _ short
     (simp (piece-long, none-long)
     (omega (arith, number-long (half f 2 + 1), number-long (f .b1), picked-long W.fault 1 6 (f .b1) 48 refl refl))))

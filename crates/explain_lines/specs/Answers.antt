@@ -1,6 +1,6 @@
 -- What each line for people says, as pieces (docs/EXPLAIN.md): of an answer or verdict (document 01, the end of "The file": families 8 to 11), and of the fault of a file that is
 -- not accepted ("Numbers handed back", 1 to 6).
-use Prim.Native.Nat.{ℕ, _+_}
+use Prim.Native.Nat.{ℕ, _+_, _*_}
 use mathlib.Core.Bool.{cond}
 use mathlib.Core.List.{List, [], _∷_, _++_}
 use lib.Dec.{ltb, eqb}
@@ -51,10 +51,10 @@ unfoldable pub lineOf : List ℕ → RowNumber → Frame → List ℕ
 lineOf fr row f = spelled ((W.row ∷ num (shown row f .0) ∷ W.gap ∷ []) ++ said fr f ++ ending f)
 
 -- THE LINE of a file that is not accepted, by the frame of its number and place: `line 2: number 5, field: a byte is outside its values`. Lines count from 1 here.
--- Numbers 1 and 3 name no line.
+-- Numbers 1 and 3 name no line; number 1 names the limit, `number 1, long: over 256 frames (8448 bytes)`.
 unfoldable pub faultWords : Frame → List ℕ
 faultWords f =
-    cond (eqb (f .b1) 1) (W.number ∷ num (f .b1) ∷ picked W.fault 1 6 (f .b1) ∷ W.feed ∷ [])
+    cond (eqb (f .b1) 1) (W.number ∷ num (f .b1) ∷ picked W.fault 1 6 (f .b1) ∷ num (half f 2) ∷ W.framesOf ∷ num (33 * half f 2) ∷ W.bytes ∷ W.feed ∷ [])
     (cond (eqb (f .b1) 3) (W.number ∷ num (f .b1) ∷ picked W.fault 1 6 (f .b1) ∷ W.feed ∷ [])
     (W.line ∷ num (half f 2 + 1) ∷ W.colon ∷ W.number ∷ num (f .b1) ∷ picked W.fault 1 6 (f .b1) ∷ W.feed ∷ []))
 

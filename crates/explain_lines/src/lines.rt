@@ -338,17 +338,29 @@ pub fn put_line(frames: &[u8], row: RowNumber, f: Frame, line: &mut [u8]) -> usi
     put_pieces(&end, line, b)
 }
 
-fn fault_words(f: Frame) -> [u64; 7]
-    ensures { λ r. ⌜ r ≡ filled 7 (faultWords f) ⌝ }
+fn fault_words(f: Frame) -> [u64; 8]
+    ensures { λ r. ⌜ r ≡ filled 8 (faultWords f) ⌝ }
 {
     let n = f.b1;
     let number = num(n as u32);
     let fault = pick(table::FAULT, 1, 6, n);
     if n == 1 {
-        return [table::NUMBER, number, fault, table::FEED, 0, 0, 0];
+        let limit = f.named() as u32;
+        let frames = num(limit);
+        let bytes = num(33 * limit);
+        return [
+            table::NUMBER,
+            number,
+            fault,
+            frames,
+            table::FRAMES_OF,
+            bytes,
+            table::BYTES,
+            table::FEED,
+        ];
     }
     if n == 3 {
-        return [table::NUMBER, number, fault, table::FEED, 0, 0, 0];
+        return [table::NUMBER, number, fault, table::FEED, 0, 0, 0, 0];
     }
     let place = (f.named() as u32) + 1;
     let line = num(place);
@@ -360,6 +372,7 @@ fn fault_words(f: Frame) -> [u64; 7]
         number,
         fault,
         table::FEED,
+        0,
     ]
 }
 

@@ -163,12 +163,13 @@ table =
     "line " ∷
     ": " ∷
     "number " ∷
-    ", long: over 1,024 frames (33,792 bytes)" ∷
+    ", long: over " ∷
     ", torn: not 32 digits and a line feed" ∷
     ", short: a lent buffer is too small" ∷
     ", order: unknown or out of order" ∷
     ", field: a byte is outside its values" ∷
-    ", index: a number is out of range or not earlier" ∷ []
+    ", index: a number is out of range or not earlier" ∷
+    " frames (" ∷ []
 
 -- the characters of word w; none past the table
 unfoldable pub wordBytes : ℕ → List ℕ
@@ -378,3 +379,6 @@ number = 147
 
 abbrev pub fault : ℕ
 fault = 148
+
+abbrev pub framesOf : ℕ
+framesOf = 154

@@ -1,9 +1,9 @@
 // The words of the lines for people, run together, and where each begins (specs/Words.antt has them one by one). A name that stands for several (as SPACE) is the
 // number of the first; the others follow it.
 
-pub const COUNT: usize = 154;
+pub const COUNT: usize = 155;
 
-pub const STARTS: [u16; 155] = [
+pub const STARTS: [u16; 156] = [
     0,
     0,
     4,
@@ -153,12 +153,13 @@ pub const STARTS: [u16; 155] = [
     1483,
     1485,
     1492,
-    1532,
-    1569,
-    1604,
-    1636,
-    1673,
-    1721,
+    1505,
+    1542,
+    1577,
+    1609,
+    1646,
+    1694,
+    1703,
 ];
 
 pub const NONE: u64 = 0;
@@ -296,3 +297,5 @@ pub const COLON: u64 = 146;
 pub const NUMBER: u64 = 147;
 
 pub const FAULT: u32 = 148;
+
+pub const FRAMES_OF: u64 = 154;

@@ -57,11 +57,11 @@ fn short_number(o: Outcome) -> u32
 }
 
 // What is returned where the out-slice is too small: numbers 1 and 2 are the text's whatever is lent, so nothing is lent here.
-pub fn no_room(limit: u32, text: &[u8]) -> u32
+pub fn no_room(text: &[u8], limit: u32) -> u32
     ensures { λ r. ⌜ r ≡ noRoom limit (now (text .entry)) ⌝ }
 {
     let mut none = [0u8; 0];
-    let read = read_text(limit, text, &mut none, AnswerRoom::NotLent);
+    let read = read_text(text, limit, &mut none, AnswerRoom::NotLent);
     short_number(read)
 }
 

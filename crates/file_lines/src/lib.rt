@@ -1,7 +1,6 @@
 // What the typing program prints.
 use answers::MAX_ANSWER_BYTES;
 use answers::MAX_FRAME_BYTES;
-use answers::MAX_LIMIT;
 use answers::Printed;
 use file_read::OptionUsize;
 use file_read::frames_in;
@@ -13,7 +12,7 @@ use text_encode::write_text;
 ghost use mathlib.Core.Path.{_≡_};
 ghost use Prim.Native.Nat.{_≤_};
 ghost use lib.ListN.{length};
-ghost use Rattle.answers.specs.Limit.{maxFrames, maxFrameBytes, maxAnswerBytes};
+ghost use Rattle.answers.specs.Limit.{maxFrameBytes, maxAnswerBytes};
 ghost use Rattle.answers.specs.Numbers.{printedSaid};
 ghost use Rattle.text.specs.Lines.{textOf};
 ghost use Rattle.frames.specs.Bytes.{frameCount};
@@ -38,13 +37,19 @@ fn put_lines(frames: &[u8], out: &mut [u8]) -> Printed
 }
 
 // The same over lent buffers of the largest sizes that a file asks for.
-fn type_lines(text: &[u8], frames: &mut [u8], answers: &mut [u8], out: &mut [u8]) -> Printed
+fn type_lines(
+    text: &[u8],
+    limit: u32,
+    frames: &mut [u8],
+    answers: &mut [u8],
+    out: &mut [u8],
+) -> Printed
     requires { ⌜ (length (now frames) ≡ maxFrameBytes) × (length (now answers) ≡ maxAnswerBytes) ⌝ }
-    ensures outcome { λ r. ⌜ r ≡ printed (typedText First maxFrames (now (text .entry))) (length (now (out .entry))) ⌝ }
+    ensures outcome { λ r. ⌜ r ≡ printed (typedText First limit (now (text .entry))) (length (now (out .entry))) ⌝ }
     ensures out { λ r. ⌜ now (out .exit)
-        ≡ printedAfter (typedText First maxFrames (now (text .entry))) (now (out .entry)) ⌝ }
+        ≡ printedAfter (typedText First limit (now (text .entry))) (now (out .entry)) ⌝ }
 {
-    let typed = type_file(Pass::First, MAX_LIMIT, text, frames, answers);
+    let typed = type_file(Pass::First, text, limit, frames, answers);
     let read = typed.outcome;
     match frames_in(read) {
         OptionUsize::None => {
@@ -58,16 +63,16 @@ fn type_lines(text: &[u8], frames: &mut [u8], answers: &mut [u8], out: &mut [u8]
     }
 }
 
-// Types a file and writes the lines of what is handed back, and gives how many bytes they are; where the output buffer is too small it gives number 3 and changes nothing.
+// Types a file by the first pass and within a limit, and writes the lines of what is handed back, and gives how many bytes they are; where the output buffer is too small it gives number 3 and changes nothing.
 // MAX_LINE_BYTES are room for any file's.
-pub fn type_text(text: &[u8], out: &mut [u8]) -> Printed
-    ensures outcome { λ r. ⌜ r ≡ printed (typedText First maxFrames (now (text .entry))) (length (now (out .entry))) ⌝ }
+pub fn type_text(text: &[u8], limit: u32, out: &mut [u8]) -> Printed
+    ensures outcome { λ r. ⌜ r ≡ printed (typedText First limit (now (text .entry))) (length (now (out .entry))) ⌝ }
     ensures said { λ r. ⌜ printedSaid r
-        ≡ printedSaid (printed (typedText First maxFrames (now (text .entry))) (length (now (out .entry)))) ⌝ }
+        ≡ printedSaid (printed (typedText First limit (now (text .entry))) (length (now (out .entry)))) ⌝ }
     ensures out { λ r. ⌜ now (out .exit)
-        ≡ printedAfter (typedText First maxFrames (now (text .entry))) (now (out .entry)) ⌝ }
+        ≡ printedAfter (typedText First limit (now (text .entry))) (now (out .entry)) ⌝ }
 {
     let mut frames = [0u8; MAX_FRAME_BYTES];
     let mut answers = [0u8; MAX_ANSWER_BYTES];
-    type_lines(text, &mut frames, &mut answers, out)
+    type_lines(text, limit, &mut frames, &mut answers, out)
 }

@@ -14,13 +14,13 @@ ghost use Rattle.file_read.specs.File.{framesAfter};
 ghost use Rattle.file_pointers.specs.Forms.{canonicalType, pointerBaseType};
 
 // The canonical form of type n: the value pointer, or n itself. The frame buffer is as `read_file` leaves it.
-pub fn canonical_form(limit: u32, text: &[u8], frames: &mut [u8], n: TypeNumber) -> CanonicalType
+pub fn canonical_form(text: &[u8], limit: u32, frames: &mut [u8], n: TypeNumber) -> CanonicalType
     ensures outcome { λ r. ⌜ r ≡ canonicalType limit (now (text .entry)) (length (now (frames .entry))) n ⌝ }
     ensures said { λ r. ⌜ canonicalSaid r
         ≡ canonicalSaid (canonicalType limit (now (text .entry)) (length (now (frames .entry))) n) ⌝ }
     ensures frames { λ r. ⌜ now (frames .exit) ≡ framesAfter limit (now (text .entry)) (now (frames .entry)) NotLent ⌝ }
 {
-    let read = read_file(limit, text, frames);
+    let read = read_file(text, limit, frames);
     match frames_in(read) {
         OptionUsize::None => CanonicalType::NotAccepted(read),
         OptionUsize::Some(k) => {
@@ -32,13 +32,13 @@ pub fn canonical_form(limit: u32, text: &[u8], frames: &mut [u8], n: TypeNumber)
 }
 
 // The base of type n, or that it is no pointer. The frame buffer is as `read_file` leaves it.
-pub fn pointer_base(limit: u32, text: &[u8], frames: &mut [u8], n: TypeNumber) -> PointerBase
+pub fn pointer_base(text: &[u8], limit: u32, frames: &mut [u8], n: TypeNumber) -> PointerBase
     ensures outcome { λ r. ⌜ r ≡ pointerBaseType limit (now (text .entry)) (length (now (frames .entry))) n ⌝ }
     ensures said { λ r. ⌜ baseSaid r
         ≡ baseSaid (pointerBaseType limit (now (text .entry)) (length (now (frames .entry))) n) ⌝ }
     ensures frames { λ r. ⌜ now (frames .exit) ≡ framesAfter limit (now (text .entry)) (now (frames .entry)) NotLent ⌝ }
 {
-    let read = read_file(limit, text, frames);
+    let read = read_file(text, limit, frames);
     match frames_in(read) {
         OptionUsize::None => PointerBase::NotAccepted(read),
         OptionUsize::Some(k) => {

@@ -42,12 +42,12 @@ pub fn frames_in(o: Outcome) -> OptionUsize
 
 // Checks 1 to 6 within a limit of frames, 1 to 1,024, any other counting as 1,024, with the length of the answer buffer where one is lent. Numbers 1 to 3 change no buffer; otherwise the frames stand
 // at the front of the frame buffer, and its bytes past them stay.
-pub fn read_with(limit: u32, text: &[u8], frames: &mut [u8], room: AnswerRoom) -> Outcome
+pub fn read_with(text: &[u8], limit: u32, frames: &mut [u8], room: AnswerRoom) -> Outcome
     ensures outcome { λ r. ⌜ r ≡ readFile limit (now (text .entry)) (length (now (frames .entry))) room ⌝ }
     ensures said { λ r. ⌜ outcomeValues r ≡ fileSaid limit (now (text .entry)) (length (now (frames .entry))) room ⌝ }
     ensures frames { λ r. ⌜ now (frames .exit) ≡ framesAfter limit (now (text .entry)) (now (frames .entry)) room ⌝ }
 {
-    let read = read_text(limit, text, frames, room);
+    let read = read_text(text, limit, frames, room);
     match frames_in(read) {
         OptionUsize::None => read,
         OptionUsize::Some(n) => {
@@ -58,22 +58,22 @@ pub fn read_with(limit: u32, text: &[u8], frames: &mut [u8], room: AnswerRoom) -
 }
 
 // Whether a file is accepted, or the number and place of its fault.
-pub fn read_file(limit: u32, text: &[u8], frames: &mut [u8]) -> Outcome
+pub fn read_file(text: &[u8], limit: u32, frames: &mut [u8]) -> Outcome
     ensures outcome { λ r. ⌜ r ≡ readFile limit (now (text .entry)) (length (now (frames .entry))) NotLent ⌝ }
     ensures said { λ r. ⌜ outcomeValues r ≡ fileSaid limit (now (text .entry)) (length (now (frames .entry))) NotLent ⌝ }
     ensures frames { λ r. ⌜ now (frames .exit) ≡ framesAfter limit (now (text .entry)) (now (frames .entry)) NotLent ⌝ }
 {
-    read_with(limit, text, frames, AnswerRoom::NotLent)
+    read_with(text, limit, frames, AnswerRoom::NotLent)
 }
 
 // Whether two answers of a file, as frames of family 8 or 9, are the same type. The frame buffer is as `read_file` leaves it.
-pub fn same_type(limit: u32, text: &[u8], frames: &mut [u8], left: Frame, right: Frame) -> Sameness
+pub fn same_type(text: &[u8], limit: u32, frames: &mut [u8], left: Frame, right: Frame) -> Sameness
     ensures outcome { λ r. ⌜ r ≡ sameTypes limit (now (text .entry)) (length (now (frames .entry))) left right ⌝ }
     ensures said { λ r. ⌜ samenessSaid r
         ≡ samenessSaid (sameTypes limit (now (text .entry)) (length (now (frames .entry))) left right) ⌝ }
     ensures frames { λ r. ⌜ now (frames .exit) ≡ framesAfter limit (now (text .entry)) (now (frames .entry)) NotLent ⌝ }
 {
-    let read = read_file(limit, text, frames);
+    let read = read_file(text, limit, frames);
     match frames_in(read) {
         OptionUsize::None => Sameness::NotAccepted(read),
         OptionUsize::Some(n) => {

@@ -208,15 +208,15 @@ fn judge_one(pass: Pass, frames: &[u8], answers: &mut [u8], row: RowNumber) -> C
 // at the front of the answer buffer, and its bytes past them stay. Of a file that is not accepted nothing is handed back.
 pub fn type_file(
     pass: Pass,
-    limit: u32,
     text: &[u8],
+    limit: u32,
     frames: &mut [u8],
     answers: &mut [u8],
 ) -> TypedFile
     ensures { λ r. ⌜ HandsBack pass limit (now (text .entry)) (now (frames .entry)) (now (answers .entry)) r
         (now (frames .exit)) (now (answers .exit)) ⌝ }
 {
-    let read = read_with(limit, text, frames, AnswerRoom::Lent(answers.len()));
+    let read = read_with(text, limit, frames, AnswerRoom::Lent(answers.len()));
     match frames_in(read) {
         OptionUsize::None => TypedFile {
             outcome: read,
@@ -236,8 +236,8 @@ pub fn type_file(
 // The same, where the outcome is enough: how many frames are handed back is known from the file.
 pub fn type_rows(
     pass: Pass,
-    limit: u32,
     text: &[u8],
+    limit: u32,
     frames: &mut [u8],
     answers: &mut [u8],
 ) -> Outcome
@@ -250,15 +250,15 @@ pub fn type_rows(
     ensures answers { λ r. ⌜ now (answers .exit)
         ≡ answersAfter pass limit (now (text .entry)) (length (now (frames .entry))) (now (answers .entry)) ⌝ }
 {
-    let typed = type_file(pass, limit, text, frames, answers);
+    let typed = type_file(pass, text, limit, frames, answers);
     typed.outcome
 }
 
 // The answer of one row, with the buffers as `type_rows` leaves them. The answer buffer is unchanged where the file does not have the row.
 pub fn row_type(
     pass: Pass,
-    limit: u32,
     text: &[u8],
+    limit: u32,
     frames: &mut [u8],
     answers: &mut [u8],
     row: RowNumber,
@@ -273,7 +273,7 @@ pub fn row_type(
     ensures answers { λ r. ⌜ now (answers .exit)
         ≡ answersAfterRow pass limit (now (text .entry)) (length (now (frames .entry))) (now (answers .entry)) row ⌝ }
 {
-    let read = read_with(limit, text, frames, AnswerRoom::Lent(answers.len()));
+    let read = read_with(text, limit, frames, AnswerRoom::Lent(answers.len()));
     match frames_in(read) {
         OptionUsize::None => RowType::NotAccepted(read),
         OptionUsize::Some(n) => {
@@ -286,8 +286,8 @@ pub fn row_type(
 // The verdict on one compose, with the buffers as `type_rows` leaves them. The answer buffer is unchanged where the file has no such row, or the row is no compose.
 pub fn compose_verdict(
     pass: Pass,
-    limit: u32,
     text: &[u8],
+    limit: u32,
     frames: &mut [u8],
     answers: &mut [u8],
     row: RowNumber,
@@ -302,7 +302,7 @@ pub fn compose_verdict(
     ensures answers { λ r. ⌜ now (answers .exit)
         ≡ answersAfterVerdict pass limit (now (text .entry)) (length (now (frames .entry))) (now (answers .entry)) row ⌝ }
 {
-    let read = read_with(limit, text, frames, AnswerRoom::Lent(answers.len()));
+    let read = read_with(text, limit, frames, AnswerRoom::Lent(answers.len()));
     match frames_in(read) {
         OptionUsize::None => ComposeVerdict::NotAccepted(read),
         OptionUsize::Some(n) => {

@@ -4,13 +4,11 @@ pub mod rows;
 pub mod texels;
 pub mod types;
 
-use answers::MAX_LIMIT;
 use file_exports::no_room;
 use file_exports::put_outcome;
 use file_read::read_file;
 ghost use mathlib.Core.Path.{_≡_};
 ghost use lib.ListN.{length};
-ghost use Rattle.answers.specs.Limit.{maxFrames};
 ghost use Rattle.text.specs.declared.AnswerRoom.the-variants.{NotLent};
 ghost use Rattle.frames.specs.Bytes.{putFrame};
 ghost use Rattle.frames.specs.Out.{outcomeFrame};
@@ -19,20 +17,25 @@ ghost use Rattle.file_exports.specs.Exported.{noRoom, byRoom, outcomeNumber};
 
 // Whether a file is accepted.
 #[no_mangle]
-pub extern "C" fn gelmusko_read_file(text: &[u8], frames: &mut [u8], out: &mut [u8]) -> u32
+pub extern "C" fn gelmusko_read_file(
+    text: &[u8],
+    limit: u32,
+    frames: &mut [u8],
+    out: &mut [u8],
+) -> u32
     ensures outcome { λ r. ⌜ r
-        ≡ byRoom (now (out .entry)) (noRoom maxFrames (now (text .entry)))
-        (outcomeNumber (readFile maxFrames (now (text .entry)) (length (now (frames .entry))) NotLent)) ⌝ }
+        ≡ byRoom (now (out .entry)) (noRoom limit (now (text .entry)))
+        (outcomeNumber (readFile limit (now (text .entry)) (length (now (frames .entry))) NotLent)) ⌝ }
     ensures frames { λ r. ⌜ now (frames .exit)
         ≡ byRoom (now (out .entry)) (now (frames .entry))
-        (framesAfter maxFrames (now (text .entry)) (now (frames .entry)) NotLent) ⌝ }
+        (framesAfter limit (now (text .entry)) (now (frames .entry)) NotLent) ⌝ }
     ensures out { λ r. ⌜ now (out .exit)
         ≡ putFrame (now (out .entry)) 0
-        (outcomeFrame (readFile maxFrames (now (text .entry)) (length (now (frames .entry))) NotLent)) ⌝ }
+        (outcomeFrame (readFile limit (now (text .entry)) (length (now (frames .entry))) NotLent)) ⌝ }
 {
     if out.len() < 16 {
-        return no_room(MAX_LIMIT, text);
+        return no_room(text, limit);
     }
-    let read = read_file(MAX_LIMIT, text, frames);
+    let read = read_file(text, limit, frames);
     put_outcome(out, read)
 }

@@ -1,5 +1,4 @@
 // The rows of a file, and its composes.
-use answers::MAX_LIMIT;
 use file_exports::clamped;
 use file_exports::no_room;
 use file_exports::put_outcome;
@@ -12,7 +11,6 @@ use ir::RowNumber;
 use rule_rows::Pass;
 ghost use mathlib.Core.Path.{_≡_};
 ghost use lib.ListN.{length};
-ghost use Rattle.answers.specs.Limit.{maxFrames};
 ghost use Rattle.text.specs.declared.AnswerRoom.the-variants.{Lent};
 ghost use Rattle.frames.specs.Bytes.{putFrame};
 ghost use Rattle.frames.specs.Out.{outcomeFrame, oneFrame};
@@ -25,27 +23,28 @@ ghost use Rattle.file_exports.specs.Exported.{noRoom, byRoom, outcomeNumber, on
 #[no_mangle]
 pub extern "C" fn gelmusko_type_rows(
     text: &[u8],
+    limit: u32,
     frames: &mut [u8],
     answers: &mut [u8],
     out: &mut [u8],
 ) -> u32
     ensures outcome { λ r. ⌜ r
-        ≡ byRoom (now (out .entry)) (noRoom maxFrames (now (text .entry))) (outcomeNumber (readFile maxFrames (now (text .entry))
+        ≡ byRoom (now (out .entry)) (noRoom limit (now (text .entry))) (outcomeNumber (readFile limit (now (text .entry))
         (length (now (frames .entry))) (Lent (length (now (answers .entry)))))) ⌝ }
     ensures frames { λ r. ⌜ now (frames .exit)
         ≡ byRoom (now (out .entry)) (now (frames .entry))
-        (framesAfter maxFrames (now (text .entry)) (now (frames .entry)) (Lent (length (now (answers .entry))))) ⌝ }
+        (framesAfter limit (now (text .entry)) (now (frames .entry)) (Lent (length (now (answers .entry))))) ⌝ }
     ensures answers { λ r. ⌜ now (answers .exit)
         ≡ byRoom (now (out .entry)) (now (answers .entry))
-        (answersAfter First maxFrames (now (text .entry)) (length (now (frames .entry))) (now (answers .entry))) ⌝ }
+        (answersAfter First limit (now (text .entry)) (length (now (frames .entry))) (now (answers .entry))) ⌝ }
     ensures out { λ r. ⌜ now (out .exit)
-        ≡ putFrame (now (out .entry)) 0 (outcomeFrame (readFile maxFrames (now (text .entry)) (length (now (frames .entry)))
+        ≡ putFrame (now (out .entry)) 0 (outcomeFrame (readFile limit (now (text .entry)) (length (now (frames .entry)))
         (Lent (length (now (answers .entry)))))) ⌝ }
 {
     if out.len() < 16 {
-        return no_room(MAX_LIMIT, text);
+        return no_room(text, limit);
     }
-    let read = type_rows(Pass::First, MAX_LIMIT, text, frames, answers);
+    let read = type_rows(Pass::First, text, limit, frames, answers);
     put_outcome(out, read)
 }
 
@@ -53,31 +52,32 @@ pub extern "C" fn gelmusko_type_rows(
 #[no_mangle]
 pub extern "C" fn gelmusko_row_type(
     text: &[u8],
+    limit: u32,
     frames: &mut [u8],
     answers: &mut [u8],
     row: u32,
     out: &mut [u8],
 ) -> u32
     ensures outcome { λ r. ⌜ r
-        ≡ byRoom (now (out .entry)) (noRoom maxFrames (now (text .entry))) (oneNumber (rowSaid (rowType First maxFrames (now (text .entry))
+        ≡ byRoom (now (out .entry)) (noRoom limit (now (text .entry))) (oneNumber (rowSaid (rowType First limit (now (text .entry))
         (length (now (frames .entry))) (length (now (answers .entry))) (record { 0 = row })))) ⌝ }
     ensures frames { λ r. ⌜ now (frames .exit)
         ≡ byRoom (now (out .entry)) (now (frames .entry))
-        (framesAfter maxFrames (now (text .entry)) (now (frames .entry)) (Lent (length (now (answers .entry))))) ⌝ }
+        (framesAfter limit (now (text .entry)) (now (frames .entry)) (Lent (length (now (answers .entry))))) ⌝ }
     ensures answers { λ r. ⌜ now (answers .exit)
-        ≡ byRoom (now (out .entry)) (now (answers .entry)) (answersAfterRow First maxFrames (now (text .entry))
+        ≡ byRoom (now (out .entry)) (now (answers .entry)) (answersAfterRow First limit (now (text .entry))
         (length (now (frames .entry))) (now (answers .entry)) (record { 0 = row })) ⌝ }
     ensures out { λ r. ⌜ now (out .exit)
-        ≡ putFrame (now (out .entry)) 0 (oneFrame (rowSaid (rowType First maxFrames (now (text .entry))
+        ≡ putFrame (now (out .entry)) 0 (oneFrame (rowSaid (rowType First limit (now (text .entry))
         (length (now (frames .entry))) (length (now (answers .entry))) (record { 0 = row })))) ⌝ }
 {
     if out.len() < 16 {
-        return no_room(MAX_LIMIT, text);
+        return no_room(text, limit);
     }
     let given = row_type(
         Pass::First,
-        MAX_LIMIT,
         text,
+        limit,
         frames,
         answers,
         RowNumber(clamped(row)),
@@ -89,28 +89,29 @@ pub extern "C" fn gelmusko_row_type(
 #[no_mangle]
 pub extern "C" fn gelmusko_compose_verdict(
     text: &[u8],
+    limit: u32,
     frames: &mut [u8],
     answers: &mut [u8],
     row: u32,
     out: &mut [u8],
 ) -> u32
     ensures outcome { λ r. ⌜ r
-        ≡ byRoom (now (out .entry)) (noRoom maxFrames (now (text .entry))) (oneNumber (verdictSaid (record { 0 = row }) (composeVerdict First maxFrames
+        ≡ byRoom (now (out .entry)) (noRoom limit (now (text .entry))) (oneNumber (verdictSaid (record { 0 = row }) (composeVerdict First limit
         (now (text .entry)) (length (now (frames .entry))) (length (now (answers .entry))) (record { 0 = row })))) ⌝ }
     ensures frames { λ r. ⌜ now (frames .exit)
         ≡ byRoom (now (out .entry)) (now (frames .entry))
-        (framesAfter maxFrames (now (text .entry)) (now (frames .entry)) (Lent (length (now (answers .entry))))) ⌝ }
+        (framesAfter limit (now (text .entry)) (now (frames .entry)) (Lent (length (now (answers .entry))))) ⌝ }
     ensures answers { λ r. ⌜ now (answers .exit)
-        ≡ byRoom (now (out .entry)) (now (answers .entry)) (answersAfterVerdict First maxFrames (now (text .entry))
+        ≡ byRoom (now (out .entry)) (now (answers .entry)) (answersAfterVerdict First limit (now (text .entry))
         (length (now (frames .entry))) (now (answers .entry)) (record { 0 = row })) ⌝ }
     ensures out { λ r. ⌜ now (out .exit)
-        ≡ putFrame (now (out .entry)) 0 (oneFrame (verdictSaid (record { 0 = row }) (composeVerdict First maxFrames
+        ≡ putFrame (now (out .entry)) 0 (oneFrame (verdictSaid (record { 0 = row }) (composeVerdict First limit
         (now (text .entry)) (length (now (frames .entry))) (length (now (answers .entry))) (record { 0 = row })))) ⌝ }
 {
     if out.len() < 16 {
-        return no_room(MAX_LIMIT, text);
+        return no_room(text, limit);
     }
     let n = clamped(row);
-    let given = compose_verdict(Pass::First, MAX_LIMIT, text, frames, answers, RowNumber(n));
+    let given = compose_verdict(Pass::First, text, limit, frames, answers, RowNumber(n));
     put_verdict(out, RowNumber(n), given)
 }

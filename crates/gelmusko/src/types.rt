@@ -1,5 +1,4 @@
 // The types of a file: two compared, a canonical form, a pointer's base.
-use answers::MAX_LIMIT;
 use file_exports::clamped;
 use file_exports::handed_frame;
 use file_exports::no_room;
@@ -13,7 +12,6 @@ use ir::TypeNumber;
 ghost use mathlib.Core.Path.{_≡_};
 ghost use lib.ListN.{length};
 ghost use Rattle.answers.specs.Numbers.{samenessSaid, canonicalSaid, baseSaid};
-ghost use Rattle.answers.specs.Limit.{maxFrames};
 ghost use Rattle.text.specs.declared.AnswerRoom.the-variants.{NotLent};
 ghost use Rattle.frames.specs.Bytes.{putFrame};
 ghost use Rattle.file_read.specs.File.{framesAfter};
@@ -25,28 +23,29 @@ ghost use Rattle.file_exports.specs.Exported.{noRoom, byRoom, saidNumber, saidF
 #[no_mangle]
 pub extern "C" fn gelmusko_same_type(
     text: &[u8],
+    limit: u32,
     frames: &mut [u8],
     left: &[u8],
     right: &[u8],
     out: &mut [u8],
 ) -> u32
     ensures outcome { λ r. ⌜ r
-        ≡ byRoom (now (out .entry)) (noRoom maxFrames (now (text .entry))) (saidNumber (samenessSaid (sameTypes maxFrames
+        ≡ byRoom (now (out .entry)) (noRoom limit (now (text .entry))) (saidNumber (samenessSaid (sameTypes limit
         (now (text .entry)) (length (now (frames .entry))) (handedFrame (now (left .entry)))
         (handedFrame (now (right .entry)))))) ⌝ }
     ensures frames { λ r. ⌜ now (frames .exit)
         ≡ byRoom (now (out .entry)) (now (frames .entry))
-        (framesAfter maxFrames (now (text .entry)) (now (frames .entry)) NotLent) ⌝ }
+        (framesAfter limit (now (text .entry)) (now (frames .entry)) NotLent) ⌝ }
     ensures out { λ r. ⌜ now (out .exit)
-        ≡ putFrame (now (out .entry)) 0 (saidFrame (samenessSaid (sameTypes maxFrames (now (text .entry))
+        ≡ putFrame (now (out .entry)) 0 (saidFrame (samenessSaid (sameTypes limit (now (text .entry))
         (length (now (frames .entry))) (handedFrame (now (left .entry))) (handedFrame (now (right .entry)))))) ⌝ }
 {
     if out.len() < 16 {
-        return no_room(MAX_LIMIT, text);
+        return no_room(text, limit);
     }
     let l = handed_frame(left);
     let r = handed_frame(right);
-    let given = same_type(MAX_LIMIT, text, frames, l, r);
+    let given = same_type(text, limit, frames, l, r);
     put_sameness(out, given)
 }
 
@@ -54,24 +53,25 @@ pub extern "C" fn gelmusko_same_type(
 #[no_mangle]
 pub extern "C" fn gelmusko_canonical_form(
     text: &[u8],
+    limit: u32,
     frames: &mut [u8],
     n: u32,
     out: &mut [u8],
 ) -> u32
     ensures outcome { λ r. ⌜ r
-        ≡ byRoom (now (out .entry)) (noRoom maxFrames (now (text .entry))) (typeSaidNumber (canonicalSaid
-        (canonicalType maxFrames (now (text .entry)) (length (now (frames .entry))) (record { 0 = n })))) ⌝ }
+        ≡ byRoom (now (out .entry)) (noRoom limit (now (text .entry))) (typeSaidNumber (canonicalSaid
+        (canonicalType limit (now (text .entry)) (length (now (frames .entry))) (record { 0 = n })))) ⌝ }
     ensures frames { λ r. ⌜ now (frames .exit)
         ≡ byRoom (now (out .entry)) (now (frames .entry))
-        (framesAfter maxFrames (now (text .entry)) (now (frames .entry)) NotLent) ⌝ }
+        (framesAfter limit (now (text .entry)) (now (frames .entry)) NotLent) ⌝ }
     ensures out { λ r. ⌜ now (out .exit)
         ≡ putFrame (now (out .entry)) 0 (typeSaidFrame (canonicalSaid
-        (canonicalType maxFrames (now (text .entry)) (length (now (frames .entry))) (record { 0 = n })))) ⌝ }
+        (canonicalType limit (now (text .entry)) (length (now (frames .entry))) (record { 0 = n })))) ⌝ }
 {
     if out.len() < 16 {
-        return no_room(MAX_LIMIT, text);
+        return no_room(text, limit);
     }
-    let given = canonical_form(MAX_LIMIT, text, frames, TypeNumber(clamped(n)));
+    let given = canonical_form(text, limit, frames, TypeNumber(clamped(n)));
     put_canonical(out, given)
 }
 
@@ -79,23 +79,24 @@ pub extern "C" fn gelmusko_canonical_form(
 #[no_mangle]
 pub extern "C" fn gelmusko_pointer_base(
     text: &[u8],
+    limit: u32,
     frames: &mut [u8],
     n: u32,
     out: &mut [u8],
 ) -> u32
     ensures outcome { λ r. ⌜ r
-        ≡ byRoom (now (out .entry)) (noRoom maxFrames (now (text .entry))) (typeSaidNumber
-        (baseSaid (pointerBaseType maxFrames (now (text .entry)) (length (now (frames .entry))) (record { 0 = n })))) ⌝ }
+        ≡ byRoom (now (out .entry)) (noRoom limit (now (text .entry))) (typeSaidNumber
+        (baseSaid (pointerBaseType limit (now (text .entry)) (length (now (frames .entry))) (record { 0 = n })))) ⌝ }
     ensures frames { λ r. ⌜ now (frames .exit)
         ≡ byRoom (now (out .entry)) (now (frames .entry))
-        (framesAfter maxFrames (now (text .entry)) (now (frames .entry)) NotLent) ⌝ }
+        (framesAfter limit (now (text .entry)) (now (frames .entry)) NotLent) ⌝ }
     ensures out { λ r. ⌜ now (out .exit)
         ≡ putFrame (now (out .entry)) 0 (typeSaidFrame
-        (baseSaid (pointerBaseType maxFrames (now (text .entry)) (length (now (frames .entry))) (record { 0 = n })))) ⌝ }
+        (baseSaid (pointerBaseType limit (now (text .entry)) (length (now (frames .entry))) (record { 0 = n })))) ⌝ }
 {
     if out.len() < 16 {
-        return no_room(MAX_LIMIT, text);
+        return no_room(text, limit);
     }
-    let given = pointer_base(MAX_LIMIT, text, frames, TypeNumber(clamped(n)));
+    let given = pointer_base(text, limit, frames, TypeNumber(clamped(n)));
     put_base(out, given)
 }

@@ -1,10 +1,9 @@
 // Replays the texts of the file `cases`, good and damaged, and prints for each its name, the number and place that reading it
 // gives, and what became of the frame buffer. tools/replay_cases.py writes the cases and what must be printed.
 //
-// A case is a line of 53 bytes: the name with blanks up to 40, a blank, the frame buffer's length in 5 digits, a blank, the
-// text's length in 5 digits, a line feed. The text follows, and one line feed more.
+// A case is a line of 59 bytes: the name with blanks up to 40, a blank, the frame buffer's length in 5 digits, a blank, the
+// text's length in 5 digits, a blank, the limit in 5 digits, a line feed. The text follows, and one line feed more.
 use answers::MAX_FRAMES;
-use answers::MAX_LIMIT;
 use answers::MAX_TEXT_BYTES;
 use answers::Outcome;
 use file_read::read_file;
@@ -13,8 +12,8 @@ use text_encode::write_text;
 ghost use Prim.Native.Nat.{_≤_};
 
 // The number that the 5 digits from `at` on spell.
-fn length(sizes: &[u8; 12], at: usize) -> usize
-    requires { ⌜ at ≤ 7 ⌝ }
+fn length(sizes: &[u8; 18], at: usize) -> usize
+    requires { ⌜ at ≤ 13 ⌝ }
 {
     let mut n = 0;
     let mut i = 0;
@@ -105,9 +104,9 @@ fn print_buffer(text: &[u8], frames: &[u8]) {
     }
 }
 
-// Reads a text over a lent buffer, and prints what that gives.
-fn replay(text: &[u8], frames: &mut [u8]) {
-    let outcome = read_file(MAX_LIMIT, text, frames);
+// Reads a text within a limit over a lent buffer, and prints what that gives.
+fn replay(text: &[u8], limit: u32, frames: &mut [u8]) {
+    let outcome = read_file(text, limit, frames);
     io::print_decimal(STDOUT_FILENO, number(outcome));
     io::write_all(STDOUT_FILENO, b" ");
     io::print_decimal(STDOUT_FILENO, place(outcome));
@@ -115,11 +114,11 @@ fn replay(text: &[u8], frames: &mut [u8]) {
 }
 
 // Fills `space` with a case's text and the line feed after it, and replays the text.
-fn case(fd: i32, space: &mut [u8], frames: &mut [u8]) {
+fn case(fd: i32, space: &mut [u8], limit: u32, frames: &mut [u8]) {
     let got = io::read_full(fd, space);
     if 0 < got {
         let n = got - 1;
-        replay(&space[..n], frames);
+        replay(&space[..n], limit, frames);
     }
 }
 
@@ -129,23 +128,27 @@ fn one(fd: i32) -> bool {
     if io::read_full(fd, &mut name) < 41 {
         return false;
     }
-    let mut sizes = [0u8; 12];
-    if io::read_full(fd, &mut sizes) < 12 {
+    let mut sizes = [0u8; 18];
+    if io::read_full(fd, &mut sizes) < 18 {
         return false;
     }
     let f = length(&sizes, 0);
     let n = length(&sizes, 6);
+    let limit = length(&sizes, 12);
     if 20000 < f {
         return false;
     }
     if 40000 <= n {
         return false;
     }
+    if 65792 < limit {
+        return false;
+    }
     io::write_all(STDOUT_FILENO, &name);
     let mut space = [0u8; 40000];
     let mut frames = [238u8; 20000];
     let m = n + 1;
-    case(fd, &mut space[..m], &mut frames[..f]);
+    case(fd, &mut space[..m], limit as u32, &mut frames[..f]);
     true
 }
 

@@ -51,7 +51,7 @@ fn print(bytes: &[u8]) {
 // Prints what typing a text writes; the buffer has room for any.
 fn print_types(text: &[u8]) {
     let mut out = [0u8; MAX_LINE_BYTES];
-    if let Printed::Bytes(n) = type_text(text, &mut out) {
+    if let Printed::Bytes(n) = type_text(text, MAX_LIMIT, &mut out) {
         print(&out[..n]);
     }
 }
@@ -77,13 +77,13 @@ fn print_pair(text: &[u8], asked: &[u8], k: usize)
     let mut frames = [0u8; MAX_FRAME_BYTES];
     let left = frame_at(asked, 2 * k);
     let right = frame_at(asked, 2 * k + 1);
-    print_sameness(same_type(MAX_LIMIT, text, &mut frames, left, right));
+    print_sameness(same_type(text, MAX_LIMIT, &mut frames, left, right));
 }
 
 // Reads the lines of the pairs, and compares each pair.
 fn print_pairs(text: &[u8], lines: &[u8]) {
     let mut asked = [0u8; MAX_FRAME_BYTES];
-    read_text(MAX_LIMIT, lines, &mut asked, AnswerRoom::NotLent);
+    read_text(lines, MAX_LIMIT, &mut asked, AnswerRoom::NotLent);
     let many = lines.len() / 66;
     if 512 < many {
         return;

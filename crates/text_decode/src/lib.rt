@@ -153,7 +153,7 @@ fn decode(text: &[u8], frames: &mut [u8], n: usize)
 }
 
 // The limit of frames that holds.
-fn most(limit: u32) -> usize
+pub fn most(limit: u32) -> usize
     ensures { λ r. ⌜ (r ≡ mostFrames limit) × (r ≤ maxFrames) ⌝ }
 {
     if limit == 0 {
@@ -167,7 +167,7 @@ fn most(limit: u32) -> usize
 }
 
 // Checks 1 to 3, and where they pass the frames, at the front of the frame buffer. Numbers 1 to 3 change no buffer.
-pub fn read_text(limit: u32, text: &[u8], frames: &mut [u8], room: AnswerRoom) -> Outcome
+pub fn read_text(text: &[u8], limit: u32, frames: &mut [u8], room: AnswerRoom) -> Outcome
     ensures outcome { λ r. ⌜ r ≡ readText limit (now (text .entry)) (length (now (frames .entry))) room ⌝ }
     ensures frames { λ r. ⌜ now (frames .exit) ≡ framesRead r (now (text .entry)) (now (frames .entry)) ⌝ }
 {

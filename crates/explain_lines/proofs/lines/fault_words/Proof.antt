@@ -7,18 +7,17 @@ use Rattle.explain_lines.specs.Answers.{faultWords}
 use Rattle.explain_lines.proofs.lines.fault_words.Statement.{statement}
 use Rattle.explain_lines.proofs.lines.fault_words.Tie as tie
 
-cast-num : tie.Need-cast-num
-cast-num c = search needs
-
-num-requires : tie.Need-num-requires
-num-requires c κs = search needs
-
-pick-requires : tie.Need-pick-requires
-pick-requires c κs = search needs
-
 returns : tie.Need-returns
 unfolding faultWords filled
-returns c = simp (eq-eqb _ _ (c .if1 .taken), c .before .pick .ensures, c .before .before .num .ensures)
+returns c =
+    simp (
+      eq-eqb _ _ (c .before .before .before .if1 .taken),
+      c .num3 .ensures,
+      c .before .num2 .ensures,
+      c .before .before .named .ensures,
+      c .before .before .before .before .pick .ensures,
+      c .before .before .before .before .before .num .ensures,
+    )
 
 returns-2 : tie.Need-returns-2
 unfolding faultWords filled
@@ -30,26 +29,14 @@ returns-2 c =
       c .before .before .before .num .ensures,
     )
 
-named-requires : tie.Need-named-requires
-named-requires c κs = search needs
-
-cast-place : tie.Need-cast-place
-cast-place c = search needs
-
-add-place : tie.Need-add-place
-add-place c = search needs
-
-num-requires-2 : tie.Need-num-requires-2
-num-requires-2 c κs = search needs
-
 returns-3 : tie.Need-returns-3
 unfolding faultWords filled
 returns-3 c =
     simp (
       ne-eqb _ _ (c .before .before .before .if1 .left),
       ne-eqb _ _ (c .before .before .if2 .left),
-      c .num2 .ensures,
-      c .before .named .ensures,
+      c .num4 .ensures,
+      c .before .named2 .ensures,
       c .before .before .before .before .pick .ensures,
       c .before .before .before .before .before .num .ensures,
     )
@@ -58,13 +45,18 @@ pub fault-words-spec : {M : Type 1} → statement M
 fault-words-spec =
     tie.close
     (tie.spec
-    cast-num
-    num-requires
-    pick-requires
+    (λ c. search needs)
+    (λ c κs. search needs)
+    (λ c κs. search needs)
+    (λ c κs. search needs)
+    (λ c. search needs)
+    (λ c κs. search needs)
+    (λ c. search needs)
+    (λ c κs. search needs)
     returns
     returns-2
-    named-requires
-    cast-place
-    add-place
-    num-requires-2
+    (λ c κs. search needs)
+    (λ c. search needs)
+    (λ c. search needs)
+    (λ c κs. search needs)
     returns-3)

@@ -30,7 +30,7 @@ returns-2 c =
     let long : 1056 ≤ length (g .line .now) = c .before .before .before .before .before .before .if1 .left in
     let room : 0 + 48 * length (w .result) ≤ length (g .line .now) = omega arith in
     let f = pieces-fit (g .line .now) (w .result) (q .last .1 .0) 0 (q .result) room (q .ensures .0) (q .ensures .2) in
-    let e : spelled (w .result) ≡ faultOf (g .f) = ap spelled (w .ensures) ∙ spelled-filled 7 (faultWords (g .f)) in
+    let e : spelled (w .result) ≡ faultOf (g .f) = ap spelled (w .ensures) ∙ spelled-filled 8 (faultWords (g .f)) in
     rw (le-ltb _ _ long) (
       f .0 ∙ ap (λ (l : List ℕ). 0 + length l) e ∙ zero-add (length (faultOf (g .f))),
       omega (arith, q .ensures .1),

@@ -7,7 +7,6 @@ use lib.ListN.{length}
 use Rattle.frames.specs.Out.{oneFrame}
 use Rattle.file_exports.specs.Exported.{oneNumber}
 use borrow.Author.Needs.{needs}
-use Rattle.answers.specs.Limit.{maxFrames}
 use Rattle.gelmusko.proofs.rows.gelmusko_compose_verdict.Statement.{statement}
 use Rattle.gelmusko.proofs.rows.gelmusko_compose_verdict.Tie as tie
 
@@ -33,7 +32,7 @@ returns-2 c =
       p .0
           ∙ ap oneNumber
           (e .1 .0
-          ∙ said-clamped First maxFrames (g .text .now) (length (g .frames .now)) (length (g .answers .now)) (g .row)
+          ∙ said-clamped First (g .limit) (g .text .now) (length (g .frames .now)) (length (g .answers .now)) (g .row)
           (c .before .before .before .before .before .before .before .before .before .before .before .clamped .result)
           (c .before .before .before .before .before .before .before .before .before .before .before .clamped .ensures))
           ∙ has-room (g .out .now) _ _
@@ -44,7 +43,7 @@ returns-2 c =
             (c .before .before .before .before .before .before .before .before .before .before .before .before .if1 .left),
         (
           e .1 .1 .1
-              ∙ judged-clamped First maxFrames (g .text .now) (length (g .frames .now)) (g .answers .now) (g .row)
+              ∙ judged-clamped First (g .limit) (g .text .now) (length (g .frames .now)) (g .answers .now) (g .row)
               (c .before .before .before .before .before .before .before .before .before .before .before .clamped .result)
               (c .before .before .before .before .before .before .before .before .before .before .before .clamped .ensures)
               ∙ has-room (g .out .now) _ _
@@ -53,7 +52,7 @@ returns-2 c =
               ∙ ap (putFrame (g .out .now) 0)
               (ap oneFrame
               (e .1 .0
-              ∙ said-clamped First maxFrames (g .text .now) (length (g .frames .now)) (length (g .answers .now)) (g .row)
+              ∙ said-clamped First (g .limit) (g .text .now) (length (g .frames .now)) (length (g .answers .now)) (g .row)
               (c .before .before .before .before .before .before .before .before .before .before .before .clamped .result)
               (c .before .before .before .before .before .before .before .before .before .before .before .clamped .ensures))),
         ),

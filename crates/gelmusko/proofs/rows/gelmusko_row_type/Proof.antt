@@ -8,7 +8,6 @@ use Rattle.frames.specs.Out.{oneFrame}
 use Rattle.file_read.specs.Typing.{rowSaid}
 use Rattle.file_exports.specs.Exported.{oneNumber}
 use borrow.Author.Needs.{needs}
-use Rattle.answers.specs.Limit.{maxFrames}
 use Rattle.gelmusko.proofs.rows.gelmusko_row_type.Statement.{statement}
 use Rattle.gelmusko.proofs.rows.gelmusko_row_type.Tie as tie
 
@@ -34,7 +33,7 @@ returns-2 c =
       p .0
           ∙ ap oneNumber
           (e .1 .0
-          ∙ ap rowSaid (row-clamped First maxFrames (g .text .now) (length (g .frames .now)) (length (g .answers .now)) (g .row)
+          ∙ ap rowSaid (row-clamped First (g .limit) (g .text .now) (length (g .frames .now)) (length (g .answers .now)) (g .row)
           (c .before .before .before .before .before .before .before .before .before .clamped .result)
           (c .before .before .before .before .before .before .before .before .before .clamped .ensures)))
           ∙ has-room (g .out .now) _ _
@@ -45,7 +44,7 @@ returns-2 c =
             (c .before .before .before .before .before .before .before .before .before .before .before .before .if1 .left),
         (
           e .1 .1 .1
-              ∙ answers-clamped First maxFrames (g .text .now) (length (g .frames .now)) (g .answers .now) (g .row)
+              ∙ answers-clamped First (g .limit) (g .text .now) (length (g .frames .now)) (g .answers .now) (g .row)
               (c .before .before .before .before .before .before .before .before .before .clamped .result)
               (c .before .before .before .before .before .before .before .before .before .clamped .ensures)
               ∙ has-room (g .out .now) _ _
@@ -54,7 +53,7 @@ returns-2 c =
               ∙ ap (putFrame (g .out .now) 0)
               (ap oneFrame
               (e .1 .0
-              ∙ ap rowSaid (row-clamped First maxFrames (g .text .now) (length (g .frames .now)) (length (g .answers .now)) (g .row)
+              ∙ ap rowSaid (row-clamped First (g .limit) (g .text .now) (length (g .frames .now)) (length (g .answers .now)) (g .row)
               (c .before .before .before .before .before .before .before .before .before .clamped .result)
               (c .before .before .before .before .before .before .before .before .before .clamped .ensures)))),
         ),

@@ -6,7 +6,6 @@ use lib.ListN.{length}
 use Rattle.file_exports.specs.Exported.{typeSaidNumber, typeSaidFrame}
 use Rattle.answers.specs.Numbers.{canonicalSaid}
 use Rattle.answers.specs.declared.CanonicalType.{CanonicalType}
-use Rattle.answers.specs.Limit.{maxFrames}
 use borrow.Author.Needs.{needs}
 use Rattle.gelmusko.proofs.types.gelmusko_canonical_form.Statement.{statement}
 use Rattle.gelmusko.proofs.types.gelmusko_canonical_form.Tie as tie
@@ -28,7 +27,7 @@ returns-2 c =
       p .0
           ∙ ap (λ (s : CanonicalType). typeSaidNumber (canonicalSaid s))
           (e .0
-          ∙ canonical-clamped maxFrames (g .text .now) (length (g .frames .now)) (g .n)
+          ∙ canonical-clamped (g .limit) (g .text .now) (length (g .frames .now)) (g .n)
           (c .before .before .before .before .before .before .before .clamped .result)
           (c .before .before .before .before .before .before .before .clamped .ensures))
           ∙ has-room (g .out .now) _ _ (c .before .before .before .before .before .before .before .before .before .if1 .left),
@@ -38,7 +37,7 @@ returns-2 c =
             ∙ ap (putFrame (g .out .now) 0)
             (ap (λ (s : CanonicalType). typeSaidFrame (canonicalSaid s))
             (e .0
-            ∙ canonical-clamped maxFrames (g .text .now) (length (g .frames .now)) (g .n)
+            ∙ canonical-clamped (g .limit) (g .text .now) (length (g .frames .now)) (g .n)
             (c .before .before .before .before .before .before .before .clamped .result)
             (c .before .before .before .before .before .before .before .clamped .ensures))),
       ),

@@ -6,7 +6,6 @@ use lib.ListN.{length}
 use Rattle.file_exports.specs.Exported.{typeSaidNumber, typeSaidFrame}
 use Rattle.answers.specs.Numbers.{baseSaid}
 use Rattle.answers.specs.declared.PointerBase.{PointerBase}
-use Rattle.answers.specs.Limit.{maxFrames}
 use borrow.Author.Needs.{needs}
 use Rattle.gelmusko.proofs.types.gelmusko_pointer_base.Statement.{statement}
 use Rattle.gelmusko.proofs.types.gelmusko_pointer_base.Tie as tie
@@ -28,7 +27,7 @@ returns-2 c =
       p .0
           ∙ ap (λ (s : PointerBase). typeSaidNumber (baseSaid s))
           (e .0
-          ∙ base-clamped maxFrames (g .text .now) (length (g .frames .now)) (g .n)
+          ∙ base-clamped (g .limit) (g .text .now) (length (g .frames .now)) (g .n)
           (c .before .before .before .before .before .before .before .clamped .result)
           (c .before .before .before .before .before .before .before .clamped .ensures))
           ∙ has-room (g .out .now) _ _ (c .before .before .before .before .before .before .before .before .before .if1 .left),
@@ -38,7 +37,7 @@ returns-2 c =
             ∙ ap (putFrame (g .out .now) 0)
             (ap (λ (s : PointerBase). typeSaidFrame (baseSaid s))
             (e .0
-            ∙ base-clamped maxFrames (g .text .now) (length (g .frames .now)) (g .n)
+            ∙ base-clamped (g .limit) (g .text .now) (length (g .frames .now)) (g .n)
             (c .before .before .before .before .before .before .before .clamped .result)
             (c .before .before .before .before .before .before .before .clamped .ensures))),
       ),

@@ -6,7 +6,6 @@ use lib.ListN.{length}
 use Rattle.file_exports.specs.Exported.{saidNumber, saidFrame, handedFrame}
 use Rattle.answers.specs.Numbers.{samenessSaid}
 use Rattle.answers.specs.declared.Sameness.{Sameness}
-use Rattle.answers.specs.Limit.{maxFrames}
 use Rattle.frames.specs.declared.Frame.{Frame}
 use Rattle.file_read.specs.Types.{sameTypes}
 use borrow.Author.Needs.{needs}
@@ -34,10 +33,10 @@ returns-2 c =
           (e .0
           ∙ ap
           (λ (l : Frame).
-          sameTypes maxFrames (g .text .now) (length (g .frames .now)) l
+          sameTypes (g .limit) (g .text .now) (length (g .frames .now)) l
           (c .before .before .before .before .before .before .before .before .handed-frame2 .result))
           (c .before .before .before .before .before .before .before .before .before .handed-frame .ensures)
-          ∙ ap (sameTypes maxFrames (g .text .now) (length (g .frames .now)) (handedFrame (g .left .now)))
+          ∙ ap (sameTypes (g .limit) (g .text .now) (length (g .frames .now)) (handedFrame (g .left .now)))
           (c .before .before .before .before .before .before .before .before .handed-frame2 .ensures))
           ∙ has-room (g .out .now) _ _ (c .before .before .before .before .before .before .before .before .before .before .if1 .left),
       (
@@ -48,10 +47,10 @@ returns-2 c =
             (e .0
             ∙ ap
             (λ (l : Frame).
-            sameTypes maxFrames (g .text .now) (length (g .frames .now)) l
+            sameTypes (g .limit) (g .text .now) (length (g .frames .now)) l
             (c .before .before .before .before .before .before .before .before .handed-frame2 .result))
             (c .before .before .before .before .before .before .before .before .before .handed-frame .ensures)
-            ∙ ap (sameTypes maxFrames (g .text .now) (length (g .frames .now)) (handedFrame (g .left .now)))
+            ∙ ap (sameTypes (g .limit) (g .text .now) (length (g .frames .now)) (handedFrame (g .left .now)))
             (c .before .before .before .before .before .before .before .before .handed-frame2 .ensures))),
       ),
     )

@@ -1,0 +1,15 @@
+-- A file within two limits (document 02, request 7) has the same lines for people at either. From `over-alike`. Assumes nothing.
+use Prim.Native.Nat.{ℕ, _*_, _≤_}
+use mathlib.Core.Path.{_≡_, ap}
+use mathlib.Core.List.{List}
+use lib.ListN.{length}
+use Rattle.answers.specs.Limit.{maxFrameBytes, maxAnswerBytes}
+use Rattle.text.specs.declared.AnswerRoom.the-variants.{Lent}
+use Rattle.text.specs.Reading.{mostFrames}
+use Rattle.file_read.proofs.Alike.{over-alike}
+use Rattle.explain_file.specs.Explained.{allOf, faultLines, fileLines, linesOf, explained}
+
+pub explained-alike : (limit other : ℕ) (t : List ℕ) → length t ≤ 33 * mostFrames limit → length t ≤ 33 * mostFrames other
+    → explained limit t ≡ explained other t
+unfolding linesOf
+explained-alike limit other t a b = ap allOf (over-alike limit other t a b faultLines fileLines maxFrameBytes (Lent maxAnswerBytes))
