@@ -12,5 +12,5 @@ next-spec =
     (tie.spec
     (λ c. search needs)
     (λ c. search needs)
-    (λ c. rw (le-leb (c .before .args .n) maxFrames (c .if1 .taken)))
+    (λ c. rw (le-leb (c .before .args .n) maxFrames (omega (arith, c .if1 .taken))))
     (λ c. rw (lt-leb (c .before .args .n) maxFrames (omega (arith, c .if1 .left)))))
