@@ -32,7 +32,7 @@ fn accepted(o: Outcome) -> usize {
 
 #[no_mangle]
 pub extern "C" fn bench_type_rows(text: &[u8], frames: &mut [u8], answers: &mut [u8]) -> usize {
-    accepted(type_rows(Pass::First, text, 1024, frames, answers))
+    accepted(type_rows(text, 1024, Pass::First, frames, answers))
 }
 
 #[no_mangle]

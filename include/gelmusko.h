@@ -6,7 +6,11 @@
  * rules.
  *
  * THE LIMIT. `limit` is the most frames that the file may have, 1 to 1,024. Any other number counts as 1,024, and so
- * does 0. It is new: callers of an earlier header hand in 0 after the text's length.
+ * does 0. Callers of a header without it hand in 0 after the text's length.
+ *
+ * THE PASS. `pass` says by which rules Binary rows are typed: 0 is the first pass, by the source's rules, and 1 the
+ * second, by WGSL's. Any other number counts as 0. All other rows, and verdicts, keep their rules, over the answers of
+ * the pass. Callers of a header without it hand in 0 after the limit.
  *
  * SLICES. Each slice is a pointer and a length in bytes. It must point to that many bytes, which the caller may read,
  * and, unless it is const, write. A slice of length 0 is neither read nor written, and its pointer may be null; a
@@ -30,7 +34,7 @@
  *   b0 = 8    a type of the file: its number in b2-3
  *   b0 = 9    a type by value, laid as a type of the file
  *   b0 = 10   a number in b1, its place in b2-3; number 0 where the file is accepted and nothing else is to be said.
- *             For a row's answer 10 to 20 or 22, with an index in b4-7 and a flag in b8
+ *             For a row's answer 10 to 20, 22, or in the second pass 41, with an index in b4-7 and a flag in b8
  *   b0 = 11   a verdict: 0, 22 or 30 to 33 in b1, its compose row in b2-3, expected or component in b4-7, given in
  *             b8-11
  *
@@ -60,6 +64,10 @@ extern "C" {
 #define GELMUSKO_OUT_BYTES 16
 #define GELMUSKO_TEXEL_BYTES 2
 
+/* passes */
+#define GELMUSKO_FIRST_PASS 0u
+#define GELMUSKO_SECOND_PASS 1u
+
 /* what is returned */
 #define GELMUSKO_GIVEN 0u       /* what was asked for; of a comparison: the same type */
 #define GELMUSKO_LONG 1u        /* the text has more than 33 bytes for each frame of the limit; place: the limit
@@ -85,21 +93,21 @@ uint32_t gelmusko_read_file(const uint8_t *text, size_t text_len, uint32_t limit
 /* Types every row and judges every compose. Returns 0 to 6. Of an accepted file `answers` has at its front, for each
  * row in order, its answer (b0 = 8, 9 or 10), and after a compose its verdict (b0 = 11); otherwise `answers` stays as
  * it was. out: number 0 to 6. */
-uint32_t gelmusko_type_rows(const uint8_t *text, size_t text_len, uint32_t limit,
+uint32_t gelmusko_type_rows(const uint8_t *text, size_t text_len, uint32_t limit, uint32_t pass,
                             uint8_t *frames, size_t frames_len,
                             uint8_t *answers, size_t answers_len, uint8_t *out, size_t out_len);
 
-/* The answer of one row. Returns 0 also where that answer is a refusal (10 to 20) or 22: it stands in out. Returns 1
- * to 6 where the file is refused, and 6 where it has no such row. The buffers are left as gelmusko_type_rows leaves
- * them, but `answers` as it was where there is no such row. */
-uint32_t gelmusko_row_type(const uint8_t *text, size_t text_len, uint32_t limit,
+/* The answer of one row. Returns 0 also where that answer is a refusal (10 to 20, 41) or 22: it stands in out.
+ * Returns 1 to 6 where the file is refused, and 6 where it has no such row. The buffers are left as
+ * gelmusko_type_rows leaves them, but `answers` as it was where there is no such row. */
+uint32_t gelmusko_row_type(const uint8_t *text, size_t text_len, uint32_t limit, uint32_t pass,
                            uint8_t *frames, size_t frames_len,
                            uint8_t *answers, size_t answers_len, uint32_t row, uint8_t *out, size_t out_len);
 
 /* The verdict on one compose, by its row. Returns 0 also where the verdict is 22 or 30 to 33: it stands in out.
  * Returns 1 to 6 where the file is refused, and 6 where it has no such row, or the row is no compose; `answers` stays
  * as it was then, and is else as gelmusko_type_rows leaves it. */
-uint32_t gelmusko_compose_verdict(const uint8_t *text, size_t text_len, uint32_t limit,
+uint32_t gelmusko_compose_verdict(const uint8_t *text, size_t text_len, uint32_t limit, uint32_t pass,
                                   uint8_t *frames, size_t frames_len,
                                   uint8_t *answers, size_t answers_len, uint32_t row,
                                   uint8_t *out, size_t out_len);

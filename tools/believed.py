@@ -28,7 +28,8 @@ contract file_lines::type_text
 contract file_pointers::canonical_form
 contract file_pointers::pointer_base
 contract text_encode::write_text
-contract text_limit::limit_of
+contract text_limit::word_of
+contract text_limit::asked_by
 contract explain_file::explain_text
 contract texel::texel_of
 contract gelmusko::*
@@ -46,6 +47,10 @@ theorem explain_file/proofs/Fits.antt explained-fits
 theorem law_later_readers/proofs/Ours.antt type-rows-keeps row-type-keeps just-enough
 theorem law_later_readers/proofs/Only.antt only-ours
 theorem law_later_readers/proofs/ShutOut.antt not-all-newer not-before-reading not-as-another not-at-itself
+theorem rule_rows/proofs/Wgsl.antt wgsl-is
+theorem law_passes/proofs/Judged.antt binary-judged
+theorem law_passes/proofs/Alike.antt passes-alike rows-alike verdicts-alike row-frames-alike outputs-alike file-alike
+theorem law_passes/proofs/Apart.antt not-both not-first-pass not-first-pass-by-row
 theorem law_widths/proofs/Files.antt file-widths
 theorem law_widths/proofs/Answers.antt answers-width row-type-width
 theorem law_widths/proofs/Values.antt resolution-width answer-width said-width scalar-back

@@ -23,9 +23,9 @@ int main(void)
     /* an empty file asks for no bytes of frames and answers */
     expect("read_file", gelmusko_read_file(NULL, 0, 0, NULL, 0, out, 16), GELMUSKO_GIVEN);
     expect("frame of number 0", out[0] * 256u + out[1], 10 * 256);
-    expect("type_rows", gelmusko_type_rows(NULL, 0, 0, NULL, 0, NULL, 0, out, 16), GELMUSKO_GIVEN);
-    expect("row_type", gelmusko_row_type(NULL, 0, 0, NULL, 0, NULL, 0, 0, out, 16), GELMUSKO_INDEX);
-    expect("compose_verdict", gelmusko_compose_verdict(NULL, 0, 0, NULL, 0, NULL, 0, 65536, out, 16), GELMUSKO_INDEX);
+    expect("type_rows", gelmusko_type_rows(NULL, 0, 0, 0, NULL, 0, NULL, 0, out, 16), GELMUSKO_GIVEN);
+    expect("row_type", gelmusko_row_type(NULL, 0, 0, 1, NULL, 0, NULL, 0, 0, out, 16), GELMUSKO_INDEX);
+    expect("compose_verdict", gelmusko_compose_verdict(NULL, 0, 0, 2, NULL, 0, NULL, 0, 65536, out, 16), GELMUSKO_INDEX);
     expect("same_type", gelmusko_same_type(NULL, 0, 0, NULL, 0, NULL, 0, NULL, 0, out, 16), GELMUSKO_FIELD);
     expect("canonical_form", gelmusko_canonical_form(NULL, 0, 0, NULL, 0, 0, out, 16), GELMUSKO_INDEX);
     expect("pointer_base", gelmusko_pointer_base(NULL, 0, 0, NULL, 0, 0, out, 16), GELMUSKO_INDEX);
@@ -40,11 +40,15 @@ int main(void)
     /* f32 as type 0 */
     const uint8_t *text = (const uint8_t *)"01010000020400000000000000000000\n";
     uint8_t number[16] = {8}, value[16] = {9, 1, 0, 0, 2, 4}, other[16] = {9, 1, 0, 0, 2, 8};
-    expect("one type", gelmusko_type_rows(text, 33, 0, frames, 16, answers, 16, out, 16), GELMUSKO_GIVEN);
-    expect("within one frame", gelmusko_type_rows(text, 33, 1, frames, 16, answers, 16, out, 16), GELMUSKO_GIVEN);
-    expect("over one frame", gelmusko_type_rows(text, 34, 1, frames, 16, answers, 16, out, 16), GELMUSKO_LONG);
+    expect("one type",
+           gelmusko_type_rows(text, 33, 0, GELMUSKO_FIRST_PASS, frames, 16, answers, 16, out, 16), GELMUSKO_GIVEN);
+    expect("within one frame",
+           gelmusko_type_rows(text, 33, 1, GELMUSKO_SECOND_PASS, frames, 16, answers, 16, out, 16), GELMUSKO_GIVEN);
+    expect("over one frame",
+           gelmusko_type_rows(text, 34, 1, GELMUSKO_SECOND_PASS, frames, 16, answers, 16, out, 16), GELMUSKO_LONG);
     expect("its place", out[2] + 256u * out[3], 1);
-    expect("short frames", gelmusko_type_rows(text, 33, 0, frames, 15, answers, 16, out, 16), GELMUSKO_SHORT);
+    expect("short frames",
+           gelmusko_type_rows(text, 33, 0, GELMUSKO_FIRST_PASS, frames, 15, answers, 16, out, 16), GELMUSKO_SHORT);
     expect("the same type", gelmusko_same_type(text, 33, 0, frames, 16, number, 16, value, 16, out, 16), GELMUSKO_GIVEN);
     expect("another type", gelmusko_same_type(text, 33, 0, frames, 16, number, 16, other, 16, out, 16), GELMUSKO_DIFFERENT);
     expect("its own canonical form", gelmusko_canonical_form(text, 33, 0, frames, 16, 0, out, 16), GELMUSKO_GIVEN);

@@ -21,7 +21,7 @@ int main(void)
         perror("gelmusko");
         return 2;
     }
-    if (gelmusko_type_rows(text, n, 0, frames, sizeof frames, answers, sizeof answers, out, sizeof out) != GELMUSKO_GIVEN) {
+    if (gelmusko_type_rows(text, n, 0, 0, frames, sizeof frames, answers, sizeof answers, out, sizeof out) != GELMUSKO_GIVEN) {
         print_frame(out);
         return 1;
     }

@@ -1,7 +1,7 @@
 //! Answers cases from standard input, for oracle/compare.py. A case is a line with the text's length, how many bytes more than it needs each buffer has, and the number of pairs;
 //! then the text; then two frames of 16 bytes for each pair. What is printed of a case: number and place; the lines handed back; `kept` where every byte of both buffers that the
 //! rules leave alone is as it was lent, else `spoilt`; and for each pair `yes`, `no` or the number.
-use gelmusko::{frames_of, same_type, type_rows, Outcome, Sameness};
+use gelmusko::{frames_of, same_type, type_rows, Outcome, Pass, Sameness};
 use std::io::{self, BufRead, Read, Write};
 
 const LENT: u8 = 238;
@@ -43,7 +43,7 @@ fn main() -> io::Result<()> {
         let composes = lines.iter().filter(|f| f[0] == 4 && f[1] == 5).count();
         let mut frames = vec![LENT; 16 * length.div_ceil(33) + more];
         let mut answers = vec![LENT; 16 * (rows + composes) + more];
-        let outcome = type_rows(&text, &mut frames, &mut answers);
+        let outcome = type_rows(&text, Pass::First, &mut frames, &mut answers);
         let (n, place) = number(outcome);
         writeln!(output, "{n} {place}")?;
         let written = if n == 0 { 16 * (rows + composes) } else { 0 };

@@ -1,5 +1,5 @@
 //! Types the file that its argument names, or standard input, and prints what each row is given.
-use gelmusko::{type_file, Output};
+use gelmusko::{type_file, Output, Pass};
 use std::io::Read;
 
 fn main() -> std::io::Result<()> {
@@ -10,7 +10,7 @@ fn main() -> std::io::Result<()> {
             std::io::stdin().read_to_end(&mut text)?;
         }
     }
-    match type_file(&text) {
+    match type_file(&text, Pass::First) {
         Ok(outputs) => {
             let mut row = 0;
             for output in outputs {

@@ -5,12 +5,12 @@
 //! [`type_file`] brings its own. Rows, types, lines and frames count from 0.
 //!
 //! ```
-//! use gelmusko::{row_type, Answer, Type, ANSWERS_BYTES, FRAMES_BYTES};
+//! use gelmusko::{row_type, Answer, Pass, Type, ANSWERS_BYTES, FRAMES_BYTES};
 //!
 //! // f32, and a value of it
 //! let text = b"01010000020400000000000000000000\n04040000000000000000000000000000\n";
 //! let (mut frames, mut answers) = ([0; FRAMES_BYTES], [0; ANSWERS_BYTES]);
-//! assert_eq!(row_type(text, &mut frames, &mut answers, 0), Ok(Answer::Typed(Type::Number(0))));
+//! assert_eq!(row_type(text, Pass::First, &mut frames, &mut answers, 0), Ok(Answer::Typed(Type::Number(0))));
 //! ```
 pub mod ffi;
 
@@ -113,20 +113,41 @@ impl Type {
     }
 }
 
-/// Why a row has no type: numbers 10 to 20.
+/// Why a row has no type: numbers 10 to 20, and 41.
 #[derive(Clone, Copy, Debug, PartialEq, Eq)]
 pub enum Refusal {
-    OutOfBoundsIndex { expr: u16, index: u32 },
-    InvalidAccess { expr: u16, indexed: bool },
-    InvalidSubAccess { ty: u16, indexed: bool },
-    InvalidScalar { expr: u16 },
-    InvalidVector { expr: u16 },
-    InvalidPointer { expr: u16 },
-    InvalidImage { expr: u16 },
+    OutOfBoundsIndex {
+        expr: u16,
+        index: u32,
+    },
+    InvalidAccess {
+        expr: u16,
+        indexed: bool,
+    },
+    InvalidSubAccess {
+        ty: u16,
+        indexed: bool,
+    },
+    InvalidScalar {
+        expr: u16,
+    },
+    InvalidVector {
+        expr: u16,
+    },
+    InvalidPointer {
+        expr: u16,
+    },
+    InvalidImage {
+        expr: u16,
+    },
     FunctionReturnsVoid,
     IncompatibleOperands,
-    FunctionArgumentNotFound { index: u32 },
+    FunctionArgumentNotFound {
+        index: u32,
+    },
     MissingSpecialType,
+    /// 41, in the second pass: WGSL has no such expression of these operand types.
+    Mismatch,
 }
 
 /// A row's answer.
@@ -272,6 +293,7 @@ impl Answer {
             18 => Refusal::IncompatibleOperands,
             19 => Refusal::FunctionArgumentNotFound { index },
             20 => Refusal::MissingSpecialType,
+            41 => Refusal::Mismatch,
             22 => return Answer::Newer { row: expr },
             _ => never(frame),
         })
@@ -321,6 +343,24 @@ impl Default for Limit {
     }
 }
 
+/// By which rules Binary rows are typed: in the first pass by those of the source, in the second by WGSL's. All other rows, and verdicts, keep their rules over the answers of
+/// the pass.
+#[derive(Clone, Copy, Debug, PartialEq, Eq)]
+pub enum Pass {
+    First,
+    Second,
+}
+
+impl Pass {
+    /// As the library takes it.
+    fn number(self) -> u32 {
+        match self {
+            Pass::First => 0,
+            Pass::Second => 1,
+        }
+    }
+}
+
 // In each call below the slices are those of references, so they point to as many bytes as they say, and those that are written overlap no other.
 impl Limit {
     /// Whether a file is accepted. After numbers 1 to 3 the buffer is as it was; else the text's frames stand at its front.
@@ -341,13 +381,20 @@ impl Limit {
     }
 
     /// Types every row and judges every compose. Of an accepted file the answers and verdicts stand at the front of the answer buffer; else that is as it was.
-    pub fn type_rows(self, text: &[u8], frames: &mut [u8], answers: &mut [u8]) -> Outcome {
+    pub fn type_rows(
+        self,
+        text: &[u8],
+        pass: Pass,
+        frames: &mut [u8],
+        answers: &mut [u8],
+    ) -> Outcome {
         let mut out = Frame::default();
         unsafe {
             ffi::gelmusko_type_rows(
                 text.as_ptr(),
                 text.len(),
                 self.0,
+                pass.number(),
                 frames.as_mut_ptr(),
                 frames.len(),
                 answers.as_mut_ptr(),
@@ -363,6 +410,7 @@ impl Limit {
     pub fn row_type(
         self,
         text: &[u8],
+        pass: Pass,
         frames: &mut [u8],
         answers: &mut [u8],
         row: u32,
@@ -373,6 +421,7 @@ impl Limit {
                 text.as_ptr(),
                 text.len(),
                 self.0,
+                pass.number(),
                 frames.as_mut_ptr(),
                 frames.len(),
                 answers.as_mut_ptr(),
@@ -394,6 +443,7 @@ impl Limit {
     pub fn compose_verdict(
         self,
         text: &[u8],
+        pass: Pass,
         frames: &mut [u8],
         answers: &mut [u8],
         row: u32,
@@ -404,6 +454,7 @@ impl Limit {
                 text.as_ptr(),
                 text.len(),
                 self.0,
+                pass.number(),
                 frames.as_mut_ptr(),
                 frames.len(),
                 answers.as_mut_ptr(),
@@ -498,28 +549,30 @@ pub fn read_file(text: &[u8], frames: &mut [u8]) -> Outcome {
 }
 
 /// [`Limit::type_rows`] within 1,024 frames.
-pub fn type_rows(text: &[u8], frames: &mut [u8], answers: &mut [u8]) -> Outcome {
-    Limit::default().type_rows(text, frames, answers)
+pub fn type_rows(text: &[u8], pass: Pass, frames: &mut [u8], answers: &mut [u8]) -> Outcome {
+    Limit::default().type_rows(text, pass, frames, answers)
 }
 
 /// [`Limit::row_type`] within 1,024 frames.
 pub fn row_type(
     text: &[u8],
+    pass: Pass,
     frames: &mut [u8],
     answers: &mut [u8],
     row: u32,
 ) -> Result<Answer, Outcome> {
-    Limit::default().row_type(text, frames, answers, row)
+    Limit::default().row_type(text, pass, frames, answers, row)
 }
 
 /// [`Limit::compose_verdict`] within 1,024 frames.
 pub fn compose_verdict(
     text: &[u8],
+    pass: Pass,
     frames: &mut [u8],
     answers: &mut [u8],
     row: u32,
 ) -> Result<Verdict, Outcome> {
-    Limit::default().compose_verdict(text, frames, answers, row)
+    Limit::default().compose_verdict(text, pass, frames, answers, row)
 }
 
 /// [`Limit::same_type`] within 1,024 frames.
@@ -546,11 +599,11 @@ pub fn texel(density: u32) -> Texel {
     }
 }
 
-/// Types a whole file with buffers of its own.
-pub fn type_file(text: &[u8]) -> Result<Vec<Output>, Outcome> {
+/// Types a whole file with buffers of its own, within 1,024 frames.
+pub fn type_file(text: &[u8], pass: Pass) -> Result<Vec<Output>, Outcome> {
     let mut frames = vec![0; FRAMES_BYTES];
     let mut answers = vec![0; ANSWERS_BYTES];
-    match type_rows(text, &mut frames, &mut answers) {
+    match type_rows(text, pass, &mut frames, &mut answers) {
         Outcome::Accepted => {
             let lines = text.len() / 33;
             let rows = frames_of(&frames)

@@ -3,8 +3,8 @@ mod common;
 
 use common::*;
 use gelmusko::{
-    compose_verdict, frames_of, row_type, type_file, type_rows, Answer, Outcome, Output, Refusal,
-    Type, Verdict,
+    compose_verdict, frames_of, row_type, type_file, type_rows, Answer, Outcome, Output, Pass,
+    Refusal, Type, Verdict,
 };
 
 fn paper_answers() -> Vec<Answer> {
@@ -27,13 +27,13 @@ fn paper_answers() -> Vec<Answer> {
 fn paper_example() {
     let (mut frames, mut answers) = (lent(16 * 11), lent(16 * 6));
     assert_eq!(
-        type_rows(&text(PAPER), &mut frames, &mut answers),
+        type_rows(&text(PAPER), Pass::First, &mut frames, &mut answers),
         Outcome::Accepted
     );
     assert_eq!(frames, bytes(PAPER));
     assert_eq!(answers, bytes(PAPER_ANSWERS));
     assert_eq!(
-        type_file(&text(PAPER)),
+        type_file(&text(PAPER), Pass::First),
         Ok(paper_answers().into_iter().map(Output::Row).collect())
     );
 }
@@ -43,7 +43,13 @@ fn paper_row_by_row() {
     for (row, answer) in paper_answers().into_iter().enumerate() {
         let (mut frames, mut answers) = (lent(16 * 11), lent(16 * 6 + 1));
         assert_eq!(
-            row_type(&text(PAPER), &mut frames, &mut answers, row as u32),
+            row_type(
+                &text(PAPER),
+                Pass::First,
+                &mut frames,
+                &mut answers,
+                row as u32
+            ),
             Ok(answer)
         );
         assert_eq!(frames, bytes(PAPER));
@@ -68,7 +74,7 @@ fn rows_that_are_not_there() {
     ] {
         let (mut frames, mut answers) = (lent(16 * 11), lent(16 * 6));
         assert_eq!(
-            row_type(&text(PAPER), &mut frames, &mut answers, row),
+            row_type(&text(PAPER), Pass::First, &mut frames, &mut answers, row),
             Err(Outcome::Index { frame: 0 })
         );
         assert_eq!((frames, answers), (bytes(PAPER), lent(16 * 6)));
@@ -76,7 +82,7 @@ fn rows_that_are_not_there() {
     for row in [4, 65_535, 65_536, 65_538, u32::MAX] {
         let (mut frames, mut answers) = (lent(16 * 11), lent(16 * 6));
         assert_eq!(
-            compose_verdict(&text(COMPOSES), &mut frames, &mut answers, row),
+            compose_verdict(&text(COMPOSES), Pass::First, &mut frames, &mut answers, row),
             Err(Outcome::Index { frame: 0 })
         );
         assert_eq!((frames, answers), (bytes(COMPOSES), lent(16 * 6)));
@@ -102,7 +108,10 @@ fn verdicts() {
             },
         },
     ];
-    assert_eq!(type_file(&text(COMPOSES)), Ok(outputs.to_vec()));
+    assert_eq!(
+        type_file(&text(COMPOSES), Pass::First),
+        Ok(outputs.to_vec())
+    );
     for (row, verdict) in [
         (0, Err(Outcome::Index { frame: 0 })),
         (2, Ok(Verdict::Passes)),
@@ -116,7 +125,7 @@ fn verdicts() {
     ] {
         let (mut frames, mut answers) = (lent(16 * 11), lent(16 * 6));
         assert_eq!(
-            compose_verdict(&text(COMPOSES), &mut frames, &mut answers, row),
+            compose_verdict(&text(COMPOSES), Pass::First, &mut frames, &mut answers, row),
             verdict
         );
         // a row that is no compose leaves the answers as they were
@@ -164,7 +173,7 @@ fn every_verdict() {
         let (mut frames, mut answers) =
             (lent(gelmusko::FRAMES_BYTES), lent(gelmusko::ANSWERS_BYTES));
         assert_eq!(
-            compose_verdict(&text(&file), &mut frames, &mut answers, row),
+            compose_verdict(&text(&file), Pass::First, &mut frames, &mut answers, row),
             Ok(verdict)
         );
     }

@@ -2,7 +2,7 @@
 mod common;
 
 use common::*;
-use gelmusko::{compose_verdict, ffi, read_file, row_type, type_file, type_rows, Outcome};
+use gelmusko::{compose_verdict, ffi, read_file, row_type, type_file, type_rows, Outcome, Pass};
 
 /// What `written` leaves in a lent buffer of so many bytes.
 fn after(written: &[u8], bytes: usize) -> Vec<u8> {
@@ -35,15 +35,15 @@ fn answers_short_exact_and_long() {
         for bytes_lent in [0, 15, needed - 16, needed - 1] {
             let (mut frames, mut answers) = (lent(16 * file.len()), lent(bytes_lent));
             assert_eq!(
-                type_rows(&text(file), &mut frames, &mut answers),
+                type_rows(&text(file), Pass::First, &mut frames, &mut answers),
                 Outcome::Short
             );
             assert_eq!(
-                row_type(&text(file), &mut frames, &mut answers, 0),
+                row_type(&text(file), Pass::First, &mut frames, &mut answers, 0),
                 Err(Outcome::Short)
             );
             assert_eq!(
-                compose_verdict(&text(file), &mut frames, &mut answers, 2),
+                compose_verdict(&text(file), Pass::First, &mut frames, &mut answers, 2),
                 Err(Outcome::Short)
             );
             assert_eq!((frames, answers), (lent(16 * file.len()), lent(bytes_lent)));
@@ -51,7 +51,7 @@ fn answers_short_exact_and_long() {
         for bytes_lent in [needed, needed + 1, needed + 16, gelmusko::ANSWERS_BYTES] {
             let (mut frames, mut answers) = (lent(16 * file.len()), lent(bytes_lent));
             assert_eq!(
-                type_rows(&text(file), &mut frames, &mut answers),
+                type_rows(&text(file), Pass::First, &mut frames, &mut answers),
                 Outcome::Accepted
             );
             assert_eq!(frames, bytes(file));
@@ -61,7 +61,7 @@ fn answers_short_exact_and_long() {
         // frames too short, and answers long enough
         let (mut frames, mut answers) = (lent(16 * file.len() - 1), lent(needed));
         assert_eq!(
-            type_rows(&text(file), &mut frames, &mut answers),
+            type_rows(&text(file), Pass::First, &mut frames, &mut answers),
             Outcome::Short
         );
         assert_eq!((frames, answers), (lent(16 * file.len() - 1), lent(needed)));
@@ -71,10 +71,13 @@ fn answers_short_exact_and_long() {
 #[test]
 fn empty_file_asks_for_nothing() {
     assert_eq!(read_file(&[], &mut []), Outcome::Accepted);
-    assert_eq!(type_rows(&[], &mut [], &mut []), Outcome::Accepted);
-    assert_eq!(type_file(&[]), Ok(vec![]));
     assert_eq!(
-        row_type(&[], &mut [], &mut [], 0),
+        type_rows(&[], Pass::First, &mut [], &mut []),
+        Outcome::Accepted
+    );
+    assert_eq!(type_file(&[], Pass::First), Ok(vec![]));
+    assert_eq!(
+        row_type(&[], Pass::First, &mut [], &mut [], 0),
         Err(Outcome::Index { frame: 0 })
     );
 }
@@ -100,9 +103,12 @@ fn long_and_torn_files_change_no_buffer() {
         for (f, a) in [(gelmusko::FRAMES_BYTES, gelmusko::ANSWERS_BYTES), (0, 0)] {
             let (mut frames, mut answers) = (lent(f), lent(a));
             assert_eq!(read_file(&file, &mut frames), outcome);
-            assert_eq!(type_rows(&file, &mut frames, &mut answers), outcome);
             assert_eq!(
-                row_type(&file, &mut frames, &mut answers, u32::MAX),
+                type_rows(&file, Pass::First, &mut frames, &mut answers),
+                outcome
+            );
+            assert_eq!(
+                row_type(&file, Pass::First, &mut frames, &mut answers, u32::MAX),
                 Err(outcome)
             );
             assert_eq!((frames, answers), (lent(f), lent(a)));
@@ -122,19 +128,22 @@ fn faults_of_frames_leave_the_frames() {
         (STRAY, Outcome::Index { frame: 1 }),
     ] {
         let (mut frames, mut answers) = (lent(40), lent(40));
-        assert_eq!(type_rows(&text(file), &mut frames, &mut answers), outcome);
+        assert_eq!(
+            type_rows(&text(file), Pass::First, &mut frames, &mut answers),
+            outcome
+        );
         assert_eq!((&frames, &answers), (&after(&bytes(file), 40), &lent(40)));
         assert_eq!(read_file(&text(file), &mut frames), outcome);
         assert_eq!(
-            row_type(&text(file), &mut frames, &mut answers, 65_536),
+            row_type(&text(file), Pass::First, &mut frames, &mut answers, 65_536),
             Err(outcome)
         );
         assert_eq!(
-            compose_verdict(&text(file), &mut frames, &mut answers, 0),
+            compose_verdict(&text(file), Pass::First, &mut frames, &mut answers, 0),
             Err(outcome)
         );
         assert_eq!((&frames, &answers), (&after(&bytes(file), 40), &lent(40)));
-        assert_eq!(type_file(&text(file)), Err(outcome));
+        assert_eq!(type_file(&text(file), Pass::First), Err(outcome));
     }
 }
 
@@ -155,9 +164,11 @@ fn with_out(
     };
     vec![
         call(&|o| unsafe { ffi::gelmusko_read_file(t, n, 0, f, m, o, out_bytes) }),
-        call(&|o| unsafe { ffi::gelmusko_type_rows(t, n, 0, f, m, a, k, o, out_bytes) }),
-        call(&|o| unsafe { ffi::gelmusko_row_type(t, n, 0, f, m, a, k, 0, o, out_bytes) }),
-        call(&|o| unsafe { ffi::gelmusko_compose_verdict(t, n, 0, f, m, a, k, 2, o, out_bytes) }),
+        call(&|o| unsafe { ffi::gelmusko_type_rows(t, n, 0, 0, f, m, a, k, o, out_bytes) }),
+        call(&|o| unsafe { ffi::gelmusko_row_type(t, n, 0, 0, f, m, a, k, 0, o, out_bytes) }),
+        call(&|o| unsafe {
+            ffi::gelmusko_compose_verdict(t, n, 0, 0, f, m, a, k, 2, o, out_bytes)
+        }),
         call(&|o| unsafe { ffi::gelmusko_same_type(t, n, 0, f, m, l, z, l, z, o, out_bytes) }),
         call(&|o| unsafe { ffi::gelmusko_canonical_form(t, n, 0, f, m, 0, o, out_bytes) }),
         call(&|o| unsafe { ffi::gelmusko_pointer_base(t, n, 0, f, m, 0, o, out_bytes) }),

@@ -1,7 +1,7 @@
 //! Limits of frames: the limit that holds, the order of the numbers at it, and buffers that are short, exact and long.
 mod common;
 use common::{lent, text};
-use gelmusko::{Limit, Outcome};
+use gelmusko::{Limit, Outcome, Pass};
 
 const LINE: &str = "01010000020400000000000000000000";
 
@@ -32,7 +32,7 @@ fn number_1_names_the_limit_that_holds() {
             let (mut frames, mut answers) = (lent(16 * holds + more), lent(more));
             let limit = Limit(asked);
             assert_eq!(
-                limit.type_rows(&fits, &mut frames, &mut answers),
+                limit.type_rows(&fits, Pass::First, &mut frames, &mut answers),
                 Outcome::Accepted
             );
             assert_eq!(frames[16 * holds..], lent(more)[..]);
@@ -42,9 +42,12 @@ fn number_1_names_the_limit_that_holds() {
             let (mut frames, mut answers) = (lent(bytes), lent(16));
             let limit = Limit(asked);
             assert_eq!(limit.read_file(&over, &mut frames), long);
-            assert_eq!(limit.type_rows(&over, &mut frames, &mut answers), long);
             assert_eq!(
-                limit.row_type(&over, &mut frames, &mut answers, 0),
+                limit.type_rows(&over, Pass::First, &mut frames, &mut answers),
+                long
+            );
+            assert_eq!(
+                limit.row_type(&over, Pass::First, &mut frames, &mut answers, 0),
                 Err(long)
             );
             assert_eq!((frames, answers), (lent(bytes), lent(16)));
@@ -59,10 +62,13 @@ fn number_1_names_the_limit_that_holds() {
 fn a_file_within_two_limits_is_answered_alike() {
     let file = text(common::PAPER);
     let (mut frames, mut answers) = (lent(256), lent(256));
-    let given = gelmusko::type_rows(&file, &mut frames, &mut answers);
+    let given = gelmusko::type_rows(&file, Pass::First, &mut frames, &mut answers);
     for asked in [file.len() as u32 / 33, 255, 256, 1024, 0] {
         let (mut f, mut a) = (lent(256), lent(256));
-        assert_eq!(Limit(asked).type_rows(&file, &mut f, &mut a), given);
+        assert_eq!(
+            Limit(asked).type_rows(&file, Pass::First, &mut f, &mut a),
+            given
+        );
         assert_eq!((f, a), (frames.clone(), answers.clone()));
     }
 }

@@ -4,8 +4,8 @@ mod common;
 
 use common::lent;
 use gelmusko::{
-    compose_verdict, ffi, frames_of, row_type, same_type, Answer, Frame, Outcome, Sameness, Type,
-    Verdict,
+    compose_verdict, ffi, frames_of, row_type, same_type, Answer, Frame, Outcome, Pass, Sameness,
+    Type, Verdict,
 };
 use std::path::Path;
 
@@ -20,6 +20,7 @@ fn handed_back(text: &[u8]) -> Vec<Frame> {
         ffi::gelmusko_type_rows(
             text.as_ptr(),
             text.len(),
+            0,
             0,
             frames.as_mut_ptr(),
             frames.len(),
@@ -64,11 +65,12 @@ fn row_by_row(text: &[u8], rows: &[Frame], typed: &[u8]) {
             continue;
         }
         let (mut frames, mut answers) = (lent(16 * (text.len() / 33)), lent(typed.len()));
-        let given = row_type(text, &mut frames, &mut answers, n as u32).expect("a row");
+        let given =
+            row_type(text, Pass::First, &mut frames, &mut answers, n as u32).expect("a row");
         assert!(says(given, answer), "row {n}: {given:?}, {answer:?}");
         assert_eq!(answers, typed);
         let mut answers = lent(typed.len());
-        match compose_verdict(text, &mut frames, &mut answers, n as u32) {
+        match compose_verdict(text, Pass::First, &mut frames, &mut answers, n as u32) {
             Ok(given) => {
                 let frame = verdict.expect("a verdict");
                 assert_eq!(

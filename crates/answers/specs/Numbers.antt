@@ -47,7 +47,7 @@ outcomeValues (O.Order k) = at 4 k
 outcomeValues (O.Field k) = at 5 k
 outcomeValues (O.Index k) = at 6 k
 
--- why a row has no type: numbers 10 to 20
+-- why a row has no type: numbers 10 to 20, and 41 (document 02, request 3)
 abbrev pub refusalValues : Refusal → Refused
 refusalValues (R.OutOfBoundsIndex r i) = record { number = 10; place = r .0; index = i; indexed = false }
 refusalValues (R.InvalidAccess r q) = record { number = 11; place = r .0; index = 0; indexed = q }
@@ -60,6 +60,7 @@ refusalValues R.FunctionReturnsVoid = at 17 0
 refusalValues R.IncompatibleOperands = at 18 0
 refusalValues (R.FunctionArgumentNotFound i) = record { number = 19; place = 0; index = i; indexed = false }
 refusalValues R.MissingSpecialType = at 20 0
+refusalValues R.Mismatch = at 41 0
 
 -- the values of a verdict's frame, family 11, after its number and its compose row: expected or component, and given
 pub record Judged : Type 0 where

@@ -31,7 +31,7 @@ pub enum Outcome {
     Index { frame: u16 },
 }
 
-// Why a row has no type. The source's ResolveError, without its texts.
+// Why a row has no type. The source's ResolveError, without its texts; and the second pass's own: WGSL has no such Binary expression.
 pub enum Refusal {
     OutOfBoundsIndex { expr: RowNumber, index: u32 },
     InvalidAccess { expr: RowNumber, indexed: bool },
@@ -44,6 +44,7 @@ pub enum Refusal {
     IncompatibleOperands,
     FunctionArgumentNotFound(u32),
     MissingSpecialType,
+    Mismatch,
 }
 
 // A row's answer. Newer is the port's own: the reading met something that this reader does not type, at that row.

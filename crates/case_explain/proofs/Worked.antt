@@ -30,7 +30,7 @@ use Rattle.explain_words.specs.Words.{wordBytes}
 use Rattle.explain_words.specs.Lines.{digits, pieceBytes, spelled}
 use Rattle.explain_words.specs.ForProofs.{lines}
 use Rattle.explain_lines.specs.Types.{picked, named, scalarWords, around, vector, brief, within, pointer, array, cooperative, className, arrayedName, image, whole}
-use Rattle.explain_lines.specs.Answers.{manner, refusal, judged, said, shown, ending, lineOf, faultWords}
+use Rattle.explain_lines.specs.Answers.{manner, reason, refusal, judged, said, shown, ending, lineOf, faultWords}
 use Rattle.explain_file.specs.Explained.{joined, nextRow, rowAt, linesOf, explained}
 use Rattle.case_explain.specs.Table.{Room, over, below, Case, table}
 
@@ -44,7 +44,7 @@ lent c = replicate (sized (length (lines (c .lines))) (c .room)) 7
 
 -- what is given, and what is left of the buffer
 abbrev given : Case → Printed × List ℕ
-given c = (printed (explained (c .limit) (lines (c .text))) (length (lent c)), printedAfter (explained (c .limit) (lines (c .text))) (lent c))
+given c = (printed (explained (c .pass) (c .limit) (lines (c .text))) (length (lent c)), printedAfter (explained (c .pass) (c .limit) (lines (c .text))) (lent c))
 
 abbrev left : List ℕ → Room → Printed × List ℕ
 left l (over k) = (Bytes (length l), l ++ replicate k 7)
@@ -54,5 +54,5 @@ abbrev wanted : Case → Printed × List ℕ
 wanted c = left (lines (c .lines)) (c .room)
 
 worked : map given table ≡ map wanted table
-unfolding lowest allBelow build sumBelow digitValue lineOk byteOf answerFrames tooShort mostFrames readText frameAt typeOf itemOf rowOf memberOf componentOf fieldsFit orderOk start startsOf namesOk earlyOk indexOk checkFrames readFile printed printedAfter listed typeIn equalTypes identical sameIn sameType canonicalTypeIn pointerBaseIn rowIn eachPart vectorParts outputs framesBytes digitOf charOf wordBytes W.table digits pieceBytes spelled picked named scalarWords around vector brief within pointer array cooperative className arrayedName image whole manner refusal judged said shown ending lineOf faultWords joined nextRow rowAt linesOf
+unfolding lowest allBelow build sumBelow digitValue lineOk byteOf answerFrames tooShort mostFrames readText frameAt typeOf itemOf rowOf memberOf componentOf fieldsFit orderOk start startsOf namesOk earlyOk indexOk checkFrames readFile printed printedAfter listed typeIn equalTypes identical sameIn sameType canonicalTypeIn pointerBaseIn rowIn eachPart vectorParts outputs framesBytes digitOf charOf wordBytes W.table digits pieceBytes spelled picked named scalarWords around vector brief within pointer array cooperative className arrayedName image whole manner reason refusal judged said shown ending lineOf faultWords joined nextRow rowAt linesOf
 worked = refl

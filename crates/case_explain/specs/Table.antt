@@ -3,22 +3,25 @@ use Prim.Native.Nat.{ℕ}
 use Prim.Native.String.{String}
 use mathlib.Core.List.{List, [], _∷_}
 use Rattle.answers.specs.Limit.{maxFrames}
+use Rattle.rule_rows.specs.declared.Pass.{Pass}
+use Rattle.rule_rows.specs.declared.Pass.the-variants.{First, Second}
 use Rattle.case_file.specs.Table.{paper, composes, noCount}
 
 -- the length of an output buffer: so many bytes more than the lines have, or so many fewer
 pub data Room : Type 0 where
   over below : ℕ → Room
 
--- a text and a limit of frames, all of its lines, and an output buffer's length
+-- a text, a limit of frames and a pass, all of its lines, and an output buffer's length
 pub record Case : Type 0 where
   pub text : List String
   pub limit : ℕ
+  pub pass : Pass
   pub lines : List String
   pub room : Room
 
--- with just the room for them
+-- by the first pass, with just the room for them
 abbrev whole : List String → List String → Case
-whole t l = record { text = t; limit = maxFrames; lines = l; room = over 0 }
+whole t l = record { text = t; limit = maxFrames; pass = First; lines = l; room = over 0 }
 
 -- values of: a bool of four bytes, which has no name; a storage image; a pointer to a struct in storage; a struct
 abbrev values : List String
@@ -60,10 +63,28 @@ table =
     ∷ whole ("0101" ∷ []) ("line 1: number 2, torn: not 32 digits and a line feed" ∷ [])
     ∷ whole [] []
     -- a text of eight lines, within seven frames; a limit of 0 counts as 1,024
-    ∷ record { text = values; limit = 7; lines = "number 1, long: over 7 frames (231 bytes)" ∷ []; room = over 0 }
-    ∷ record { text = "0101" ∷ []; limit = 0; lines = "line 1: number 2, torn: not 32 digits and a line feed" ∷ []; room = over 0 }
+    ∷ record { text = values; limit = 7; pass = First; lines = "number 1, long: over 7 frames (231 bytes)" ∷ []; room = over 0 }
+    ∷ record { text = "0101" ∷ []; limit = 0; pass = First; lines = "line 1: number 2, torn: not 32 digits and a line feed" ∷ []; room = over 0 }
+    -- a value, by the second pass
+    ∷ record { text = "01010000020400000000000000000000" ∷ "04040000000000000000000000000000" ∷ []; limit = maxFrames; pass = Second; lines = "row 0  f32  (type 0)" ∷ []; room = over 0 }
+    -- an i32 plus an f32, by the second pass
+    ∷ record {
+      text =
+          "01010000020400000000000000000000" ∷
+          "01010000000400000000000000000000" ∷
+          "04040000000000000000000000000000" ∷
+          "04040100000000000000000000000000" ∷
+          "04120100000000000000000000000000" ∷ [];
+      limit = maxFrames;
+      pass = Second;
+      lines =
+          "row 0  f32  (type 0)" ∷
+          "row 1  i32  (type 1)" ∷
+          "row 2  refused 41 mismatch: not in WGSL with these operand types" ∷ [];
+      room = over 0;
+    }
     -- bytes past the lines stay; one byte too few, and none at all, is number 3 and changes nothing
-    ∷ record { text = noCount; limit = maxFrames; lines = "line 2: number 5, field: a byte is outside its values" ∷ []; room = over 3 }
-    ∷ record { text = noCount; limit = maxFrames; lines = "line 2: number 5, field: a byte is outside its values" ∷ []; room = below 1 }
-    ∷ record { text = "0101" ∷ []; limit = maxFrames; lines = "line 1: number 2, torn: not 32 digits and a line feed" ∷ []; room = below 54 }
+    ∷ record { text = noCount; limit = maxFrames; pass = First; lines = "line 2: number 5, field: a byte is outside its values" ∷ []; room = over 3 }
+    ∷ record { text = noCount; limit = maxFrames; pass = First; lines = "line 2: number 5, field: a byte is outside its values" ∷ []; room = below 1 }
+    ∷ record { text = "0101" ∷ []; limit = maxFrames; pass = First; lines = "line 1: number 2, torn: not 32 digits and a line feed" ∷ []; room = below 54 }
     ∷ []

@@ -25,9 +25,9 @@ use Rattle.rule_types.specs.Canonical.{ifPointer}
 use Rattle.rule_rows.specs.declared.Pass.{Pass}
 use Rattle.rule_rows.specs.declared.Pass.the-variants as Pa
 use Rattle.rule_rows.specs.Selectors.{ifImage}
-use Rattle.rule_rows.specs.Steps.{operand, look, sameAs, byType, throughBase, byBase}
+use Rattle.rule_rows.specs.Steps.{operand, look, sameAs, byType, byBoth, throughBase, byBase}
 use Rattle.rule_rows.specs.Images.{sampled, sampledFrom, sampledOf, imageSample, imageQuery}
-use Rattle.rule_rows.specs.Operators.{product, multiply, binary, binaryBy, relational}
+use Rattle.rule_rows.specs.Operators.{product, binary, wgslOf, binaryBy, relational}
 use Rattle.rule_rows.specs.Typed.{resolve, typed, typing}
 use Rattle.case_rows.specs.Reads.{reads, sampleReads, queryReads, binaryReads, binaryReadsBy, relationalReads, unlessRefused, unlessNewer, baseThing, classThing, stepTo, lineSteps, shownSteps, rowReading}
 
@@ -125,14 +125,14 @@ module _ (sight : Sight) (earlier : Readings) where
       (λ a. come-steps (row here) (form a) (λ x. sampledFrom here n (x .inner)) (stepTo sight (row here) (classThing (sight (form a))) [])
       (λ x q. class-steps here n (x .inner) ∙ ap (λ (o : Option Form). stepTo sight (row here) (classThing o) []) (sym q)))
 
-  into-both-steps : (here l r : RowNumber)
-      → steps (multiply here l r)
+  into-both-steps : (here l r : RowNumber) (f : TypeAnswer → TypeAnswer → TypeInner → TypeInner → Typed)
+      → steps (byBoth here l r f)
       ≡ earlier l .steps ++ unlessRefused (earlier l .end) (λ a. earlier r .steps ++ unlessRefused (earlier r .end) (λ b.
       step (row here) (form a) ∷ unlessNewer (sight (form a)) (step (row here) (form b) ∷ unlessNewer (sight (form b)) [])))
-  into-both-steps here l r =
+  into-both-steps here l r f =
       operand-steps l _ _ (λ a. operand-steps r _ _ (λ b.
-      come-steps (row here) (form a) (λ x. look here b (λ y. done (product a b (x .inner) (y .inner)))) _
-      (λ x q. come-steps (row here) (form b) (λ y. done (product a b (x .inner) (y .inner))) [] (λ y w. refl))))
+      come-steps (row here) (form a) (λ x. look here b (λ y. done (f a b (x .inner) (y .inner)))) _
+      (λ x q. come-steps (row here) (form b) (λ y. done (f a b (x .inner) (y .inner))) [] (λ y w. refl))))
 
   -- BY THE ROWS
 
@@ -150,7 +150,7 @@ module _ (sight : Sight) (earlier : Readings) where
       → steps (binary here op l r) ≡ lineSteps sight earlier here (binaryReads op l r)
   binary-steps here Bo.Add l r = answer-steps l
   binary-steps here Bo.Subtract l r = answer-steps l
-  binary-steps here Bo.Multiply l r = into-both-steps here l r
+  binary-steps here Bo.Multiply l r = into-both-steps here l r product
   binary-steps here Bo.Divide l r = answer-steps l
   binary-steps here Bo.Modulo l r = answer-steps l
   binary-steps here Bo.Equal l r = into-steps here l _
@@ -170,7 +170,7 @@ module _ (sight : Sight) (earlier : Readings) where
   binary-by-steps : (pass : Pass) (here : RowNumber) (op : BinaryOperator) (l r : RowNumber)
       → steps (binaryBy pass here op l r) ≡ lineSteps sight earlier here (binaryReadsBy pass op l r)
   binary-by-steps Pa.First here op l r = binary-steps here op l r
-  binary-by-steps Pa.Second here op l r = binary-steps here op l r
+  binary-by-steps Pa.Second here op l r = into-both-steps here l r (wgslOf op)
 
   relational-steps : (here : RowNumber) (f : RelationalFunction) (n : RowNumber)
       → steps (relational here f n) ≡ lineSteps sight earlier here (relationalReads f n)

@@ -87,10 +87,10 @@ binaryReads Bo.LogicalOr l r = into l
 binaryReads Bo.ShiftLeft l r = answer l
 binaryReads Bo.ShiftRight l r = answer l
 
--- by the pass
+-- by the pass: in the second every operator reads left, then right, and looks into both (document 02, request 3)
 abbrev pub binaryReadsBy : Pass → BinaryOperator → RowNumber → RowNumber → Reads
 binaryReadsBy Pa.First op l r = binaryReads op l r
-binaryReadsBy Pa.Second op l r = binaryReads op l r
+binaryReadsBy Pa.Second op l r = intoBoth l r
 
 -- All and Any read nothing
 abbrev pub relationalReads : RelationalFunction → RowNumber → Reads

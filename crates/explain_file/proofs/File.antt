@@ -4,7 +4,7 @@ use mathlib.Core.Path.{_≡_, sym, ap, _∙_}
 use mathlib.Core.List.{List}
 use lib.ListN.{length, take}
 use Rattle.answers.specs.Limit.{maxFrameBytes, maxAnswerBytes}
-use Rattle.rule_rows.specs.declared.Pass.the-variants.{First}
+use Rattle.rule_rows.specs.declared.Pass.{Pass}
 use Rattle.file_read.specs.declared.OptionUsize.the-variants as Ou
 use Rattle.file_read.specs.declared.TypedFile.{TypedFile}
 use Rattle.file_read.specs.File.{overFile}
@@ -15,12 +15,12 @@ use Rattle.file_read.proofs.Typed.{handed-over, largest}
 use Rattle.explain_file.specs.Explained.{faultLines, answerLines, fileLines, linesOf}
 
 -- after a call of `type_file` with buffers of the largest sizes
-module _ {limit : ℕ} {t fr an last out : List ℕ} {r : TypedFile} (h : HandsBack First limit t fr an r last out) (ef : length fr ≡ maxFrameBytes) (ea : length an ≡ maxAnswerBytes) where
-  pub refused-lines : framesIn (r .outcome) ≡ Ou.None → faultLines (r .outcome) ≡ linesOf limit t
+module _ {pass : Pass} {limit : ℕ} {t fr an last out : List ℕ} {r : TypedFile} (h : HandsBack pass limit t fr an r last out) (ef : length fr ≡ maxFrameBytes) (ea : length an ≡ maxAnswerBytes) where
+  pub refused-lines : framesIn (r .outcome) ≡ Ou.None → faultLines (r .outcome) ≡ linesOf pass limit t
   unfolding linesOf
-  refused-lines en = refused-over faultLines fileLines t (r .outcome) en ∙ ap (overFile faultLines fileLines t) (largest h ef ea)
+  refused-lines en = refused-over faultLines (fileLines pass) t (r .outcome) en ∙ ap (overFile faultLines (fileLines pass) t) (largest h ef ea)
 
   pub accepted-lines : {n : ℕ} → framesIn (r .outcome) ≡ Ou.Some n
-      → answerLines (take (16 * n) last) (take (16 * r .outputs) out) ≡ linesOf limit t
+      → answerLines (take (16 * n) last) (take (16 * r .outputs) out) ≡ linesOf pass limit t
   unfolding linesOf
-  accepted-lines en = handed-over h en faultLines answerLines ∙ ap (overFile faultLines fileLines t) (sym (h .outcome) ∙ largest h ef ea)
+  accepted-lines en = handed-over h en faultLines answerLines ∙ ap (overFile faultLines (fileLines pass) t) (sym (h .outcome) ∙ largest h ef ea)

@@ -12,7 +12,7 @@ use Rattle.text.specs.declared.AnswerRoom.the-variants.{Lent}
 use Rattle.text.specs.Lines.{decoded}
 use Rattle.frames.specs.Bytes.{frameAt, frameCount}
 use Rattle.frames.specs.Out.{outcomeFrame}
-use Rattle.rule_rows.specs.declared.Pass.the-variants.{First}
+use Rattle.rule_rows.specs.declared.Pass.{Pass}
 use Rattle.rule_answers.specs.Outputs.{outputBytes}
 use Rattle.file_read.specs.File.{overFile, readFile}
 use Rattle.file_read.proofs.Printed.{few-outputs}
@@ -24,15 +24,15 @@ use Rattle.explain_file.proofs.Fitting.{joined-long}
 fault-fits : (o : Outcome) → length (allOf (faultLines o)) ≤ maxExplainedBytes
 fault-fits o = omega (arith, joined-long (faultLines o .line) 1 (λ k. fault-long (outcomeFrame o)))
 
-pub explained-fits : (limit : ℕ) (t : List ℕ) → length (explained limit t) ≤ maxExplainedBytes
+pub explained-fits : (pass : Pass) (limit : ℕ) (t : List ℕ) → length (explained pass limit t) ≤ maxExplainedBytes
 unfolding linesOf
-explained-fits limit t = go (readFile limit t maxFrameBytes (Lent maxAnswerBytes)) refl
+explained-fits pass limit t = go (readFile limit t maxFrameBytes (Lent maxAnswerBytes)) refl
   where
-    go : (o : Outcome) → readFile limit t maxFrameBytes (Lent maxAnswerBytes) ≡ o → length (allOf (overFile faultLines fileLines t o)) ≤ maxExplainedBytes
+    go : (o : Outcome) → readFile limit t maxFrameBytes (Lent maxAnswerBytes) ≡ o → length (allOf (overFile faultLines (fileLines pass) t o)) ≤ maxExplainedBytes
     go (Accepted n) e =
         let fr = decoded t n in
-        let an = outputBytes First fr in
-        omega (arith, joined-long (lineAt fr an) (frameCount an) (λ k. line-long fr (rowAt an k) (frameAt an k)), few-outputs First limit t maxFrameBytes maxAnswerBytes n e)
+        let an = outputBytes pass fr in
+        omega (arith, joined-long (lineAt fr an) (frameCount an) (λ k. line-long fr (rowAt an k) (frameAt an k)), few-outputs pass limit t maxFrameBytes maxAnswerBytes n e)
     go (Long m) e = fault-fits (Long m)
     go (Torn k) e = fault-fits (Torn k)
     go Short e = fault-fits Short

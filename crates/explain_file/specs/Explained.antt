@@ -11,7 +11,7 @@ use Rattle.text.specs.declared.AnswerRoom.the-variants.{Lent}
 use Rattle.frames.specs.declared.Frame.{Frame}
 use Rattle.frames.specs.Bytes.{frameCount, frameAt}
 use Rattle.frames.specs.Out.{outcomeFrame}
-use Rattle.rule_rows.specs.declared.Pass.the-variants.{First}
+use Rattle.rule_rows.specs.declared.Pass.{Pass}
 use Rattle.rule_answers.specs.Outputs.{outputBytes}
 use Rattle.file_read.specs.File.{overFile, readFile}
 use Rattle.explain_lines.specs.Answers.{lineOf, faultOf}
@@ -51,21 +51,21 @@ lineAt fr an k = lineOf fr (rowAt an k) (frameAt an k)
 abbrev pub answerLines : List ℕ → List ℕ → Lines
 answerLines fr an = record { count = frameCount an; line = lineAt fr an }
 
--- those of an accepted file, whose frames these are
-abbrev pub fileLines : List ℕ → Lines
-fileLines fr = answerLines fr (outputBytes First fr)
+-- those of an accepted file, whose frames these are, by a pass
+abbrev pub fileLines : Pass → List ℕ → Lines
+fileLines pass fr = answerLines fr (outputBytes pass fr)
 
 -- that of a file that is not accepted
 abbrev pub faultLines : Outcome → Lines
 faultLines o = record { count = 1; line = λ (k : ℕ). faultOf (outcomeFrame o) }
 
--- those of a text within a limit, with buffers of the largest sizes that a file asks for
-unfoldable pub linesOf : (limit : ℕ) → List ℕ → Lines
-linesOf limit t = overFile faultLines fileLines t (readFile limit t maxFrameBytes (Lent maxAnswerBytes))
+-- those of a text by a pass and within a limit, with buffers of the largest sizes that a file asks for
+unfoldable pub linesOf : Pass → (limit : ℕ) → List ℕ → Lines
+linesOf pass limit t = overFile faultLines (fileLines pass) t (readFile limit t maxFrameBytes (Lent maxAnswerBytes))
 
 -- THE TEXT for people
-abbrev pub explained : (limit : ℕ) → List ℕ → List ℕ
-explained limit t = allOf (linesOf limit t)
+abbrev pub explained : Pass → (limit : ℕ) → List ℕ → List ℕ
+explained pass limit t = allOf (linesOf pass limit t)
 
 -- the bytes that it fits into, whatever the file: two lines for each frame, of at most 142 bytes each
 abbrev pub maxExplainedBytes : ℕ

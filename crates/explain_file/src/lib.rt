@@ -75,6 +75,7 @@ fn explain_fault(o: Outcome, line: &mut [u8], out: &mut [u8]) -> usize
 fn explain_with(
     text: &[u8],
     limit: u32,
+    pass: Pass,
     frames: &mut [u8],
     answers: &mut [u8],
     line: &mut [u8],
@@ -84,9 +85,9 @@ fn explain_with(
     requires answers { ⌜ length (now answers) ≡ maxAnswerBytes ⌝ }
     requires line { ⌜ length (now line) ≡ 1056 ⌝ }
     requires out { ⌜ length (now out) ≡ maxExplainedBytes ⌝ }
-    ensures { λ r. ⌜ Shown (linesOf limit (now (text .entry))) (now (out .entry)) r (now (out .exit)) ⌝ }
+    ensures { λ r. ⌜ Shown (linesOf pass limit (now (text .entry))) (now (out .entry)) r (now (out .exit)) ⌝ }
 {
-    let typed = type_file(Pass::First, text, limit, frames, answers);
+    let typed = type_file(text, limit, pass, frames, answers);
     let read = typed.outcome;
     match frames_in(read) {
         OptionUsize::None => explain_fault(read, line, out),
@@ -100,11 +101,11 @@ fn explain_with(
 
 // Explains a file: writes its lines, and gives how many bytes they are; where the output buffer is too small it gives number 3 and changes nothing. MAX_EXPLAINED_BYTES are room
 // for any file's (`explained-fits`, proofs/Fits.antt).
-pub fn explain_text(text: &[u8], limit: u32, out: &mut [u8]) -> Printed
-    ensures outcome { λ r. ⌜ r ≡ printed (explained limit (now (text .entry))) (length (now (out .entry))) ⌝ }
+pub fn explain_text(text: &[u8], limit: u32, pass: Pass, out: &mut [u8]) -> Printed
+    ensures outcome { λ r. ⌜ r ≡ printed (explained pass limit (now (text .entry))) (length (now (out .entry))) ⌝ }
     ensures said { λ r. ⌜ printedSaid r
-        ≡ printedSaid (printed (explained limit (now (text .entry))) (length (now (out .entry)))) ⌝ }
-    ensures out { λ r. ⌜ now (out .exit) ≡ printedAfter (explained limit (now (text .entry))) (now (out .entry)) ⌝ }
+        ≡ printedSaid (printed (explained pass limit (now (text .entry))) (length (now (out .entry)))) ⌝ }
+    ensures out { λ r. ⌜ now (out .exit) ≡ printedAfter (explained pass limit (now (text .entry))) (now (out .entry)) ⌝ }
 {
     let mut frames = [0u8; MAX_FRAME_BYTES];
     let mut answers = [0u8; MAX_ANSWER_BYTES];
@@ -113,6 +114,7 @@ pub fn explain_text(text: &[u8], limit: u32, out: &mut [u8]) -> Printed
     let m = explain_with(
         text,
         limit,
+        pass,
         &mut frames,
         &mut answers,
         &mut line,

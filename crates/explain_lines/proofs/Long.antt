@@ -22,7 +22,7 @@ use Rattle.explain_words.proofs.Long.{number-long, none-long, piece-long, longe
 use Rattle.explain_lines.specs.declared.ScalarWords.{ScalarWords}
 use Rattle.explain_lines.specs.declared.Short.{Short}
 use Rattle.explain_lines.specs.Types.{picked, isScalar, named, bytesOf, scalarWords, around, byNumber, vector, isBrief, brief, within, inside, pointer, array, cooperative, className, arrayedName, image, unknownKind, whole}
-use Rattle.explain_lines.specs.Answers.{manner, refusal, judged, said, shown, ending, lineOf, faultWords, faultOf}
+use Rattle.explain_lines.specs.Answers.{manner, reason, refusal, judged, said, shown, ending, lineOf, faultWords, faultOf}
 use Rattle.explain_lines.proofs.Runs.{three-spelled}
 
 -- a piece has at most m bytes; pieces have
@@ -224,11 +224,15 @@ manner-long : (flag : ℕ) → Piece (manner flag) 21
 unfolding manner pieceBytes wordBytes W.table
 manner-long flag = by-cond (λ p. Piece p 21) (eqb flag 1) _ _ (omega arith) (omega arith)
 
+reason-long : (n : ℕ) → Piece (reason n) 47
+unfolding reason pieceBytes wordBytes W.table longest
+reason-long n = by-cond (λ p. Piece p 47) (eqb n 41) _ _ (omega arith) (picked-long W.reason 10 11 n 47 refl refl)
+
 refusal-long : (f : Frame) → TypeLong (refusal f)
 unfolding refusal pieceBytes wordBytes W.table longest
 refusal-long f =
     by-cond TypeLong (eqb (f .b1) 22) _ _ (simp (piece-long, none-long) (omega (arith, number-long (half f 2))))
-    (more _ _ _ 8 80 (omega arith) (more _ _ _ 10 70 (number-long (f .b1)) (more _ _ _ 39 31 (picked-long W.reason 10 11 (f .b1) 39 refl refl)
+    (more _ _ _ 8 88 (omega arith) (more _ _ _ 10 78 (number-long (f .b1)) (more _ _ _ 47 31 (reason-long (f .b1))
     (by-cond (λ l. Pieces l 31) (eqb (f .b1) 10) _ _
     (simp (piece-long, none-long) (omega (arith, number-long (half f 2), number-long (word f 4))))
     (by-cond (λ l. Pieces l 31) (ltb (f .b1) 13) _ _

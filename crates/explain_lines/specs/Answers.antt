@@ -15,11 +15,15 @@ use Rattle.explain_lines.specs.Types.{picked, whole}
 unfoldable pub manner : ℕ → ℕ
 manner flag = cond (eqb flag 1) W.constant W.computed
 
+-- why a row is refused, by the number: 10 to 20, and 41, which the second pass gives (document 02, request 3)
+unfoldable pub reason : ℕ → ℕ
+reason n = cond (eqb n 41) W.mismatch (picked W.reason 10 11 n)
+
 -- a row's refusal: `refused 22 newer: met at row 4`, `refused 10 bound: operand row 0, index 3`
 unfoldable pub refusal : Frame → List ℕ
 refusal f =
     cond (eqb (f .b1) 22) (W.newer ∷ num (half f 2) ∷ [])
-    (W.refused ∷ num (f .b1) ∷ picked W.reason 10 11 (f .b1)
+    (W.refused ∷ num (f .b1) ∷ reason (f .b1)
     ∷ cond (eqb (f .b1) 10) (num (half f 2) ∷ W.index ∷ num (word f 4) ∷ [])
     (cond (ltb (f .b1) 13) (num (half f 2) ∷ manner (f .b8) ∷ [])
     (cond (ltb (f .b1) 17) (num (half f 2) ∷ []) (cond (eqb (f .b1) 19) (num (word f 4) ∷ []) []))))

@@ -13,7 +13,7 @@ ghost use mathlib.Core.List.{_++_};
 ghost use Prim.Native.Nat.{_+_, _≤_};
 ghost use lib.ListN.{length, take, drop};
 ghost use Rattle.explain_lines.specs.ForProofs.{filled};
-ghost use Rattle.explain_lines.specs.Answers.{manner, refusal, judged, said, shown, ending, lineOf, faultWords, faultOf};
+ghost use Rattle.explain_lines.specs.Answers.{manner, reason, refusal, judged, said, shown, ending, lineOf, faultWords, faultOf};
 ghost use Rattle.explain_lines.specs.LinesForProofs.{madeIn, madeLong};
 
 fn manner(flag: u8) -> u64
@@ -23,6 +23,15 @@ fn manner(flag: u8) -> u64
         return table::CONSTANT;
     }
     table::COMPUTED
+}
+
+fn reason(n: u8) -> u64
+    ensures { λ r. ⌜ r ≡ reason n ⌝ }
+{
+    if n == 41 {
+        return table::MISMATCH;
+    }
+    pick(table::REASON, 10, 11, n)
 }
 
 fn refusal(f: Frame) -> [u64; 16]
@@ -51,13 +60,13 @@ fn refusal(f: Frame) -> [u64; 16]
         ];
     }
     let number = num(n as u32);
-    let reason = pick(table::REASON, 10, 11, n);
+    let why = reason(n);
     let index = num(f.index());
     if n == 10 {
         return [
             table::REFUSED,
             number,
-            reason,
+            why,
             place,
             table::INDEX,
             index,
@@ -78,7 +87,7 @@ fn refusal(f: Frame) -> [u64; 16]
         return [
             table::REFUSED,
             number,
-            reason,
+            why,
             place,
             by,
             0,
@@ -98,7 +107,7 @@ fn refusal(f: Frame) -> [u64; 16]
         return [
             table::REFUSED,
             number,
-            reason,
+            why,
             place,
             0,
             0,
@@ -118,7 +127,7 @@ fn refusal(f: Frame) -> [u64; 16]
         return [
             table::REFUSED,
             number,
-            reason,
+            why,
             index,
             0,
             0,
@@ -137,7 +146,7 @@ fn refusal(f: Frame) -> [u64; 16]
     [
         table::REFUSED,
         number,
-        reason,
+        why,
         0,
         0,
         0,

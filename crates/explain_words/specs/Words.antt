@@ -147,6 +147,7 @@ table =
     " clash: the operands do not go together" ∷
     " argument: index " ∷
     " special: the special type is missing" ∷
+    " mismatch: not in WGSL with these operand types" ∷
     ", index " ∷
     ", by a computed index" ∷
     ", by a constant index" ∷
@@ -338,47 +339,50 @@ refused = 120
 abbrev pub reason : ℕ
 reason = 121
 
+abbrev pub mismatch : ℕ
+mismatch = 132
+
 abbrev pub index : ℕ
-index = 132
+index = 133
 
 abbrev pub computed : ℕ
-computed = 133
+computed = 134
 
 abbrev pub constant : ℕ
-constant = 134
+constant = 135
 
 abbrev pub newer : ℕ
-newer = 135
+newer = 136
 
 abbrev pub verdict : ℕ
-verdict = 136
+verdict = 137
 
 abbrev pub passes : ℕ
-passes = 137
+passes = 138
 
 abbrev pub newerPart : ℕ
-newerPart = 138
+newerPart = 139
 
 abbrev pub newerWhole : ℕ
-newerWhole = 139
+newerWhole = 140
 
 abbrev pub judged : ℕ
-judged = 140
+judged = 141
 
 abbrev pub given : ℕ
-given = 144
+given = 145
 
 abbrev pub line : ℕ
-line = 145
+line = 146
 
 abbrev pub colon : ℕ
-colon = 146
+colon = 147
 
 abbrev pub number : ℕ
-number = 147
+number = 148
 
 abbrev pub fault : ℕ
-fault = 148
+fault = 149
 
 abbrev pub framesOf : ℕ
-framesOf = 154
+framesOf = 155

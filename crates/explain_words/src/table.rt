@@ -1,9 +1,9 @@
 // The words of the lines for people, run together, and where each begins (specs/Words.antt has them one by one). A name that stands for several (as SPACE) is the
 // number of the first; the others follow it.
 
-pub const COUNT: usize = 155;
+pub const COUNT: usize = 156;
 
-pub const STARTS: [u16; 156] = [
+pub const STARTS: [u16; 157] = [
     0,
     0,
     4,
@@ -137,29 +137,30 @@ pub const STARTS: [u16; 156] = [
     1186,
     1203,
     1240,
-    1248,
-    1269,
-    1290,
-    1319,
-    1328,
-    1334,
-    1354,
+    1287,
+    1295,
+    1316,
+    1337,
+    1366,
+    1375,
     1381,
-    1412,
-    1429,
-    1446,
-    1470,
-    1478,
-    1483,
-    1485,
-    1492,
-    1505,
-    1542,
-    1577,
-    1609,
-    1646,
-    1694,
-    1703,
+    1401,
+    1428,
+    1459,
+    1476,
+    1493,
+    1517,
+    1525,
+    1530,
+    1532,
+    1539,
+    1552,
+    1589,
+    1624,
+    1656,
+    1693,
+    1741,
+    1750,
 ];
 
 pub const NONE: u64 = 0;
@@ -270,32 +271,34 @@ pub const REFUSED: u64 = 120;
 
 pub const REASON: u32 = 121;
 
-pub const INDEX: u64 = 132;
+pub const MISMATCH: u64 = 132;
 
-pub const COMPUTED: u64 = 133;
+pub const INDEX: u64 = 133;
 
-pub const CONSTANT: u64 = 134;
+pub const COMPUTED: u64 = 134;
 
-pub const NEWER: u64 = 135;
+pub const CONSTANT: u64 = 135;
 
-pub const VERDICT: u64 = 136;
+pub const NEWER: u64 = 136;
 
-pub const PASSES: u64 = 137;
+pub const VERDICT: u64 = 137;
 
-pub const NEWER_PART: u64 = 138;
+pub const PASSES: u64 = 138;
 
-pub const NEWER_WHOLE: u64 = 139;
+pub const NEWER_PART: u64 = 139;
 
-pub const JUDGED: u32 = 140;
+pub const NEWER_WHOLE: u64 = 140;
 
-pub const GIVEN: u64 = 144;
+pub const JUDGED: u32 = 141;
 
-pub const LINE: u64 = 145;
+pub const GIVEN: u64 = 145;
 
-pub const COLON: u64 = 146;
+pub const LINE: u64 = 146;
 
-pub const NUMBER: u64 = 147;
+pub const COLON: u64 = 147;
 
-pub const FAULT: u32 = 148;
+pub const NUMBER: u64 = 148;
 
-pub const FRAMES_OF: u64 = 154;
+pub const FAULT: u32 = 149;
+
+pub const FRAMES_OF: u64 = 155;

@@ -13,6 +13,8 @@ use Rattle.text.specs.Reading.{readText}
 use Rattle.frames.specs.declared.Frame.{Frame}
 use Rattle.frames.specs.Bytes.{frameAt, zeroFrame}
 use Rattle.frames.specs.Out.{resolutionFrame, refusedFrame}
+use Rattle.rule_rows.specs.declared.Pass.{Pass}
+use Rattle.rule_rows.specs.declared.Pass.the-variants.{First, Second}
 
 -- the number of reading or typing a file: 0 for one that is accepted
 abbrev pub outcomeNumber : Outcome → ℕ
@@ -67,6 +69,10 @@ abbrev pub typeSaidFrame : SaidOf → Frame
 typeSaidFrame (type t) = resolutionFrame t
 typeSaidFrame noPointer = refusedFrame noRefusal
 typeSaidFrame (refused r) = refusedFrame r
+
+-- THE PASS HANDED IN as a number: 0 is the first and 1 the second, and any other counts as the first
+unfoldable pub passOf : ℕ → Pass
+passOf n = cond (eqb n 1) Second First
 
 -- A FRAME HANDED IN as bytes. One of another length than 16 is taken for the frame of zeros, which is of no family and so gets 5: `wrong-left`, `wrong-right`
 -- (proofs/Lengths.antt)

@@ -14,6 +14,7 @@ use frames_answers::write::newer_frame;
 use frames_answers::write::outcome_frame;
 use frames_answers::write::verdict_frame;
 use ir::RowNumber;
+use rule_rows::Pass;
 use text::AnswerRoom;
 use text_decode::read_text;
 ghost use mathlib.Core.Path.{_≡_};
@@ -21,13 +22,20 @@ ghost use Prim.Native.Nat.{min};
 ghost use Rattle.answers.specs.Numbers.{at, noRefusal, notThere, samenessSaid, canonicalSaid, baseSaid};
 ghost use Rattle.frames.specs.Bytes.{putFrame};
 ghost use Rattle.frames.specs.Out.{refusedFrame, outcomeFrame, rowTypeSaid, composeVerdictSaid, oneFrame};
-ghost use Rattle.file_exports.specs.Exported.{outcomeNumber, orShort, noRoom, oneNumber, saidNumber, saidFrame, typeSaidNumber, typeSaidFrame, handedFrame};
+ghost use Rattle.file_exports.specs.Exported.{outcomeNumber, orShort, noRoom, oneNumber, saidNumber, saidFrame, typeSaidNumber, typeSaidFrame, passOf, handedFrame};
 
 // A number handed in, as a row's or a type's number has it: no file has 65,535 of either, so a greater one is out of range as that is.
 pub fn clamped(n: u32) -> u16
     ensures { λ r. ⌜ r ≡ min n 65535 ⌝ }
 {
     if n < 65535 { n as u16 } else { 65535 }
+}
+
+// A pass handed in as a number: 1 is the second, and any other counts as the first.
+pub fn pass_of(n: u32) -> Pass
+    ensures { λ r. ⌜ r ≡ passOf n ⌝ }
+{
+    if n == 1 { Pass::Second } else { Pass::First }
 }
 
 // A frame handed in; zeros, which are of no family, where it has another length than 16.

@@ -16,7 +16,6 @@ ghost use Rattle.answers.specs.Limit.{maxFrameBytes, maxAnswerBytes};
 ghost use Rattle.answers.specs.Numbers.{printedSaid};
 ghost use Rattle.text.specs.Lines.{textOf};
 ghost use Rattle.frames.specs.Bytes.{frameCount};
-ghost use Rattle.rule_rows.specs.declared.Pass.the-variants.{First};
 ghost use Rattle.file_read.specs.Typing.{typedText};
 ghost use Rattle.file_read.specs.Printed.{printed, printedAfter};
 
@@ -40,16 +39,17 @@ fn put_lines(frames: &[u8], out: &mut [u8]) -> Printed
 fn type_lines(
     text: &[u8],
     limit: u32,
+    pass: Pass,
     frames: &mut [u8],
     answers: &mut [u8],
     out: &mut [u8],
 ) -> Printed
     requires { ⌜ (length (now frames) ≡ maxFrameBytes) × (length (now answers) ≡ maxAnswerBytes) ⌝ }
-    ensures outcome { λ r. ⌜ r ≡ printed (typedText First limit (now (text .entry))) (length (now (out .entry))) ⌝ }
+    ensures outcome { λ r. ⌜ r ≡ printed (typedText pass limit (now (text .entry))) (length (now (out .entry))) ⌝ }
     ensures out { λ r. ⌜ now (out .exit)
-        ≡ printedAfter (typedText First limit (now (text .entry))) (now (out .entry)) ⌝ }
+        ≡ printedAfter (typedText pass limit (now (text .entry))) (now (out .entry)) ⌝ }
 {
-    let typed = type_file(Pass::First, text, limit, frames, answers);
+    let typed = type_file(text, limit, pass, frames, answers);
     let read = typed.outcome;
     match frames_in(read) {
         OptionUsize::None => {
@@ -63,16 +63,16 @@ fn type_lines(
     }
 }
 
-// Types a file by the first pass and within a limit, and writes the lines of what is handed back, and gives how many bytes they are; where the output buffer is too small it gives number 3 and changes nothing.
-// MAX_LINE_BYTES are room for any file's.
-pub fn type_text(text: &[u8], limit: u32, out: &mut [u8]) -> Printed
-    ensures outcome { λ r. ⌜ r ≡ printed (typedText First limit (now (text .entry))) (length (now (out .entry))) ⌝ }
+// Types a file within a limit and by a pass, and writes the lines of what is handed back, and gives how many bytes they
+// are; where the output buffer is too small it gives number 3 and changes nothing. MAX_LINE_BYTES are room for any file's.
+pub fn type_text(text: &[u8], limit: u32, pass: Pass, out: &mut [u8]) -> Printed
+    ensures outcome { λ r. ⌜ r ≡ printed (typedText pass limit (now (text .entry))) (length (now (out .entry))) ⌝ }
     ensures said { λ r. ⌜ printedSaid r
-        ≡ printedSaid (printed (typedText First limit (now (text .entry))) (length (now (out .entry)))) ⌝ }
+        ≡ printedSaid (printed (typedText pass limit (now (text .entry))) (length (now (out .entry)))) ⌝ }
     ensures out { λ r. ⌜ now (out .exit)
-        ≡ printedAfter (typedText First limit (now (text .entry))) (now (out .entry)) ⌝ }
+        ≡ printedAfter (typedText pass limit (now (text .entry))) (now (out .entry)) ⌝ }
 {
     let mut frames = [0u8; MAX_FRAME_BYTES];
     let mut answers = [0u8; MAX_ANSWER_BYTES];
-    type_lines(text, limit, &mut frames, &mut answers, out)
+    type_lines(text, limit, pass, &mut frames, &mut answers, out)
 }

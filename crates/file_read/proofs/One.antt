@@ -36,7 +36,7 @@ use Rattle.rule_answers.specs.Outputs.{rowAnswer, rowFrames, outputs, framesByt
 use Rattle.rule_answers.specs.ForProofs.{placesOf}
 use Rattle.rule_answers.proofs.Bytes.{bytes-append}
 use Rattle.rule_answers.proofs.Placed.{past-is}
-use Rattle.rule_answers.proofs.Buffer.{placed-outputs, run-buffer}
+use Rattle.rule_answers.proofs.Buffer.{good-held, placed-outputs, run-buffer}
 use Rattle.file_read.specs.Typing.{answersWritten, RowGiven, answer, rowGiven, VerdictGiven, verdict, noCompose, orNoCompose, verdictGiven, ifJudged}
 use Rattle.file_read.specs.ForProofs.{Ready}
 use Rattle.file_read.proofs.Row.{good-of, compose-rule, no-rule}
@@ -108,7 +108,7 @@ module _ (pass : Pass) (fr an last p rest : List ℕ) (s : Starts) (ready : Read
         let e : toResult x ≡ rowAnswer pass (see fr) (row .0) =
         ap toResult ex ∙ ap (λ (q : List ℕ). pastIn last q row) t ∙ ap (λ (q : List ℕ). pastIn q (placesOf pass fr all) row) el
         ∙ past-is (outputs pass (see fr) all) (placesOf pass fr all) (answers (see fr) (typing pass) (λ m. newer) all) _
-        (placed-outputs pass fr (good-of pass fr (length an) ready) all (omega arith)) row
+        (placed-outputs pass fr all (good-held pass fr (good-of pass fr (length an) ready) all (omega arith))) row
         ∙ in-order-at (λ earlier m. run (see fr) (among earlier) newer (typing pass m)) (told absent) all (row .0) below in
         (rw (here-in, e), rw here-in el)
 
@@ -132,7 +132,7 @@ module _ (pass : Pass) (fr an last p rest : List ℕ) (s : Starts) (ready : Read
           ∙ append-assoc (framesBytes (outputs pass (see fr) m)) (framesBytes (o .more)) tail in
           let t : take m p ≡ placesOf pass fr m = places-before m (omega (arith, below, ap rowCount es)) in
           let j : toJudged v ≡ ours (see fr) (typing pass) m (composeRule fr (startsOf fr) g) =
-          ev ∙ rw (es, frame-is, t, b) (run-buffer pass fr (good-of pass fr (length an) ready) m (omega (arith, below)) (framesBytes (o .more) ++ tail) (composeRule fr (startsOf fr) g)) in
+          ev ∙ rw (es, frame-is, t, b) (run-buffer pass fr m (good-held pass fr (good-of pass fr (length an) ready) m (omega (arith, below))) (framesBytes (o .more) ++ tail) (composeRule fr (startsOf fr) g)) in
           let q : verdictGiven pass row fr ≡ verdict (toJudged v) =
           rw (here-in, compose-rule fr m below (ap (λ (x : Frame). x .b1) (sym frame-is) ∙ h), j) in
           (sym q, rw q el)

@@ -68,7 +68,7 @@ pub few-outputs : (pass : Pass) (limit : ℕ) (t : List ℕ) (f a n : ℕ) → r
 few-outputs pass limit t f a n e =
     let fr = decoded t n in
     let all = rowCount (startsOf fr) in
-    omega (arith, bytes-length (outputs pass (see fr) all), two-a-row pass (see fr) all, few-rows pass fr a (ready-of pass limit t f a n e))
+    omega (arith, bytes-length (outputs pass (see fr) all), two-a-row pass (see fr) all, few-rows fr (ready-of pass limit t f a n e .1 .few))
 
 pub lines-long : (b : List ℕ) (n : ℕ) → length (textOf b n) ≡ 33 * n
 lines-long b n = length-build (charOf b) (33 * n)

@@ -76,7 +76,7 @@ ready-of pass limit t f a n e =
     let r = acc .readable in
     let checked : checkFrames (decoded t n) ≡ Accepted (frameCount (decoded t n)) =
     sym (then-checked limit t f (Lent a) n r) ∙ e ∙ ap Accepted (sym (count-decoded t n)) in
-    (checked, few limit t f a n r, answers-fit limit t f a n r pass (good-when (decoded t n) (few limit t f a n r) .0 checked))
+    (checked, record { few = few limit t f a n r; answers = answers-fit limit t f a n r pass (good-when (decoded t n) (few limit t f a n r) .0 checked) })
 
 -- and so is the part of the frame buffer that is lent on: reading gave r, and left the frame buffer as `last`
 pub ready-part : (pass : Pass) (limit : ℕ) (t fr last an : List ℕ) (n : ℕ) (r : Outcome)

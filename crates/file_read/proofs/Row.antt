@@ -21,7 +21,7 @@ use Rattle.answers.specs.declared.Verdict.{Verdict}
 use Rattle.answers.specs.declared.Verdict.the-variants as Vd
 use Rattle.answers.specs.Limit.{maxFrames}
 use Rattle.frames.specs.declared.Frame.{Frame}
-use Rattle.frames.specs.Bytes.{byte, half, word, frameAt, putFrame}
+use Rattle.frames.specs.Bytes.{byte, half, word, frameAt, frameCount, putFrame}
 use Rattle.frames.specs.Forms.{rowAs, rowOf}
 use Rattle.frames.specs.Out as Out
 use Rattle.archive.specs.declared.Starts.{Starts}
@@ -42,11 +42,11 @@ use Rattle.rule_compose.specs.ForProofs.{judgedBy, composeRule}
 use Rattle.law_rows.proofs.Good.{Good, good-when}
 use Rattle.law_rows.proofs.Range.{row-there}
 use Rattle.rule_answers.specs.Outputs.{rowAnswer, verdictFrames, rowFrames, outputs, framesBytes}
-use Rattle.rule_answers.specs.ForProofs.{placesOf}
+use Rattle.rule_answers.specs.ForProofs.{placesOf, Held, AllHeld}
 use Rattle.rule_answers.proofs.Bytes.{bytes-length, bytes-append, put-after}
 use Rattle.rule_answers.proofs.Buffer.{run-buffer}
 use Rattle.rule_answers.proofs.Room.{row-compose, row-is}
-use Rattle.file_read.specs.ForProofs.{Ready, Turn, Written}
+use Rattle.file_read.specs.ForProofs.{Room, Ready, Turn, Written}
 
 -- the code's verdicts are written as the definitions have them
 pub verdict-framed : (r : RowNumber) (v : Verdict) → Out.verdictFrame r v ≡ verdictFrame r (toJudged v)
@@ -80,21 +80,22 @@ two-a-row pass sight (suc m) =
     go none = omega arith
     go (some j) = omega arith
 
-module _ (pass : Pass) (fr : List ℕ) (a : ℕ) (ready : Ready pass fr a) where
-  pub good-of : Good fr
-  good-of = good-when fr (ready .1) .0 (ready .0)
+pub good-of : (pass : Pass) (fr : List ℕ) (a : ℕ) → Ready pass fr a → Good fr
+good-of pass fr a ready = good-when fr (ready .1 .few) .0 (ready .0)
 
+module _ (fr : List ℕ) (few : frameCount fr ≤ maxFrames) where
   pub few-rows : rowCount (startsOf fr) ≤ maxFrames
-  few-rows = omega (arith, starts-small fr maxFrames (ready .1) .1)
+  few-rows = omega (arith, starts-small fr maxFrames few .1)
 
   -- rows begin within the file
   pub row-small : (s : Starts) → s ≡ startsOf fr → s .rows ≤ maxFrames
   unfolding startsOf
-  row-small s es = omega (arith, ap (λ (z : Starts). z .rows) es, begins fr maxFrames .within, ready .1)
+  row-small s es = omega (arith, ap (λ (z : Starts). z .rows) es, begins fr maxFrames .within)
 
-  pub room-for : (m : ℕ) → m ≤ rowCount (startsOf fr) → 16 * length (outputs pass (see fr) m) ≤ a
-  room-for m h =
-      omega (arith, grows pass (see fr) m (rowCount (startsOf fr)) h, bytes-length (outputs pass (see fr) (rowCount (startsOf fr))), ready .2)
+pub room-for : (pass : Pass) (fr : List ℕ) (a : ℕ) → Room pass fr a → (m : ℕ) → m ≤ rowCount (startsOf fr)
+    → 16 * length (outputs pass (see fr) m) ≤ a
+room-for pass fr a room m h =
+    omega (arith, grows pass (see fr) m (rowCount (startsOf fr)) h, bytes-length (outputs pass (see fr) (rowCount (startsOf fr))), room .answers)
 
 -- a row of byte 5 is a compose, and no other has a verdict
 compose-row : (f : Frame) → byte f 1 ≡ 5 → rowOf f ≡ Ro.Known (Ex.Compose (record { 0 = half f 2 }) (half f 4) (record { 0 = word f 12 }))
@@ -135,7 +136,7 @@ before l f rest =
     ∙ take-at (framesBytes l) (framesBytes (f ∷ []) ++ rest) (16 * length l) (bytes-length l)
 
 -- ONE ROW, m, over the buffer as it is before it: the frames handed back so far, and the rest
-module _ (pass : Pass) (fr an : List ℕ) (m : ℕ) (ready : Ready pass fr (length an)) (here : m < rowCount (startsOf fr))
+module _ (pass : Pass) (fr an : List ℕ) (m : ℕ) (room : Room pass fr (length an)) (held : AllHeld pass fr m) (here : m < rowCount (startsOf fr))
     (et : take (16 * length (outputs pass (see fr) m)) an ≡ framesBytes (outputs pass (see fr) m)) where
   abbrev outs : List Frame
   outs = outputs pass (see fr) m
@@ -151,7 +152,7 @@ module _ (pass : Pass) (fr an : List ℕ) (m : ℕ) (ready : Ready pass fr (leng
       → places ≡ placesOf pass fr m
       → run (seeIn fr s) (pastIn b places) newer rule ≡ ours (see fr) (typing pass) m rule
   ours-here s b rest places rule es eb ep =
-      rw (es, ep, eb) (run-buffer pass fr (good-of pass fr (length an) ready) m (omega arith) rest rule)
+      rw (es, ep, eb) (run-buffer pass fr m held rest rule)
 
   pub more : at + 1 ≤ length (outputs pass (see fr) (suc m))
   unfolding outputs
@@ -162,7 +163,7 @@ module _ (pass : Pass) (fr an : List ℕ) (m : ℕ) (ready : Ready pass fr (leng
     f = rowFrame (rowAnswer pass (see fr) m)
 
     pub row-put : last ≡ framesBytes (outs ++ (f ∷ [])) ++ drop (16 * length (outs ++ (f ∷ []))) an
-    row-put = el ∙ put-next outs f an an whole (omega (arith, room-for pass fr (length an) ready (suc m) (omega arith), more))
+    row-put = el ∙ put-next outs f an an whole (omega (arith, room-for pass fr (length an) room (suc m) (omega arith), more))
 
     -- no compose: the row's answer is all
     pub row-done : verdictRule (see fr) m ≡ none
@@ -191,24 +192,33 @@ module _ (pass : Pass) (fr an : List ℕ) (m : ℕ) (ready : Ready pass fr (leng
         let n : length (outs ++ (f ∷ [])) ≡ at + 1 = length-append outs (f ∷ []) in
         let k : length ((outs ++ (f ∷ [])) ++ (g ∷ [])) ≡ at + 1 + 1 =
         length-append (outs ++ (f ∷ [])) (g ∷ []) ∙ ap (λ (x : ℕ). x + 1) n in
-        let room : 16 * length (outs ++ (f ∷ [])) + 16 ≤ length an =
-        omega (arith, n, k, ap length e, room-for pass fr (length an) ready (m + 1) (omega arith)) in (
+        let fits : 16 * length (outs ++ (f ∷ [])) + 16 ≤ length an =
+        omega (arith, n, k, ap length e, room-for pass fr (length an) room (m + 1) (omega arith)) in (
           sym (ap length e ∙ k),
           ee ∙ ap (λ (x : ℕ). putFrame last x (Out.verdictFrame (record { 0 = m }) v)) (sym n) ∙ ap (putFrame last (length (outs ++ (f ∷ [])))) (verdict-framed (record { 0 = m }) v ∙ ap (verdictFrame (record { 0 = m })) ev)
-              ∙ put-next (outs ++ (f ∷ [])) g last an row-put room
+              ∙ put-next (outs ++ (f ∷ [])) g last an row-put fits
               ∙ ap (λ (x : ℕ). framesBytes ((outs ++ (f ∷ [])) ++ (g ∷ [])) ++ drop (16 * x) an) k
               ∙ ap (λ (l : List Frame). framesBytes l ++ drop (16 * (at + 1 + 1)) an) (sym e),
         )
 
 written : {pass : Pass} {fr an end : List ℕ} {n at : ℕ}
     → (at ≡ length (outputs pass (see fr) n)) × (end ≡ framesBytes (outputs pass (see fr) n) ++ drop (16 * at) an)
+    → AllHeld pass fr n
     → Written pass fr an end n at
-written (a, b) = record { next = a; bytes = b }
+written (a, b) h = record { next = a; bytes = b; held = h }
+
+-- one more answer that the code can hold
+held-more : (pass : Pass) (fr : List ℕ) (m : ℕ) → AllHeld pass fr m → Held (rowAnswer pass (see fr) m) → AllHeld pass fr (m + 1)
+held-more pass fr m h x k l = go (decLe m k)
+  where
+    go : Dec (m ≤ k) → Held (rowAnswer pass (see fr) k)
+    go (yes g) = let e : k ≡ m = omega arith in rw e x
+    go (no g) = h k (omega arith)
 
 -- THE SAME as the code has it: `at` is the next frame, `s` and `places` are as the definitions have them
 module _ {pass : Pass} {fr an places : List ℕ} {s : Starts} {row : RowNumber} {at : ℕ} (t : Turn pass fr an places s row at) where
-  ready : Ready pass fr (length an)
-  ready = t .ready
+  room : Room pass fr (length an)
+  room = t .room
 
   es : s ≡ startsOf fr
   es = t .starts
@@ -226,20 +236,20 @@ module _ {pass : Pass} {fr an places : List ℕ} {s : Starts} {row : RowNumber} 
   outs-there = rw ea at (t .front)
 
   pub small-here : at ≤ 2048
-  small-here = omega (arith, ea, two-a-row pass (see fr) (row .0), here, few-rows pass fr (length an) ready)
+  small-here = omega (arith, ea, two-a-row pass (see fr) (row .0), here, few-rows fr (room .few))
 
   -- there is room for the row's frames
   pub room-here : 16 * at + 16 ≤ length an
   room-here =
       omega
-      (arith, ea, room-for pass fr (length an) ready (suc (row .0)) (omega (arith, here)), more pass fr an (row .0) ready here outs-there)
+      (arith, ea, room-for pass fr (length an) room (suc (row .0)) (omega (arith, here)), more pass fr an (row .0) room (t .held) here outs-there)
 
-  module _ (last : List ℕ) (frame : Frame) (el : last ≡ putFrame an at (rowFrame (ruled fr s an places (typed pass row)))) (ef : frame ≡ frameAt fr (s .rows + row .0)) where
+  module _ (last : List ℕ) (frame : Frame) (el : last ≡ putFrame an at (rowFrame (ruled fr s an places (typed pass row)))) (new : Held (ruled fr s an places (typed pass row))) (ef : frame ≡ frameAt fr (s .rows + row .0)) where
     answer-is : ruled fr s an places (typed pass row) ≡ rowAnswer pass (see fr) (row .0)
     unfolding ruled
     answer-is =
-        ours-here pass fr an (row .0) ready here outs-there s an (drop (16 * length (outputs pass (see fr) (row .0))) an) places (typed pass row) es
-        (whole pass fr an (row .0) ready here outs-there) ep
+        ours-here pass fr an (row .0) room (t .held) here outs-there s an (drop (16 * length (outputs pass (see fr) (row .0))) an) places (typed pass row) es
+        (whole pass fr an (row .0) room (t .held) here outs-there) ep
 
     last-is : last ≡ putFrame an (length (outputs pass (see fr) (row .0))) (rowFrame (rowAnswer pass (see fr) (row .0)))
     last-is =
@@ -249,11 +259,14 @@ module _ {pass : Pass} {fr an places : List ℕ} {s : Starts} {row : RowNumber} 
     frame-is : frame ≡ frameAt fr (startsOf fr .rows + row .0)
     frame-is = rw es at ef
 
+    held-here : AllHeld pass fr (row .0 + 1)
+    held-here = held-more pass fr (row .0) (t .held) (rw answer-is at new)
+
     -- the frames before the row stay
     kept : take (16 * at) last ≡ framesBytes (outputs pass (see fr) (row .0))
     kept =
         ap (λ (k : ℕ). take (16 * k) last) ea
-        ∙ ap (take (16 * length (outputs pass (see fr) (row .0)))) (row-put pass fr an (row .0) ready here outs-there last last-is)
+        ∙ ap (take (16 * length (outputs pass (see fr) (row .0)))) (row-put pass fr an (row .0) room (t .held) here outs-there last last-is)
         ∙ before (outputs pass (see fr) (row .0)) (rowFrame (rowAnswer pass (see fr) (row .0))) _
 
     pub still : 16 * at ≤ length last
@@ -262,8 +275,8 @@ module _ {pass : Pass} {fr an places : List ℕ} {s : Starts} {row : RowNumber} 
     pub step-row : eqb (frame .b1) 5 ≡ false → Written pass fr an last (row .0 + 1) (at + 1)
     step-row h =
         written (rw ea
-        (row-done pass fr an (row .0) ready here outs-there last last-is
-        (no-rule fr (row .0) here (λ e. eqb-false (frame .b1) 5 h (ap (λ (x : Frame). x .b1) frame-is ∙ e)))))
+        (row-done pass fr an (row .0) room (t .held) here outs-there last last-is
+        (no-rule fr (row .0) here (λ e. eqb-false (frame .b1) 5 h (ap (λ (x : Frame). x .b1) frame-is ∙ e))))) held-here
 
     pub step-compose : eqb (frame .b1) 5 ≡ true → (v : Verdict) (end : List ℕ)
         → toJudged v ≡ judgedBy fr s (take (16 * at) last) places (composeRule fr s frame)
@@ -273,10 +286,10 @@ module _ {pass : Pass} {fr an places : List ℕ} {s : Starts} {row : RowNumber} 
     step-compose h v end rv ee =
         let g : Frame = frameAt fr (startsOf fr .rows + row .0) in
         let j : toJudged v ≡ ours (see fr) (typing pass) (row .0) (composeRule fr (startsOf fr) g) =
-        rv ∙ ours-here pass fr an (row .0) ready here outs-there s (take (16 * at) last) [] places (composeRule fr s frame) es (kept ∙ sym (append-nil (framesBytes (outputs pass (see fr) (row .0))))) ep ∙ rw (es, frame-is) in
+        rv ∙ ours-here pass fr an (row .0) room (t .held) here outs-there s (take (16 * at) last) [] places (composeRule fr s frame) es (kept ∙ sym (append-nil (framesBytes (outputs pass (see fr) (row .0))))) ep ∙ rw (es, frame-is) in
         written (rw ea
-        (compose-done pass fr an (row .0) ready here outs-there last last-is (composeRule fr (startsOf fr) g) v end
-        (compose-rule fr (row .0) here (ap (λ (x : Frame). x .b1) (sym frame-is) ∙ eqb-true (frame .b1) 5 h)) j (rw ea at ee)))
+        (compose-done pass fr an (row .0) room (t .held) here outs-there last last-is (composeRule fr (startsOf fr) g) v end
+        (compose-rule fr (row .0) here (ap (λ (x : Frame). x .b1) (sym frame-is) ∙ eqb-true (frame .b1) 5 h)) j (rw ea at ee))) held-here
 
 -- a buffer whose front is made anew is past it as it was
 pub rest-stays : (l an b : List ℕ) (i j : ℕ) → an ≡ l ++ drop i b → length l ≡ i → i ≤ j → drop j an ≡ drop j b

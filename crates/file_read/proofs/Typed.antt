@@ -71,7 +71,7 @@ module _ {pass : Pass} {limit : ℕ} {t fr an last out : List ℕ} {r : TypedFil
 
     -- and there was room for it
     pub outputs-fit : 16 * r .outputs ≤ length an
-    outputs-fit = omega (arith, outputs-are, ready-part pass limit t fr last an n (r .outcome) (h .outcome) (h .frames) en .2)
+    outputs-fit = omega (arith, outputs-are, ready-part pass limit t fr last an n (r .outcome) (h .outcome) (h .frames) en .1 .answers)
 
     -- what is asked of both parts is asked of the text
     pub handed-over : {A : Type 0} (f : Outcome → A) (g : List ℕ → List ℕ → A)

@@ -88,6 +88,7 @@ answer-back (An.Refused Re.FunctionReturnsVoid) = refl
 answer-back (An.Refused Re.IncompatibleOperands) = refl
 answer-back (An.Refused (Re.FunctionArgumentNotFound i)) = rw (word-back i)
 answer-back (An.Refused Re.MissingSpecialType) = refl
+answer-back (An.Refused Re.Mismatch) = refl
 answer-back (An.Newer r) = rw (half-back (r .0))
 
 -- a verdict's frame reads as the verdict; a newer component's index is not hex ffffffff, which stands for the composed type

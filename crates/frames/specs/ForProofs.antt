@@ -71,8 +71,10 @@ refusals f =
     ∷ Un.Refused (Re.InvalidImage (record { 0 = half f 2 })) ∷ Un.Refused Re.FunctionReturnsVoid ∷ Un.Refused Re.IncompatibleOperands
     ∷ Un.Refused (Re.FunctionArgumentNotFound (word f 4)) ∷ Un.Refused Re.MissingSpecialType ∷ unreadable ∷ Un.Newer (record { 0 = half f 2 }) ∷ []
 
+-- a refusal by its number: 41, or one of the table
 abbrev pub refusalOf : Frame → Unresolved
-refusalOf f = cond (leb 10 (byte f 1)) (getD (refusals f) (byte f 1 - 10) unreadable) unreadable
+refusalOf f =
+    cond (eqb (byte f 1) 41) (Un.Refused Re.Mismatch) (cond (leb 10 (byte f 1)) (getD (refusals f) (byte f 1 - 10) unreadable) unreadable)
 
 -- the answer without a type that a frame of family 10 stands for
 unfoldable pub unresolvedOf : Frame → Unresolved

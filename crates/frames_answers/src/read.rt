@@ -63,6 +63,7 @@ fn refusal(f: Frame) -> Unresolved
         20 => Unresolved::Refused(Refusal::MissingSpecialType),
         21 => Unresolved::Refused(Refusal::MissingSpecialType),
         22 => Unresolved::Newer { row: RowNumber(n) },
+        41 => Unresolved::Refused(Refusal::Mismatch),
         _ => Unresolved::Refused(Refusal::MissingSpecialType),
     }
 }

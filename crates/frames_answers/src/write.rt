@@ -53,6 +53,7 @@ pub fn refusal_frame(e: Refusal) -> Frame
         Refusal::IncompatibleOperands => refused(18, 0, 0, false),
         Refusal::FunctionArgumentNotFound(index) => refused(19, 0, index, false),
         Refusal::MissingSpecialType => refused(20, 0, 0, false),
+        Refusal::Mismatch => refused(41, 0, 0, false),
     }
 }
 

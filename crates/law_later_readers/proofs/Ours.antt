@@ -31,7 +31,7 @@ use Rattle.rule_rows.specs.declared.Pass.{Pass}
 use Rattle.rule_rows.specs.Typed.{typing}
 use Rattle.rule_compose.specs.Rows.{verdictRule, judged}
 use Rattle.law_rows.proofs.Good.{Good}
-use Rattle.law_rows.proofs.Ranged.{TypedInRange, InRange}
+use Rattle.law_rows.proofs.Ranged.{TypedInRange, InRange, refusal-not-newer}
 use Rattle.law_rows.proofs.Range.{row-there, ours-in-range}
 use Rattle.rule_answers.specs.Outputs.{rowAnswer, verdictFrames, rowFrames, outputs, framesBytes, outputBytes}
 use Rattle.rule_answers.proofs.Placed.{frame-at-list}
@@ -73,24 +73,24 @@ module _ {A : Type 0} (sight : Sight) (steps : List Step) (family : ℕ) (bytes 
   }
 
 -- A ROW'S ANSWER in range
-told-row : (s : Starts) (t : Typed) → TypedInRange s t → SaysNewer 10 (rowBytes (told t)) → ⊥
-told-row s (given (number n)) h w = omega (arith, w .family-is)
-told-row s (given (value t)) h w = omega (arith, w .family-is)
-told-row s (given (malformed f)) h w = h
-told-row s (refused e) h w = omega (arith, w .number-is, h .high)
-told-row s (chosenRefusal f) h w = h
+told-row : (pass : Pass) (s : Starts) (t : Typed) → TypedInRange pass s t → SaysNewer 10 (rowBytes (told t)) → ⊥
+told-row pass s (given (number n)) h w = omega (arith, w .family-is)
+told-row pass s (given (value t)) h w = omega (arith, w .family-is)
+told-row pass s (given (malformed f)) h w = h
+told-row pass s (refused e) h w = refusal-not-newer pass e h (w .number-is)
+told-row pass s (chosenRefusal f) h w = h
 
-row-other : (fr : List ℕ) (m : ℕ) (o : Result Typed) → InRange fr m o → (t : Typed) → o ≡ told t → SaysNewer 10 (rowBytes o) → ⊥
-row-other fr m (told u) h t e w = told-row (startsOf fr) u h w
-row-other fr m (newer p) h t e w = never (cc)
+row-other : (pass : Pass) (fr : List ℕ) (m : ℕ) (o : Result Typed) → InRange pass fr m o → (t : Typed) → o ≡ told t → SaysNewer 10 (rowBytes o) → ⊥
+row-other pass fr m (told u) h t e w = told-row pass (startsOf fr) u h w
+row-other pass fr m (newer p) h t e w = never (cc)
 
-row-says : (fr : List ℕ) (m : ℕ) (o : Result Typed) → InRange fr m o → (p : Place) → o ≡ newer p → SaysNewer 10 (rowBytes o)
-row-says fr m (told u) h p e = never (cc)
-row-says fr m (newer (row r)) h p e = record { family-is = refl; number-is = refl }
-row-says fr m (newer (component i)) h p e = absurd h
-row-says fr m (newer composed) h p e = absurd h
-row-says fr m (newer nowhere) h p e = absurd h
-row-says fr m (newer (chosen f)) h p e = absurd h
+row-says : (pass : Pass) (fr : List ℕ) (m : ℕ) (o : Result Typed) → InRange pass fr m o → (p : Place) → o ≡ newer p → SaysNewer 10 (rowBytes o)
+row-says pass fr m (told u) h p e = never (cc)
+row-says pass fr m (newer (row r)) h p e = record { family-is = refl; number-is = refl }
+row-says pass fr m (newer (component i)) h p e = absurd h
+row-says pass fr m (newer composed) h p e = absurd h
+row-says pass fr m (newer nowhere) h p e = absurd h
+row-says pass fr m (newer (chosen f)) h p e = absurd h
 
 -- A VERDICT of ours on row m
 verdict-other : (m k : ℕ) (o : Result Judgement) → OurVerdict k o → (j : Judgement) → o ≡ told j → SaysNewer 11 (verdictBytes m o) → ⊥
@@ -142,7 +142,7 @@ module _ (pass : Pass) (r : Reader) (t fr : List ℕ) (good : Good fr) (is : Giv
         let o = rowAnswer pass (see fr) m in
         let i = ours-in-range pass fr good m h in
         rw (is .rows m h)
-        (kept (see fr) _ 10 rowBytes o _ (right m (rowAnswerOf (choice .rows m)) (typing pass m)) (row-other fr m o i) (row-says fr m o i));
+        (kept (see fr) _ 10 rowBytes o _ (right m (rowAnswerOf (choice .rows m)) (typing pass m)) (row-other pass fr m o i) (row-says pass fr m o i));
     verdicts = λ m h rule e.
         let o = ours (see fr) (typing pass) m rule in
         let v = verdict-numbers pass fr m o (ap (judged pass (see fr) m) e) .is in

@@ -38,31 +38,31 @@ use Rattle.law_rows.proofs.Range.{place-later, row-there}
 -- READINGS
 
 -- the reading of row m: every step comes to a thing that is there, at row m or an earlier one, and its end is in range
-pub record ReadingInRange (fr : List ℕ) (m : ℕ) (r : Reading Typed) : Type 0 where
+pub record ReadingInRange (pass : Pass) (fr : List ℕ) (m : ℕ) (r : Reading Typed) : Type 0 where
   pub steps : Each (StepInRange fr m) (r .steps)
-  pub end : IfSome (TypedInRange (startsOf fr)) (r .end)
+  pub end : IfSome (TypedInRange pass (startsOf fr)) (r .end)
 
 steps-later : (fr : List ℕ) (m n : ℕ) → m ≤ n → (l : List Step) → Each (StepInRange fr m) l → Each (StepInRange fr n) l
 steps-later fr m n w [] h = tt
 steps-later fr m n w (step p c ∷ l) h = ((place-later m n w p (h .0 .0), h .0 .1), steps-later fr m n w l (h .1))
 
-reading-later : (fr : List ℕ) (m n : ℕ) → m ≤ n → (r : Reading Typed) → ReadingInRange fr m r → ReadingInRange fr n r
-reading-later fr m n w r h = record { steps = steps-later fr m n w (r .steps) (h .steps); end = h .end }
+reading-later : (pass : Pass) (fr : List ℕ) (m n : ℕ) → m ≤ n → (r : Reading Typed) → ReadingInRange pass fr m r → ReadingInRange pass fr n r
+reading-later pass fr m n w r h = record { steps = steps-later fr m n w (r .steps) (h .steps); end = h .end }
 
-module _ (fr : List ℕ) (m : ℕ) where
+module _ (pass : Pass) (fr : List ℕ) (m : ℕ) where
   -- an operand's steps keep their places
   kept : (l : List Step) → Each (StepInRange fr m) l → Each (StepInRange fr m) (placed (λ p. p) l)
   kept [] h = tt
   kept (step p c ∷ l) h = (h .0, kept l (h .1))
 
   -- followed over earlier readings that are in range, a rule that keeps within the file has a reading in range
-  follows : (earlier : Readings) → ((n : RowNumber) → n .0 < m → ReadingInRange fr m (earlier n)) → {rule : Rule Typed} → Within fr m rule
-      → ReadingInRange fr m (follow (see fr) earlier rule)
+  follows : (earlier : Readings) → ((n : RowNumber) → n .0 < m → ReadingInRange pass fr m (earlier n)) → {rule : Rule Typed} → Within pass fr m rule
+      → ReadingInRange pass fr m (follow (see fr) earlier rule)
   follows earlier all (ends h) = record { steps = tt; end = h }
   follows earlier all (comes p c {k} place there next) = go (see fr c) refl (λ s q. follows earlier all (next s q))
     where
-      go : (o : Option (Seen c)) → see fr c ≡ o → ((s : Seen c) → see fr c ≡ some s → ReadingInRange fr m (follow (see fr) earlier (k s)))
-          → ReadingInRange fr m (follow (see fr) earlier (come p c k))
+      go : (o : Option (Seen c)) → see fr c ≡ o → ((s : Seen c) → see fr c ≡ some s → ReadingInRange pass fr m (follow (see fr) earlier (k s)))
+          → ReadingInRange pass fr m (follow (see fr) earlier (come p c k))
       go none q ih = rw (q, follow) (record { steps = ((place, there), tt); end = tt })
       go (some s) q ih = rw (q, follow) (record { steps = ((place, there), ih s q .steps); end = ih s q .end })
   follows earlier all (Ranged.reads {n} {k} l next) = go (earlier n .end) refl (all n l .end) (λ t h. follows earlier all (next t h))
@@ -70,9 +70,9 @@ module _ (fr : List ℕ) (m : ℕ) where
       own : Each (StepInRange fr m) (placed (λ p. p) (earlier n .steps))
       own = kept (earlier n .steps) (all n l .steps)
 
-      go : (o : Option Typed) → earlier n .end ≡ o → IfSome (TypedInRange (startsOf fr)) o
-          → ((t : Typed) → TypedInRange (startsOf fr) t → ReadingInRange fr m (follow (see fr) earlier (k t)))
-          → ReadingInRange fr m (follow (see fr) earlier (past n (λ p. p) k))
+      go : (o : Option Typed) → earlier n .end ≡ o → IfSome (TypedInRange pass (startsOf fr)) o
+          → ((t : Typed) → TypedInRange pass (startsOf fr) t → ReadingInRange pass fr m (follow (see fr) earlier (k t)))
+          → ReadingInRange pass fr m (follow (see fr) earlier (past n (λ p. p) k))
       go none q h ih = rw (q, follow) (record { steps = own; end = tt })
       go (some t) q h ih =
           rw (q, follow)
@@ -81,28 +81,28 @@ module _ (fr : List ℕ) (m : ℕ) where
 
 -- NO READING COMES TO A DEFAULT: the reading of every row is in range
 pub no-default : (pass : Pass) (fr : List ℕ) → Good fr → (n : ℕ) → n ≤ rowCount (startsOf fr) → (m : ℕ) → m < n
-    → ReadingInRange fr m (getD (readings (see fr) (typing pass) n) m (record { steps = []; end = some absent }))
+    → ReadingInRange pass fr m (getD (readings (see fr) (typing pass) n) m (record { steps = []; end = some absent }))
 no-default pass fr good =
-    in-order-all (ReadingInRange fr) (λ earlier m. follow (see fr) (amongReadings earlier) (typing pass m)) (record {
+    in-order-all (ReadingInRange pass fr) (λ earlier m. follow (see fr) (amongReadings earlier) (typing pass m)) (record {
       steps =
           [];
       end = some absent;
     }) (rowCount (startsOf fr))
     (λ n l w all.
-    follows fr n (amongReadings l) (λ r q. reading-later fr (r .0) n (omega arith) (amongReadings l r) (all (r .0) q))
+    follows pass fr n (amongReadings l) (λ r q. reading-later pass fr (r .0) n (omega arith) (amongReadings l r) (all (r .0) q))
     (rule-keeps pass fr good n (row-there fr n w)))
 
 -- and so of the readings that a rule over the first n rows comes to
 pub earlier-in-range : (pass : Pass) (fr : List ℕ) → Good fr → (n : ℕ) → n ≤ rowCount (startsOf fr) → (r : RowNumber) → r .0 < n
-    → ReadingInRange fr n (amongReadings (readings (see fr) (typing pass) n) r)
+    → ReadingInRange pass fr n (amongReadings (readings (see fr) (typing pass) n) r)
 earlier-in-range pass fr good n w r q =
-    reading-later fr (r .0) n (omega arith) (amongReadings (readings (see fr) (typing pass) n) r) (no-default pass fr good n w (r .0) q)
+    reading-later pass fr (r .0) n (omega arith) (amongReadings (readings (see fr) (typing pass) n) r) (no-default pass fr good n w (r .0) q)
 
 -- and of the reading that the claim on later readers speaks of
 pub reading-in-range : (pass : Pass) (fr : List ℕ) → Good fr → (n : ℕ) → n < rowCount (startsOf fr)
     → Each (StepInRange fr n) (reading (see fr) (typing pass) n (typing pass n))
 reading-in-range pass fr good n w =
-    follows fr n (amongReadings (readings (see fr) (typing pass) n)) (earlier-in-range pass fr good n (omega arith))
+    follows pass fr n (amongReadings (readings (see fr) (typing pass) n)) (earlier-in-range pass fr good n (omega arith))
     (rule-keeps pass fr good n (row-there fr n w)) .steps
 
 -- OPERANDS
@@ -145,7 +145,7 @@ binary-earlier n Bo.ShiftRight l r g h = (g, tt)
 binary-by-earlier : (pass : Pass) (n : RowNumber) (op : BinaryOperator) (l r : RowNumber) → l .0 < n .0 → r .0 < n .0
     → Earlier n (binaryReadsBy pass op l r .operands)
 binary-by-earlier Pa.First n op l r g h = binary-earlier n op l r g h
-binary-by-earlier Pa.Second n op l r g h = binary-earlier n op l r g h
+binary-by-earlier Pa.Second n op l r g h = (g, (h, tt))
 
 relational-earlier : (n : RowNumber) (f : RelationalFunction) (m : RowNumber) → relationalNames n f m ≡ true
     → Earlier n (relationalReads f m .operands)

@@ -3,15 +3,15 @@
 use Prim.Native.Nat.{ℕ, _≤_, _<_}
 use native.Mathlib.Omega.{arith}
 use mathlib.Core.Path.{_≡_}
-use mathlib.Core.Bool.{Bool, true, false}
+use mathlib.Core.Bool.{Bool, true, false, _&&_, _||_}
 use mathlib.Core.List.{List, [], _∷_}
 use mathlib.Core.Option.{Option, none, some}
+use lib.Dec.{eqb, leb}
 use Rattle.ir.specs.declared.TypeInner.{TypeInner}
 use Rattle.ir.specs.declared.TypeInner.the-variants as Ti
 use Rattle.ir.specs.declared.RowNumber.{RowNumber}
 use Rattle.answers.specs.Numbers.{refusalValues}
 use Rattle.answers.specs.declared.Refusal.{Refusal}
-use Rattle.answers.specs.declared.Refusal.the-variants as R
 use Rattle.archive.specs.declared.Starts.{Starts}
 use Rattle.archive.specs.Starts.{startsOf}
 use Rattle.archive.specs.Names.{isType, isRow}
@@ -19,6 +19,8 @@ use Rattle.rule.specs.declared.Fault.the-variants as Fa
 use Rattle.rule.specs.Answers.{TypeAnswer, number, value, malformed, Typed, given, refused, chosenRefusal, Place, row, component, composed, nowhere, chosen, Result, told, newer}
 use Rattle.rule.specs.Things.{Form, Thing, Seen, kind, form, texels, structNumber, fault, valueFault, see}
 use Rattle.rule.specs.Rule.{Rule, done, come, past, Step, step}
+use Rattle.rule_rows.specs.declared.Pass.{Pass}
+use Rattle.rule_rows.specs.declared.Pass.the-variants as Pa
 
 -- ANSWERS
 
@@ -45,16 +47,19 @@ TypeInRange s (number t) = isType s t ≡ true
 TypeInRange s (value t) = (valueFault s t ≡ Fa.Sound) × (isMade t ≡ true)
 TypeInRange s (malformed f) = ⊥
 
--- a refusal's number is from 10 to 20
-pub record RefusalInRange (e : Refusal) : Type 0 where
-  pub low : 10 ≤ refusalValues e .number
-  pub high : refusalValues e .number ≤ 20
+-- the numbers of refusals: 10 to 20, and in the second pass 41 too (document 02, request 3); 22 is newer, and no refusal here
+abbrev pub isRefusal : Pass → ℕ → Bool
+isRefusal Pa.First n = leb 10 n && leb n 20
+isRefusal Pa.Second n = (leb 10 n && leb n 20) || eqb n 41
 
--- a row's answer other than newer: such a type, or one of the refusals 10 to 20
-abbrev pub TypedInRange : Starts → Typed → Type 0
-TypedInRange s (given a) = TypeInRange s a
-TypedInRange s (refused e) = RefusalInRange e
-TypedInRange s (chosenRefusal f) = ⊥
+pub record RefusalInRange (pass : Pass) (e : Refusal) : Type 0 where
+  pub number-is : isRefusal pass (refusalValues e .number) ≡ true
+
+-- a row's answer other than newer: such a type, or one of these refusals
+abbrev pub TypedInRange : Pass → Starts → Typed → Type 0
+TypedInRange pass s (given a) = TypeInRange s a
+TypedInRange pass s (refused e) = RefusalInRange pass e
+TypedInRange pass s (chosenRefusal f) = ⊥
 
 -- the place of a newer thing: row m or an earlier one
 abbrev pub PlaceInRange : ℕ → Place → Type 0
@@ -65,9 +70,9 @@ PlaceInRange m nowhere = ⊥
 PlaceInRange m (chosen f) = ⊥
 
 -- an answer of row m
-abbrev pub InRange : List ℕ → ℕ → Result Typed → Type 0
-InRange fr m (told t) = TypedInRange (startsOf fr) t
-InRange fr m (newer p) = PlaceInRange m p
+abbrev pub InRange : Pass → List ℕ → ℕ → Result Typed → Type 0
+InRange pass fr m (told t) = TypedInRange pass (startsOf fr) t
+InRange pass fr m (newer p) = PlaceInRange m p
 
 -- READINGS
 
@@ -120,24 +125,26 @@ pub record FormInRange (s : Starts) (x : Form) : Type 0 where
 
 -- a rule of row m, along what it sees in a file: it ends in range, comes to things that are there, at row m or an earlier one, and reads earlier rows
 -- only, whose newer things keep their places; over answers of theirs that are in range
-pub data Within (fr : List ℕ) (m : ℕ) : Rule Typed → Type 0 where
-  ends : {t : Typed} → TypedInRange (startsOf fr) t → Within fr m (done t)
+pub data Within (pass : Pass) (fr : List ℕ) (m : ℕ) : Rule Typed → Type 0 where
+  ends : {t : Typed} → TypedInRange pass (startsOf fr) t → Within pass fr m (done t)
   comes : (p : Place) (c : Thing) {k : Seen c → Rule Typed} → PlaceInRange m p → There fr c
-      → ((s : Seen c) → see fr c ≡ some s → Within fr m (k s))
-      → Within fr m (come p c k)
-  reads : {n : RowNumber} {k : Typed → Rule Typed} → n .0 < m → ((t : Typed) → TypedInRange (startsOf fr) t → Within fr m (k t))
-      → Within fr m (past n (λ p. p) k)
+      → ((s : Seen c) → see fr c ≡ some s → Within pass fr m (k s))
+      → Within pass fr m (come p c k)
+  reads : {n : RowNumber} {k : Typed → Rule Typed} → n .0 < m → ((t : Typed) → TypedInRange pass (startsOf fr) t → Within pass fr m (k t))
+      → Within pass fr m (past n (λ p. p) k)
 
--- every refusal of ours has a number from 10 to 20
-pub refusal-number : (e : Refusal) → RefusalInRange e
-refusal-number (R.OutOfBoundsIndex r i) = record { low = omega arith; high = omega arith }
-refusal-number (R.InvalidAccess r q) = record { low = omega arith; high = omega arith }
-refusal-number (R.InvalidSubAccess t q) = record { low = omega arith; high = omega arith }
-refusal-number (R.InvalidScalar r) = record { low = omega arith; high = omega arith }
-refusal-number (R.InvalidVector r) = record { low = omega arith; high = omega arith }
-refusal-number (R.InvalidPointer r) = record { low = omega arith; high = omega arith }
-refusal-number (R.InvalidImage r) = record { low = omega arith; high = omega arith }
-refusal-number R.FunctionReturnsVoid = record { low = omega arith; high = omega arith }
-refusal-number R.IncompatibleOperands = record { low = omega arith; high = omega arith }
-refusal-number (R.FunctionArgumentNotFound i) = record { low = omega arith; high = omega arith }
-refusal-number R.MissingSpecialType = record { low = omega arith; high = omega arith }
+-- a refusal with a number of the first pass is one of either
+pub refusal-number : (pass : Pass) (e : Refusal) → isRefusal Pa.First (refusalValues e .number) ≡ true → RefusalInRange pass e
+refusal-number pass e h = record { number-is = go pass }
+  where
+    go : (p : Pass) → isRefusal p (refusalValues e .number) ≡ true
+    go Pa.First = h
+    go Pa.Second = rw h
+
+-- and none has number 22
+pub refusal-not-newer : (pass : Pass) (e : Refusal) → RefusalInRange pass e → refusalValues e .number ≡ 22 → ⊥
+refusal-not-newer pass e h q = go pass (rw q at (h .number-is))
+  where
+    go : (p : Pass) → isRefusal p 22 ≡ true → ⊥
+    go Pa.First x = let z : _≡_ {A = ℕ} 0 1 = cc in omega arith
+    go Pa.Second x = let z : _≡_ {A = ℕ} 0 1 = cc in omega arith

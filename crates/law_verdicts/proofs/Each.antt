@@ -34,24 +34,24 @@ use Rattle.law_verdicts.proofs.Composes.{composes}
 use Rattle.law_verdicts.proofs.Numbers.{compose-kind, verdict-numbers}
 
 -- an answer in range is of family 8, 9 or 10
-answer-family : (fr : List ℕ) (n : ℕ) (a : Result Typed) → InRange fr n a → AnswerFamily (byte (rowFrame a) 0)
-answer-family fr n (told (given (number t))) h = Each.typeNumber
-answer-family fr n (told (given (value t))) h = Each.value
-answer-family fr n (told (given (malformed f))) h = absurd h
-answer-family fr n (told (refused e)) h = Each.refusal
-answer-family fr n (told (chosenRefusal f)) h = absurd h
-answer-family fr n (newer (row r)) h = Each.refusal
-answer-family fr n (newer (component i)) h = absurd h
-answer-family fr n (newer composed) h = absurd h
-answer-family fr n (newer nowhere) h = absurd h
-answer-family fr n (newer (chosen f)) h = absurd h
+answer-family : (pass : Pass) (fr : List ℕ) (n : ℕ) (a : Result Typed) → InRange pass fr n a → AnswerFamily (byte (rowFrame a) 0)
+answer-family pass fr n (told (given (number t))) h = Each.typeNumber
+answer-family pass fr n (told (given (value t))) h = Each.value
+answer-family pass fr n (told (given (malformed f))) h = absurd h
+answer-family pass fr n (told (refused e)) h = Each.refusal
+answer-family pass fr n (told (chosenRefusal f)) h = absurd h
+answer-family pass fr n (newer (row r)) h = Each.refusal
+answer-family pass fr n (newer (component i)) h = absurd h
+answer-family pass fr n (newer composed) h = absurd h
+answer-family pass fr n (newer nowhere) h = absurd h
+answer-family pass fr n (newer (chosen f)) h = absurd h
 
 module _ (pass : Pass) (fr : List ℕ) (good : Good fr) where
   -- ONE ROW
   pub one-each : (n : ℕ) → n < rowCount (startsOf fr) → OneEach pass fr n
   one-each n h = record {
     answer = rowFrame (rowAnswer pass (see fr) n);
-    family = answer-family fr n (rowAnswer pass (see fr) n) (ours-in-range pass fr good n h);
+    family = answer-family pass fr n (rowAnswer pass (see fr) n) (ours-in-range pass fr good n h);
     compose =
         λ e. judged (verdictRule (see fr) n) refl (ap ofShown (row-by-bytes fr good (record { 0 = n }) (row-there fr n h) .composes e));
     other = λ e. alone (verdictRule (see fr) n) refl e;

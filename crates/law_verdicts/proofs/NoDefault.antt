@@ -32,6 +32,7 @@ use Rattle.rule.proofs.InOrder.{at-within}
 use Rattle.rule_types.specs.Canonical.{canonical, equalTypes, identical}
 use Rattle.rule_types.specs.Comparison.{inForm, byStruct, byIdentical, compare, answered, tested, rightTested, handed}
 use Rattle.rule_rows.specs.declared.Pass.{Pass}
+use Rattle.rule_rows.specs.declared.Pass.the-variants as Pa
 use Rattle.rule_rows.specs.Typed.{typing}
 use Rattle.law_rows.proofs.Good.{Good}
 use Rattle.law_rows.proofs.Ranged.{TypeInRange, TypedInRange, InRange, There, StepInRange, Each, IfSome, BaseInRange, FormInRange}
@@ -85,23 +86,23 @@ ComparisonStep fr a b (step p c) = (p ≡ nowhere) × InComparison fr a b c
 
 -- a rule over the first n rows, along what it sees in a file: each of its steps holds, it reads earlier rows only, and the steps of their readings hold with the
 -- places that they have for it
-pub data Within {A : Type 0} (fr : List ℕ) (n : ℕ) (P : Step → Type 0) : Rule A → Type 0 where
-  ends : {a : A} → Within fr n P (done a)
-  comes : (p : Place) (c : Thing) {k : Seen c → Rule A} → P (step p c) → ((s : Seen c) → see fr c ≡ some s → Within fr n P (k s))
-      → Within fr n P (come p c k)
+pub data Within {A : Type 0} (pass : Pass) (fr : List ℕ) (n : ℕ) (P : Step → Type 0) : Rule A → Type 0 where
+  ends : {a : A} → Within pass fr n P (done a)
+  comes : (p : Place) (c : Thing) {k : Seen c → Rule A} → P (step p c) → ((s : Seen c) → see fr c ≡ some s → Within pass fr n P (k s))
+      → Within pass fr n P (come p c k)
   reads : {r : RowNumber} {at : Place → Place} {k : Typed → Rule A} → r .0 < n → ((p : Place) (c : Thing) → There fr c → P (step (at p) c))
-      → ((t : Typed) → TypedInRange (startsOf fr) t → Within fr n P (k t))
-      → Within fr n P (past r at k)
+      → ((t : Typed) → TypedInRange pass (startsOf fr) t → Within pass fr n P (k t))
+      → Within pass fr n P (past r at k)
 
-module _ (fr : List ℕ) (n : ℕ) (P : Step → Type 0) where
+module _ (pass : Pass) (fr : List ℕ) (n : ℕ) (P : Step → Type 0) where
   row-steps : (at : Place → Place) → ((p : Place) (c : Thing) → There fr c → P (step (at p) c)) → (l : List Step) → Each (StepInRange fr n) l
       → Each P (placed at l)
   row-steps at h [] e = tt
   row-steps at h (step p c ∷ l) e = (h p c (e .0 .1), row-steps at h l (e .1))
 
   -- followed over readings of rows that are in range, each step holds
-  follows : {A : Type 0} (earlier : Readings) → ((r : RowNumber) → r .0 < n → ReadingInRange fr n (earlier r)) → {rule : Rule A}
-      → Within fr n P rule → Each P (follow (see fr) earlier rule .steps)
+  follows : {A : Type 0} (earlier : Readings) → ((r : RowNumber) → r .0 < n → ReadingInRange pass fr n (earlier r)) → {rule : Rule A}
+      → Within pass fr n P rule → Each P (follow (see fr) earlier rule .steps)
   follows earlier all ends = tt
   follows earlier all (comes p c {k} holds next) = go (see fr c) refl (λ s q. follows earlier all (next s q))
     where
@@ -114,8 +115,8 @@ module _ (fr : List ℕ) (n : ℕ) (P : Step → Type 0) where
       own : Each P (placed at (earlier r .steps))
       own = row-steps at holds (earlier r .steps) (all r l .steps)
 
-      go : (o : Option Typed) → earlier r .end ≡ o → IfSome (TypedInRange (startsOf fr)) o
-          → ((t : Typed) → TypedInRange (startsOf fr) t → Each P (follow (see fr) earlier (k t) .steps))
+      go : (o : Option Typed) → earlier r .end ≡ o → IfSome (TypedInRange pass (startsOf fr)) o
+          → ((t : Typed) → TypedInRange pass (startsOf fr) t → Each P (follow (see fr) earlier (k t) .steps))
           → Each P (follow (see fr) earlier (past r at k) .steps)
       go none q h ih = rw (q, follow) own
       go (some t) q h ih =
@@ -123,7 +124,7 @@ module _ (fr : List ℕ) (n : ℕ) (P : Step → Type 0) where
 
   -- run over answers of earlier rows that are in range, it gives the same whatever stands for the other rows
   same-run : {A : Type 0} (one two : Answers) (new : Place → Result A) → ((r : RowNumber) → r .0 < n → one r ≡ two r)
-      → ((r : RowNumber) → r .0 < n → InRange fr (r .0) (two r)) → {rule : Rule A} → Within fr n P rule
+      → ((r : RowNumber) → r .0 < n → InRange pass fr (r .0) (two r)) → {rule : Rule A} → Within pass fr n P rule
       → run (see fr) one new rule ≡ run (see fr) two new rule
   same-run one two new same all ends = refl
   same-run one two new same all (comes p c {k} holds next) = go (see fr c) refl (λ s q. same-run one two new same all (next s q))
@@ -135,17 +136,17 @@ module _ (fr : List ℕ) (n : ℕ) (P : Step → Type 0) where
       go (some s) q ih = rw (q, run) (ih s q)
   same-run one two new same all (reads {r} {at} {k} l holds next) = go (two r) refl (all r l) (λ t h. same-run one two new same all (next t h))
     where
-      go : (o : Result Typed) → two r ≡ o → InRange fr (r .0) o
-          → ((t : Typed) → TypedInRange (startsOf fr) t → run (see fr) one new (k t) ≡ run (see fr) two new (k t))
+      go : (o : Result Typed) → two r ≡ o → InRange pass fr (r .0) o
+          → ((t : Typed) → TypedInRange pass (startsOf fr) t → run (see fr) one new (k t) ≡ run (see fr) two new (k t))
           → run (see fr) one new (past r at k) ≡ run (see fr) two new (past r at k)
       go (told t) q h ih = rw (same r l, q, run) (ih t h)
       go (newer p) q h ih = rw (same r l, q, run)
 
 -- THE COMPARISON at a place where every sound type may be looked into, and asked whether it is the number of a struct
-module _ {A : Type 0} (fr : List ℕ) (good : Good fr) (n : ℕ) (P : Step → Type 0) (p : Place)
+module _ {A : Type 0} (pass : Pass) (fr : List ℕ) (good : Good fr) (n : ℕ) (P : Step → Type 0) (p : Place)
     (looked : (a : TypeAnswer) → IsSound fr a → P (step p (form a))) (asked : (a : TypeAnswer) → IsSound fr a → P (step p (structNumber a))) where
   abbrev Keeps : Rule A → Type 0
-  Keeps = Within fr n P
+  Keeps = Within pass fr n P
 
   look-keeps : (a : TypeAnswer) → IsSound fr a → (k : TypeInner → Rule A) → ((u : TypeInner) → Keeps (k u))
       → Keeps (come p (form a) (λ x. inForm p k (x .inner)))
@@ -169,9 +170,9 @@ module _ {A : Type 0} (fr : List ℕ) (good : Good fr) (n : ℕ) (P : Step → T
     compare-keeps = identical-keeps (identical a b)
 
 -- OF TWO ANSWERS HANDED IN
-module _ (fr : List ℕ) (good : Good fr) (a b : TypeAnswer) where
+module _ (pass : Pass) (fr : List ℕ) (good : Good fr) (a b : TypeAnswer) where
   abbrev Handed : Rule Compared → Type 0
-  Handed = Within fr 0 (ComparisonStep fr a b)
+  Handed = Within pass fr 0 (ComparisonStep fr a b)
 
   answered-keeps : (x : Bool) → Handed (answered x)
   answered-keeps true = ends
@@ -190,25 +191,25 @@ module _ (fr : List ℕ) (good : Good fr) (a b : TypeAnswer) where
   handed-keeps : Handed (handed a b)
   handed-keeps =
       tested-keeps a (inl refl) (rightTested a b) (λ i. tested-keeps b (inr refl) (compare nowhere a b answered) (λ j.
-      compare-keeps fr good 0 (ComparisonStep fr a b) nowhere (λ x s. (refl, s)) (λ x s. (refl, s)) a b i j answered answered-keeps))
+      compare-keeps pass fr good 0 (ComparisonStep fr a b) nowhere (λ x s. (refl, s)) (λ x s. (refl, s)) a b i j answered answered-keeps))
 
 -- NO COMPARISON COMES TO A DEFAULT: of any two answers, so of any two frames that are handed in, each step of the reading is one of the two tests for 5 and 6, or comes
 -- to a type of the file or a sound value
 pub comparison-no-default : (pass : Pass) (fr : List ℕ) → Good fr → (a b : TypeAnswer)
     → Each (ComparisonStep fr a b) (reading (see fr) (typing pass) 0 (handed a b))
 comparison-no-default pass fr good a b =
-    follows fr 0 (ComparisonStep fr a b) (amongReadings (readings (see fr) (typing pass) 0)) (λ r l. absurd (omega arith)) (handed-keeps fr good a b)
+    follows pass fr 0 (ComparisonStep fr a b) (amongReadings (readings (see fr) (typing pass) 0)) (λ r l. absurd (omega arith)) (handed-keeps pass fr good a b)
 
 -- and it reads no row, so what stands for a row that is not there is never taken: over any answers it gives the same
 pub comparison-reads-none : (fr : List ℕ) → Good fr → (a b : TypeAnswer) (one two : Answers) (new : Place → Result Compared)
     → run (see fr) one new (handed a b) ≡ run (see fr) two new (handed a b)
 comparison-reads-none fr good a b one two new =
-    same-run fr 0 (ComparisonStep fr a b) one two new (λ r l. absurd (omega arith)) (λ r l. absurd (omega arith)) (handed-keeps fr good a b)
+    same-run Pa.First fr 0 (ComparisonStep fr a b) one two new (λ r l. absurd (omega arith)) (λ r l. absurd (omega arith)) (handed-keeps Pa.First fr good a b)
 
 -- OF A COMPOSE, row n, with m components
-module _ (fr : List ℕ) (good : Good fr) (n m : ℕ) where
+module _ (pass : Pass) (fr : List ℕ) (good : Good fr) (n m : ℕ) where
   abbrev Judged : Rule Judgement → Type 0
-  Judged = Within fr n (VerdictStep fr m)
+  Judged = Within pass fr n (VerdictStep fr m)
 
   -- what a row's reading comes to
   of-row : (c : Thing) → There fr c → InVerdict fr c
@@ -224,7 +225,7 @@ module _ (fr : List ℕ) (good : Good fr) (n m : ℕ) where
         → ((a : TypeAnswer) → TypeInRange (startsOf fr) a → Judged (rest a)) → Judged (comeTo i r rest)
     row-keeps r rest l h = reads l (λ p c t. (here, of-row c t)) go
       where
-        go : (t : Typed) → TypedInRange (startsOf fr) t → Judged (orBroken i rest t)
+        go : (t : Typed) → TypedInRange pass (startsOf fr) t → Judged (orBroken i rest t)
         go (given a) j = h a j
         go (refused e) j = ends
         go (chosenRefusal f) j = ends
@@ -241,7 +242,7 @@ module _ (fr : List ℕ) (good : Good fr) (n m : ℕ) where
     same-keeps : (t : TypeNumber) → isType (startsOf fr) t ≡ true → (a : TypeAnswer) → TypeInRange (startsOf fr) a
         → (rest : Bool → Rule Judgement) → ((b : Bool) → Judged (rest b)) → Judged (compare (component i) (number t) a rest)
     same-keeps t w a j rest h =
-        compare-keeps fr good n (VerdictStep fr m) (component i) (λ x s. (here, s)) (λ x s. (here, s)) (number t) a (ap inRange w)
+        compare-keeps pass fr good n (VerdictStep fr m) (component i) (λ x s. (here, s)) (λ x s. (here, s)) (number t) a (ap inRange w)
         (in-range-sound (startsOf fr) a j) rest h
 
   -- COMPONENTS from component i on, of m
@@ -313,22 +314,22 @@ module _ (fr : List ℕ) (good : Good fr) (n m : ℕ) where
         comes composed (form (number t)) (tt, ap inRange w) (λ x q. form-keeps x (rw q at (sound-seen fr good (number t) (ap inRange w))))
 
 -- OF A ROW THAT HAS A VERDICT: it is a compose, its components are earlier rows, and the rule of its verdict keeps within the file
-record KeepsWithin (fr : List ℕ) (n : ℕ) (rule : Rule Judgement) : Type 0 where
+record KeepsWithin (pass : Pass) (fr : List ℕ) (n : ℕ) (rule : Rule Judgement) : Type 0 where
   pub row : Composes fr n
   pub earlier : Earlier (record { 0 = n }) (row .parts)
-  pub keeps : Within fr n (VerdictStep fr (length (row .parts))) rule
+  pub keeps : Within pass fr n (VerdictStep fr (length (row .parts))) rule
 
-kept : (fr : List ℕ) → Good fr → (n : ℕ) → n < rowCount (startsOf fr) → (rule : Rule Judgement) → verdictRule (see fr) n ≡ some rule
-    → KeepsWithin fr n rule
-kept fr good n w rule h =
+kept : (pass : Pass) (fr : List ℕ) → Good fr → (n : ℕ) → n < rowCount (startsOf fr) → (rule : Rule Judgement) → verdictRule (see fr) n ≡ some rule
+    → KeepsWithin pass fr n rule
+kept pass fr good n w rule h =
     let c = composes fr n rule h in
     let seen : ShownInRange (startsOf fr) (record { 0 = n }) (compose (c .ty) (c .parts)) =
     rw (c .shows) at (row-seen fr good (record { 0 = n }) (row-there fr n w)) in
     record {
       row = c;
       earlier = seen .1;
-      keeps = subst (λ (r : Rule Judgement). Within fr n (VerdictStep fr (length (c .parts))) r) (sym (rule-is fr n rule h c))
-          (verdict-keeps fr good n (length (c .parts)) (c .parts) (seen .1) refl (c .ty) (seen .0));
+      keeps = subst (λ (r : Rule Judgement). Within pass fr n (VerdictStep fr (length (c .parts))) r) (sym (rule-is fr n rule h c))
+          (verdict-keeps pass fr good n (length (c .parts)) (c .parts) (seen .1) refl (c .ty) (seen .0));
     }
 
 -- NO VERDICT COMES TO A DEFAULT: a row that has one is a compose; every component is an earlier row, so that its reading is there (`reading-there`,
@@ -342,19 +343,19 @@ module _ (pass : Pass) (fr : List ℕ) (good : Good fr) (n : ℕ) (w : n < rowCo
     (has : verdictRule (see fr) n ≡ some rule) where
   pub verdict-no-default : VerdictInRange pass fr n rule
   verdict-no-default =
-      let k = kept fr good n w rule has in
+      let k = kept pass fr good n w rule has in
       record {
         row = k .row;
         earlier = k .earlier;
-        steps = follows fr n (VerdictStep fr (length (k .row .parts))) (amongReadings (readings (see fr) (typing pass) n)) (earlier-in-range pass fr good n (omega arith)) (k .keeps);
+        steps = follows pass fr n (VerdictStep fr (length (k .row .parts))) (amongReadings (readings (see fr) (typing pass) n)) (earlier-in-range pass fr good n (omega arith)) (k .keeps);
       }
 
   -- and whatever stands for a row that is not typed yet, the verdict is ours
   pub verdict-rows-there : (d : Result Typed)
       → run (see fr) (λ r. getD (answers (see fr) (typing pass) (λ m. newer) n) (r .0) d) newer rule ≡ ours (see fr) (typing pass) n rule
   verdict-rows-there d =
-      let k = kept fr good n w rule has in
-      same-run fr n (VerdictStep fr (length (k .row .parts))) _ _ newer (λ r l. sym (answer-there pass fr n r l d)) (λ r l. range pass fr good n (omega arith) (r .0) l) (k .keeps)
+      let k = kept pass fr good n w rule has in
+      same-run pass fr n (VerdictStep fr (length (k .row .parts))) _ _ newer (λ r l. sym (answer-there pass fr n r l d)) (λ r l. range pass fr good n (omega arith) (r .0) l) (k .keeps)
 
 -- MEMBERS: a component is held against a member that is there, so what stands for a missing one does not matter
 

@@ -43,22 +43,22 @@ other-family f n e h q = absurd (h (sym e ∙ q))
 -- ONE ROW
 
 -- an answer in range
-in-range-width : (fr : List ℕ) (n : ℕ) (a : Result Typed) → InRange fr n a → ValueWidth (rowFrame a)
-in-range-width fr n (told (given (number t))) h = other-family (rowFrame (told (given (number t)))) 8 refl (λ e. absurd (omega arith))
-in-range-width fr n (told (given (value t))) h = λ e. value-width 9 t
-in-range-width fr n (told (given (malformed f))) h = absurd h
-in-range-width fr n (told (refused e)) h = other-family (rowFrame (told (refused e))) 10 refl (λ q. absurd (omega arith))
-in-range-width fr n (told (chosenRefusal f)) h = absurd h
-in-range-width fr n (newer (row r)) h = other-family (rowFrame (newer (row r))) 10 refl (λ e. absurd (omega arith))
-in-range-width fr n (newer (component i)) h = absurd h
-in-range-width fr n (newer composed) h = absurd h
-in-range-width fr n (newer nowhere) h = absurd h
-in-range-width fr n (newer (chosen f)) h = absurd h
+in-range-width : (pass : Pass) (fr : List ℕ) (n : ℕ) (a : Result Typed) → InRange pass fr n a → ValueWidth (rowFrame a)
+in-range-width pass fr n (told (given (number t))) h = other-family (rowFrame (told (given (number t)))) 8 refl (λ e. absurd (omega arith))
+in-range-width pass fr n (told (given (value t))) h = λ e. value-width 9 t
+in-range-width pass fr n (told (given (malformed f))) h = absurd h
+in-range-width pass fr n (told (refused e)) h = other-family (rowFrame (told (refused e))) 10 refl (λ q. absurd (omega arith))
+in-range-width pass fr n (told (chosenRefusal f)) h = absurd h
+in-range-width pass fr n (newer (row r)) h = other-family (rowFrame (newer (row r))) 10 refl (λ e. absurd (omega arith))
+in-range-width pass fr n (newer (component i)) h = absurd h
+in-range-width pass fr n (newer composed) h = absurd h
+in-range-width pass fr n (newer nowhere) h = absurd h
+in-range-width pass fr n (newer (chosen f)) h = absurd h
 
 module _ (pass : Pass) (fr : List ℕ) (good : Good fr) where
   -- the answer of row n
   pub row-width : (n : ℕ) → n < rowCount (startsOf fr) → ValueWidth (rowFrame (rowAnswer pass (see fr) n))
-  row-width n h = in-range-width fr n (rowAnswer pass (see fr) n) (ours-in-range pass fr good n h)
+  row-width n h = in-range-width pass fr n (rowAnswer pass (see fr) n) (ours-in-range pass fr good n h)
 
   -- its verdict, where it has one
   verdict-width : (n : ℕ) (o : Option (Result Judgement)) → verdictOf pass (see fr) n ≡ o → Each ValueWidth (verdictFrames n o)

@@ -1,27 +1,35 @@
-// The limit of frames that a program is started with: its one argument, a number in decimal.
-use answers::MAX_LIMIT;
+// The words that a program is started with: a limit of frames in decimal, and `wgsl` for the second pass.
 use libc::STDERR_FILENO;
-use text_limit::LimitWord;
-use text_limit::limit_of;
+use text_limit::Asked;
+use text_limit::Word;
+use text_limit::asked_by;
+use text_limit::word_of;
 
-// The limit that holds: 1,024 where there is no argument. An argument that is no number, and a second one, is told on standard error, with what is taken. The system
-// hands over no argument longer than this buffer.
-pub fn limit_asked() -> LimitWord {
-    let many = os::arg_count();
-    if many < 2 {
-        return LimitWord::Limit(MAX_LIMIT);
+// Argument i, absent where there are fewer. The system hands over no argument longer than this buffer.
+fn word_at(i: usize) -> Word {
+    if os::arg_count() <= i {
+        return Word::Absent;
     }
     let mut word = [0u8; 131072];
-    let n = os::arg(1, &mut word);
-    if many == 2 && os::errno() == 0 {
-        let asked = limit_of(&word[..n]);
-        if let LimitWord::Limit(limit) = asked {
-            return LimitWord::Limit(limit);
+    let n = os::arg(i, &mut word);
+    if os::errno() != 0 {
+        return Word::Neither;
+    }
+    word_of(&word[..n])
+}
+
+// What the arguments ask for: the limit that holds, which is 1,024 where none is handed in, and whether the second pass.
+// Other arguments, and more than two, are told on standard error, with what is taken.
+pub fn asked() -> Asked {
+    if os::arg_count() <= 3 {
+        let words = asked_by(word_at(1), word_at(2));
+        if let Asked::Within { limit, wgsl } = words {
+            return Asked::Within { limit, wgsl };
         }
     }
     io::write_all(
         STDERR_FILENO,
-        b"The one argument is the limit of frames, a number in decimal: 1 to 1024, any other counting as 1024.\n",
+        b"The arguments, in either order, are the limit of frames, a number in decimal (1 to 1024, any other counting as 1024), and wgsl for the second pass.\n",
     );
-    LimitWord::NotNumber
+    Asked::NotTaken
 }

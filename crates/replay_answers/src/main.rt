@@ -14,6 +14,7 @@ use file_lines::type_text;
 use file_read::same_type;
 use frames::frame_at;
 use libc::STDOUT_FILENO;
+use rule_rows::Pass;
 use text::AnswerRoom;
 use text_decode::read_text;
 ghost use Prim.Native.Nat.{_≤_};
@@ -48,10 +49,10 @@ fn print(bytes: &[u8]) {
     io::write_all(STDOUT_FILENO, bytes);
 }
 
-// Prints what typing a text writes; the buffer has room for any.
+// Prints what typing a text by the first pass writes; the buffer has room for any.
 fn print_types(text: &[u8]) {
     let mut out = [0u8; MAX_LINE_BYTES];
-    if let Printed::Bytes(n) = type_text(text, MAX_LIMIT, &mut out) {
+    if let Printed::Bytes(n) = type_text(text, MAX_LIMIT, Pass::First, &mut out) {
         print(&out[..n]);
     }
 }

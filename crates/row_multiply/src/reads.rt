@@ -8,6 +8,7 @@ use ir::RowNumber;
 use ir::TypeInner;
 use ir::TypeResolution;
 use row_operands::Looked;
+use row_operands::both::left_end;
 use row_operands::past::ended;
 use row_operands::past::look_into;
 use row_operands::past::past;
@@ -16,38 +17,7 @@ ghost use Rattle.rule_rows.specs.Operators.{multiply};
 ghost use Rattle.rule_rows.specs.Answered.{toResult};
 ghost use Rattle.row_operands.specs.declared.Looked.the-variants.{Seen};
 ghost use Rattle.row_operands.specs.Past.{answerIn, ruled, lookedIn};
-ghost use Rattle.row_multiply.specs.Ends.{timesOf, rightEnd, leftEnd};
-
-fn right_end(answers: &[u8], places: &[u16], here: RowNumber, right: RowNumber) -> Answer
-    ensures { λ r. ⌜ toResult r ≡ rightEnd here (answerIn (now (answers .entry)) (now (places .entry)) right) ⌝ }
-{
-    let answer = past(answers, places, right);
-    match answer {
-        Answer::Resolved(_) => Answer::Newer { row: here },
-        Answer::Refused(_) => answer,
-        Answer::Newer { row: _ } => answer,
-    }
-}
-
-// The left operand shows no form.
-fn left_end(
-    answers: &[u8],
-    places: &[u16],
-    here: RowNumber,
-    left: RowNumber,
-    right: RowNumber,
-) -> Answer
-    ensures { λ r. ⌜ toResult r
-        ≡ leftEnd here (answerIn (now (answers .entry)) (now (places .entry)) right)
-        (answerIn (now (answers .entry)) (now (places .entry)) left) ⌝ }
-{
-    let answer = past(answers, places, left);
-    match answer {
-        Answer::Resolved(_) => right_end(answers, places, here, right),
-        Answer::Refused(_) => answer,
-        Answer::Newer { row: _ } => answer,
-    }
-}
+ghost use Rattle.row_multiply.specs.Timed.{timesOf};
 
 // Where the type of one operand is the answer, it is read.
 fn times(answers: &[u8], places: &[u16], left: RowNumber, right: RowNumber, by: Times) -> Answer

@@ -28,13 +28,12 @@ use Rattle.answers.specs.declared.Unresolved.{Unresolved}
 use Rattle.row_operands.specs.declared.Looked.{Looked}
 use Rattle.row_operands.specs.declared.Looked.the-variants as Lo
 use Rattle.rule_rows.specs.declared.Pass.{Pass}
-use Rattle.rule_rows.specs.Steps.{operand, look, sameAs, byType, throughBase, byBase}
+use Rattle.rule_rows.specs.Steps.{operand, look, sameAs, byType, byBoth, throughBase, byBase}
 use Rattle.rule_rows.specs.Images.{sampledFrom, sampled}
-use Rattle.rule_rows.specs.Operators.{product, multiply}
 use Rattle.rule_rows.specs.Typed.{typed}
 use Rattle.rule_rows.specs.Answered.{toResult}
 use Rattle.rule_rows.specs.ForProofs.{sampledIn}
-use Rattle.row_operands.specs.Past.{answerIn, ruled, ruledShown, formed, endedBy, lookedAt, lookedBy, lookedIn, rightBy, leftBy, rightRead, leftRead}
+use Rattle.row_operands.specs.Past.{answerIn, ruled, ruledShown, formed, endedBy, lookedAt, lookedBy, lookedIn, OfBoth, rightBy, leftBy, rightRead, leftRead}
 
 -- by what was found
 abbrev onForm : {X : Type 0} → TypeForm → (TypeInner → X) → X → X
@@ -166,37 +165,38 @@ module _ (fr : List ℕ) (s : Starts) (an pl : List ℕ) where
         pub base-ended : {u : Unresolved} → lookedIn fr s an pl here n ≡ Lo.Ended u → endedBy u ≡ ran (byBase here n th f)
         base-ended q = sym (base-looked q)
 
-    -- MULTIPLY
+    -- TWO OPERANDS
 
-    right-form : (a b : TypeAnswer) (x : TypeInner) (c : TypeForm)
-        → onForm c (λ y. told (product a b x y)) (newer (row here)) ≡ rightBy here a x b c
-    right-form a b x (Tf.Known y) = refl
-    right-form a b x Tf.Unknown = refl
+    module _ (f : OfBoth) where
+      right-form : (a b : TypeAnswer) (x : TypeInner) (c : TypeForm)
+          → onForm c (λ y. told (f a b x y)) (newer (row here)) ≡ rightBy f here a x b c
+      right-form a b x (Tf.Known y) = refl
+      right-form a b x Tf.Unknown = refl
 
-    left-form : (a b : TypeAnswer) (c : TypeForm)
-        → onForm c (λ x. ran (look here b (λ y. done (product a b x (y .inner))))) (newer (row here)) ≡ leftBy fr s here a b c
-    unfolding ruled
-    left-form a b (Tf.Known x) = into b (λ y. done (product a b x (y .inner))) (formIn fr s b) refl ∙ right-form a b x (formIn fr s b)
-    left-form a b Tf.Unknown = refl
+      left-form : (a b : TypeAnswer) (c : TypeForm)
+          → onForm c (λ x. ran (look here b (λ y. done (f a b x (y .inner))))) (newer (row here)) ≡ leftBy f fr s here a b c
+      unfolding ruled
+      left-form a b (Tf.Known x) = into b (λ y. done (f a b x (y .inner))) (formIn fr s b) refl ∙ right-form a b x (formIn fr s b)
+      left-form a b Tf.Unknown = refl
 
-    abbrev both : TypeAnswer → TypeAnswer → Rule Typed
-    both a b = look here a (λ x. look here b (λ y. done (product a b (x .inner) (y .inner))))
+      abbrev both : TypeAnswer → TypeAnswer → Rule Typed
+      both a b = look here a (λ x. look here b (λ y. done (f a b (x .inner) (y .inner))))
 
-    right-answer : (a : TypeAnswer) (y : Answer) → onAnswer y (λ b. ran (both a (resolved b))) ≡ rightRead fr s here a y
-    right-answer a (An.Resolved b) =
-        into a (λ x. look here (resolved b) (λ y. done (product a (resolved b) (x .inner) (y .inner)))) (formIn fr s a) refl
-        ∙ left-form a (resolved b) (formIn fr s a)
-    right-answer a (An.Refused e) = refl
-    right-answer a (An.Newer r) = refl
+      right-answer : (a : TypeAnswer) (y : Answer) → onAnswer y (λ b. ran (both a (resolved b))) ≡ rightRead f fr s here a y
+      right-answer a (An.Resolved b) =
+          into a (λ x. look here (resolved b) (λ y. done (f a (resolved b) (x .inner) (y .inner)))) (formIn fr s a) refl
+          ∙ left-form a (resolved b) (formIn fr s a)
+      right-answer a (An.Refused e) = refl
+      right-answer a (An.Newer r) = refl
 
-    left-answer : (r : RowNumber) (x : Answer)
-        → onAnswer x (λ a. ran (operand r (both (resolved a)))) ≡ leftRead fr s here (answerIn an pl r) x
-    left-answer r (An.Resolved a) = read r (both (resolved a)) (answerIn an pl r) refl ∙ right-answer (resolved a) (answerIn an pl r)
-    left-answer r (An.Refused e) = refl
-    left-answer r (An.Newer q) = refl
+      left-answer : (r : RowNumber) (x : Answer)
+          → onAnswer x (λ a. ran (operand r (both (resolved a)))) ≡ leftRead f fr s here (answerIn an pl r) x
+      left-answer r (An.Resolved a) = read r (both (resolved a)) (answerIn an pl r) refl ∙ right-answer (resolved a) (answerIn an pl r)
+      left-answer r (An.Refused e) = refl
+      left-answer r (An.Newer q) = refl
 
-    pub multiply-run : (l r : RowNumber) → ran (multiply here l r) ≡ leftRead fr s here (answerIn an pl r) (answerIn an pl l)
-    multiply-run l r = read l (λ a. operand r (both a)) (answerIn an pl l) refl ∙ left-answer r (answerIn an pl l)
+      pub both-run : (l r : RowNumber) → ran (byBoth here l r f) ≡ leftRead f fr s here (answerIn an pl r) (answerIn an pl l)
+      both-run l r = read l (λ a. operand r (both a)) (answerIn an pl l) refl ∙ left-answer r (answerIn an pl l)
 
   -- A ROW'S OWN KIND
 

@@ -24,7 +24,6 @@ use Rattle.answers.specs.declared.Unresolved.the-variants as Un
 use Rattle.row_operands.specs.declared.Looked.{Looked}
 use Rattle.row_operands.specs.declared.Looked.the-variants as Lo
 use Rattle.rule_rows.specs.declared.Pass.{Pass}
-use Rattle.rule_rows.specs.Operators.{product}
 use Rattle.rule_rows.specs.Typed.{resolve}
 use Rattle.rule_rows.specs.Answered.{toResult}
 
@@ -73,22 +72,37 @@ lookedBy fr s here (An.Newer r) = Lo.Ended (Un.Newer r)
 unfoldable pub lookedIn : List ℕ → Starts → List ℕ → List ℕ → RowNumber → RowNumber → Looked
 lookedIn fr s answers places here n = lookedBy fr s here (answerIn answers places n)
 
--- MULTIPLY: left is read, then right, then left is looked into, then right
+-- TWO OPERANDS: left is read, then right, then left is looked into, then right; the answer f follows from both answers and both forms
 
-abbrev pub rightBy : RowNumber → TypeAnswer → TypeInner → TypeAnswer → TypeForm → Result Typed
-rightBy here a x b (Tf.Known y) = told (product a b x y)
-rightBy here a x b Tf.Unknown = newer (row here)
+abbrev pub OfBoth : Type 0
+OfBoth = TypeAnswer → TypeAnswer → TypeInner → TypeInner → Typed
 
-abbrev pub leftBy : List ℕ → Starts → RowNumber → TypeAnswer → TypeAnswer → TypeForm → Result Typed
-leftBy fr s here a b (Tf.Known x) = rightBy here a x b (formIn fr s b)
-leftBy fr s here a b Tf.Unknown = newer (row here)
+abbrev pub rightBy : OfBoth → RowNumber → TypeAnswer → TypeInner → TypeAnswer → TypeForm → Result Typed
+rightBy f here a x b (Tf.Known y) = told (f a b x y)
+rightBy f here a x b Tf.Unknown = newer (row here)
 
-abbrev pub rightRead : List ℕ → Starts → RowNumber → TypeAnswer → Answer → Result Typed
-rightRead fr s here a (An.Resolved b) = leftBy fr s here a (resolved b) (formIn fr s a)
-rightRead fr s here a (An.Refused e) = told (refused e)
-rightRead fr s here a (An.Newer r) = newer (row r)
+abbrev pub leftBy : OfBoth → List ℕ → Starts → RowNumber → TypeAnswer → TypeAnswer → TypeForm → Result Typed
+leftBy f fr s here a b (Tf.Known x) = rightBy f here a x b (formIn fr s b)
+leftBy f fr s here a b Tf.Unknown = newer (row here)
 
-abbrev pub leftRead : List ℕ → Starts → RowNumber → Answer → Answer → Result Typed
-leftRead fr s here right (An.Resolved a) = rightRead fr s here (resolved a) right
-leftRead fr s here right (An.Refused e) = told (refused e)
-leftRead fr s here right (An.Newer r) = newer (row r)
+abbrev pub rightRead : OfBoth → List ℕ → Starts → RowNumber → TypeAnswer → Answer → Result Typed
+rightRead f fr s here a (An.Resolved b) = leftBy f fr s here a (resolved b) (formIn fr s a)
+rightRead f fr s here a (An.Refused e) = told (refused e)
+rightRead f fr s here a (An.Newer r) = newer (row r)
+
+abbrev pub leftRead : OfBoth → List ℕ → Starts → RowNumber → Answer → Answer → Result Typed
+leftRead f fr s here right (An.Resolved a) = rightRead f fr s here (resolved a) right
+leftRead f fr s here right (An.Refused e) = told (refused e)
+leftRead f fr s here right (An.Newer r) = newer (row r)
+
+-- the left type is of unknown kind: the right answer where it holds no type, or a newer thing here
+abbrev pub rightEnd : RowNumber → Answer → Result Typed
+rightEnd here (An.Resolved b) = newer (row here)
+rightEnd here (An.Refused e) = told (refused e)
+rightEnd here (An.Newer r) = newer (row r)
+
+-- the left shows no form: its answer where it holds no type, else by the right answer
+abbrev pub leftEnd : RowNumber → Answer → Answer → Result Typed
+leftEnd here right (An.Resolved a) = rightEnd here right
+leftEnd here right (An.Refused e) = told (refused e)
+leftEnd here right (An.Newer r) = newer (row r)

@@ -10,6 +10,7 @@ use ir::Scalar;
 use row_multiply::reads::multiply;
 use row_operands::past::past;
 use row_operands::values::scalar_type;
+use row_wgsl::reads::wgsl_binary;
 use rule_rows::Pass;
 ghost use mathlib.Core.Path.{_≡_};
 ghost use Rattle.rule_rows.specs.Operators.{binary, binaryBy, relational};
@@ -76,7 +77,7 @@ pub fn binary_by(
 {
     match pass {
         Pass::First => binary(frames, s, answers, places, here, op, left, right),
-        Pass::Second => binary(frames, s, answers, places, here, op, left, right),
+        Pass::Second => wgsl_binary(frames, s, answers, places, here, op, left, right),
     }
 }
 

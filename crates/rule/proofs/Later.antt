@@ -11,7 +11,7 @@ use Rattle.rule.specs.Answers.{Typed, Place, Result, told, newer}
 use Rattle.rule.specs.Things.{Thing, Seen, Sight}
 use Rattle.rule.specs.Rule.{Rule, done, come, past, Answers, Step, step, Reading, Readings, run, follow, met, placed, after, stop}
 use Rattle.rule.specs.Claim.{inOrder, absent, among, amongReadings, answers, readings, ours, later, reading}
-use Rattle.rule.specs.ForProofs.{Right}
+use Rattle.rule.specs.ForProofs.{Right, outcomeOf}
 
 module _ (sight : Sight) where
   -- a reading, our outcome and a later reader's fit together
@@ -103,6 +103,13 @@ module _ (sight : Sight) where
     exactly = λ q. (λ w. cc, λ w. cc);
   }
 
+  told-by : {A : Type 0} (r : Reading A) (o : Result A) {l : Result A} → Fit (r .steps) (r .end) o l → o ≡ outcomeOf sight r
+  told-by {A = A} r o h = go (r .end) o h refl
+    where
+      go : (e : Option A) (o : Result A) {l : Result A} → Fit (r .steps) e o l → r .end ≡ e → o ≡ outcomeOf sight r
+      go e o (ends a h) q = rw q
+      go e o (stops p m h) q = rw (q, h)
+
   module _ (rules : ℕ → Rule Typed) (choice : ℕ → Result Typed) where
     rows : (n : ℕ) → Together (readings sight rules n) (answers sight rules (λ m. newer) n) (answers sight rules (λ m p. choice m) n)
     rows zero = none-yet
@@ -112,3 +119,8 @@ module _ (sight : Sight) where
     pub claim : (n : ℕ) {A : Type 0} (c : Result A) (rule : Rule A)
         → Right sight (reading sight rules n rule) (ours sight rules n rule) (later sight rules choice n c rule)
     claim n c rule = right _ _ _ _ (fits _ _ _ (λ r. at-row (rows n) (r .0)) c rule)
+
+    -- our outcome is told by the reading: its end, or a newer thing at the place where it was met
+    pub determined : (n : ℕ) {A : Type 0} (rule : Rule A)
+        → ours sight rules n rule ≡ outcomeOf sight (follow sight (amongReadings (readings sight rules n)) rule)
+    determined n rule = told-by _ _ (fits _ _ _ (λ r. at-row (rows n) (r .0)) (ours sight rules n rule) rule)

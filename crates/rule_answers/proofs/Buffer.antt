@@ -16,43 +16,51 @@ use Rattle.rule.specs.Rule.{Rule, run}
 use Rattle.rule.specs.Claim.{among, answers, ours}
 use Rattle.rule_rows.specs.declared.Pass.{Pass}
 use Rattle.rule_rows.specs.Typed.{typing}
+use Rattle.rule_rows.proofs.Written.{answer-framed}
 use Rattle.row_operands.specs.Past.{pastIn}
 use Rattle.rule_compose.specs.Rows.{verdictOf}
 use Rattle.law_rows.proofs.Good.{Good}
 use Rattle.law_rows.proofs.Ranged.{InRange}
 use Rattle.law_rows.proofs.Range.{ours-in-range}
 use Rattle.rule_answers.specs.Outputs.{rowAnswer, verdictFrames, outputs, framesBytes}
-use Rattle.rule_answers.specs.ForProofs.{placesOf}
+use Rattle.rule_answers.specs.ForProofs.{placesOf, Held, AllHeld}
 use Rattle.rule_answers.proofs.Same.{run-same}
 use Rattle.rule_answers.proofs.Placed.{Placed, past-is, placed-more}
 
--- one more row, whose answer is in range
-more : (fr : List ℕ) (n : ℕ) (outs : List Frame) (places : List ℕ) (rows : List (Result Typed)) (after : List Frame)
-    → Placed outs places rows
-    → (x : Result Typed) → InRange fr n x → Placed (outs ++ (rowFrame x ∷ after)) (places ++ (length outs ∷ [])) (rows ++ (x ∷ []))
-more fr n outs places rows after p (told (given (number t))) h = placed-more outs places rows (An.Resolved (Tr.Handle t)) after p
-more fr n outs places rows after p (told (given (value t))) h = placed-more outs places rows (An.Resolved (Tr.Value t)) after p
-more fr n outs places rows after p (told (given (malformed f))) h = absurd h
-more fr n outs places rows after p (told (refused e)) h = placed-more outs places rows (An.Refused e) after p
-more fr n outs places rows after p (told (chosenRefusal f)) h = absurd h
-more fr n outs places rows after p (newer (row r)) h = placed-more outs places rows (An.Newer r) after p
-more fr n outs places rows after p (newer (component i)) h = absurd h
-more fr n outs places rows after p (newer composed) h = absurd h
-more fr n outs places rows after p (newer nowhere) h = absurd h
-more fr n outs places rows after p (newer (chosen f)) h = absurd h
+-- an answer in range is one that the code has
+in-range-held : (pass : Pass) (fr : List ℕ) (n : ℕ) (x : Result Typed) → InRange pass fr n x → Held x
+in-range-held pass fr n (told (given (number t))) h = record { answer = An.Resolved (Tr.Handle t); is = refl }
+in-range-held pass fr n (told (given (value t))) h = record { answer = An.Resolved (Tr.Value t); is = refl }
+in-range-held pass fr n (told (given (malformed f))) h = absurd h
+in-range-held pass fr n (told (refused e)) h = record { answer = An.Refused e; is = refl }
+in-range-held pass fr n (told (chosenRefusal f)) h = absurd h
+in-range-held pass fr n (newer (row r)) h = record { answer = An.Newer r; is = refl }
+in-range-held pass fr n (newer (component i)) h = absurd h
+in-range-held pass fr n (newer composed) h = absurd h
+in-range-held pass fr n (newer nowhere) h = absurd h
+in-range-held pass fr n (newer (chosen f)) h = absurd h
 
-module _ (pass : Pass) (fr : List ℕ) (good : Good fr) where
+-- so are all of an accepted file
+pub good-held : (pass : Pass) (fr : List ℕ) → Good fr → (n : ℕ) → n ≤ rowCount (startsOf fr) → AllHeld pass fr n
+good-held pass fr good n h k l = in-range-held pass fr k (rowAnswer pass (see fr) k) (ours-in-range pass fr good k (omega arith))
+
+-- one more row, whose answer is held
+more : (outs : List Frame) (places : List ℕ) (rows : List (Result Typed)) (after : List Frame) → Placed outs places rows
+    → (x : Result Typed) → Held x → Placed (outs ++ (rowFrame x ∷ after)) (places ++ (length outs ∷ [])) (rows ++ (x ∷ []))
+more outs places rows after p x h = rw (h .is, ← answer-framed (h .answer)) (placed-more outs places rows (h .answer) after p)
+
+module _ (pass : Pass) (fr : List ℕ) where
   -- the answers of the first n rows stand at their places
-  pub placed-outputs : (n : ℕ) → n ≤ rowCount (startsOf fr)
+  pub placed-outputs : (n : ℕ) → AllHeld pass fr n
       → Placed (outputs pass (see fr) n) (placesOf pass fr n) (answers (see fr) (typing pass) (λ m. newer) n)
   unfolding outputs build
   placed-outputs zero h = record { long = refl; each = λ k l. absurd (omega arith) }
   placed-outputs (suc n) h =
-      more fr n (outputs pass (see fr) n) (placesOf pass fr n) (answers (see fr) (typing pass) (λ m. newer) n) (verdictFrames n (verdictOf pass (see fr) n)) (placed-outputs n (omega arith))
-      (rowAnswer pass (see fr) n) (ours-in-range pass fr good n (omega arith))
+      more (outputs pass (see fr) n) (placesOf pass fr n) (answers (see fr) (typing pass) (λ m. newer) n) (verdictFrames n (verdictOf pass (see fr) n))
+      (placed-outputs n (λ k l. h k (omega arith))) (rowAnswer pass (see fr) n) (h n (omega arith))
 
   -- so any rule run over the buffer and the places of the first n rows gives our outcome over them, whatever stands after those rows' frames
-  pub run-buffer : {A : Type 0} (n : ℕ) → n ≤ rowCount (startsOf fr) → (rest : List ℕ) (rule : Rule A)
+  pub run-buffer : {A : Type 0} (n : ℕ) → AllHeld pass fr n → (rest : List ℕ) (rule : Rule A)
       → run (see fr) (pastIn (framesBytes (outputs pass (see fr) n) ++ rest) (placesOf pass fr n)) newer rule ≡ ours (see fr) (typing pass) n rule
   run-buffer n h rest rule =
       run-same (see fr) (pastIn (framesBytes (outputs pass (see fr) n) ++ rest) (placesOf pass fr n)) (among (answers (see fr) (typing pass) (λ m. newer) n))

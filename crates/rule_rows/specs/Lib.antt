@@ -1,5 +1,7 @@
 pub mod Selectors
 pub mod Steps
+pub mod WgslTables
+pub mod Wgsl
 pub mod Access
 pub mod Variables
 pub mod Images

@@ -1,6 +1,7 @@
--- Unary, Binary, Select, Derivative, Relational and As, in the source's order (document 01, "A row's type"). Refusal: 18.
+-- Unary, Binary, Select, Derivative, Relational and As, in the source's order (document 01, "A row's type"). Refusal: 18; in the second pass 41.
 use Prim.Native.Nat.{ℕ}
 use mathlib.Core.Bool.{cond}
+use mathlib.Core.Option.{Option, none, some}
 use Rattle.ir.specs.declared.RowNumber.{RowNumber}
 use Rattle.ir.specs.declared.VectorSize.{VectorSize}
 use Rattle.ir.specs.declared.CooperativeSize.{CooperativeSize}
@@ -17,13 +18,14 @@ use Rattle.ir.specs.declared.OptionBytes.the-variants as Ob
 use Rattle.ir.specs.declared.TypeInner.{TypeInner}
 use Rattle.ir.specs.declared.TypeInner.the-variants as Ti
 use Rattle.ir.specs.Scalars.{BOOL, equalScalars}
-use Rattle.answers.specs.declared.Refusal.the-variants.{IncompatibleOperands}
+use Rattle.answers.specs.declared.Refusal.the-variants.{IncompatibleOperands, Mismatch}
 use Rattle.rule.specs.Answers.{TypeAnswer, value, Typed, given, refused}
 use Rattle.rule.specs.Rule.{Rule, done}
 use Rattle.rule_rows.specs.declared.Pass.{Pass}
 use Rattle.rule_rows.specs.declared.Pass.the-variants as Pa
 use Rattle.rule_rows.specs.Selectors.{ifScalar, ifVector, ifMatrix, ifCooperativeMatrix}
-use Rattle.rule_rows.specs.Steps.{operand, look, sameAs, byType}
+use Rattle.rule_rows.specs.Steps.{sameAs, byType, byBoth}
+use Rattle.rule_rows.specs.Wgsl.{wgslResult}
 
 -- UNARY: the operand's type. WGSL: "Arithmetic Expressions", "Logical Expressions", "Bit Expressions".
 abbrev pub unary : RowNumber → Rule Typed
@@ -71,8 +73,7 @@ product a b x y =
 
 -- reads left, then right, then looks into left, then right, a scalar left included
 abbrev pub multiply : RowNumber → RowNumber → RowNumber → Rule Typed
-multiply here left right =
-    operand left (λ a. operand right (λ b. look here a (λ x. look here b (λ y. done (product a b (x .inner) (y .inner))))))
+multiply here left right = byBoth here left right product
 
 -- a bool for each component of a scalar or a vector; every other type is number 18
 abbrev pub boolsOf : TypeInner → Typed
@@ -118,10 +119,25 @@ binary here Bo.InclusiveOr left right = bits left
 binary here Bo.ShiftLeft left right = bits left
 binary here Bo.ShiftRight left right = bits left
 
+-- BINARY IN THE SECOND PASS (document 02, request 3)
+
+-- WGSL's result, as a value; where its tables have none, number 41
+abbrev pub orMismatch : Option TypeInner → Typed
+orMismatch (some t) = given (value t)
+orMismatch none = refused Mismatch
+
+-- by WGSL's tables
+abbrev pub wgslOf : BinaryOperator → TypeAnswer → TypeAnswer → TypeInner → TypeInner → Typed
+wgslOf op a b x y = orMismatch (wgslResult op x y)
+
+-- every operator reads left, then right, then looks into left, then right; a pointer's base is not looked into
+abbrev pub wgslBinary : RowNumber → BinaryOperator → RowNumber → RowNumber → Rule Typed
+wgslBinary here op left right = byBoth here left right (wgslOf op)
+
 -- by the pass
 abbrev pub binaryBy : Pass → RowNumber → BinaryOperator → RowNumber → RowNumber → Rule Typed
 binaryBy Pa.First here op left right = binary here op left right
-binaryBy Pa.Second here op left right = binary here op left right
+binaryBy Pa.Second here op left right = wgslBinary here op left right
 
 -- SELECT: the type of what is accepted. WGSL: "Logical Built-in Functions", select.
 abbrev pub select : RowNumber → Rule Typed

@@ -31,6 +31,11 @@ sameAs n = operand n (λ a. done (given a))
 abbrev pub byType : RowNumber → RowNumber → (TypeInner → Typed) → Rule Typed
 byType here n answer = operand n (λ a. look here a (λ x. done (answer (x .inner))))
 
+-- left is read, then right; then left's type is looked into, then right's; the answer follows from both answers and both inner forms
+abbrev pub byBoth : RowNumber → RowNumber → RowNumber → (TypeAnswer → TypeAnswer → TypeInner → TypeInner → Typed) → Rule Typed
+byBoth here left right answer =
+    operand left (λ a. operand right (λ b. look here a (λ x. look here b (λ y. done (answer a b (x .inner) (y .inner))))))
+
 -- a type that was looked into: of a Pointer its base is looked into too, and the answer follows from the base's number, the pointer's space and
 -- the base's form; of every other type from its own form
 abbrev pub throughBase : RowNumber → (TypeNumber → AddressSpace → Form → Typed) → (Form → Typed) → Form → Rule Typed

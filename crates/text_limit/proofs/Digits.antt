@@ -14,8 +14,7 @@ use Rattle.scan.proofs.Laws.{and-first, and-second, all-each}
 use Rattle.answers.specs.Limit.{maxFrames}
 use Rattle.text.specs.Reading.{mostFrames}
 use Rattle.text.proofs.Laws.{most-over}
-use Rattle.text_limit.specs.declared.LimitWord.{LimitWord}
-use Rattle.text_limit.specs.declared.LimitWord.the-variants.{Limit, NotNumber}
+use Rattle.text_limit.specs.declared.Word.the-variants.{Limit, Neither}
 use Rattle.text_limit.specs.Word.{isDigit, spells, limitOf}
 use Rattle.text_limit.specs.ForProofs.{nextTo}
 
@@ -55,23 +54,23 @@ pub digit-small : (w : List ℕ) (k : ℕ) → isDigit w k ≡ true → (48 ≤ 
 digit-small w k e = (leb-true 48 (getD w k 0) (and-first (leb 48 (getD w k 0)) _ e), leb-true (getD w k 0) 57 (and-second (leb 48 (getD w k 0)) _ e))
 
 -- a byte that is no digit
-pub no-number : (w : List ℕ) (k : ℕ) → k < length w → isDigit w k ≡ false → NotNumber ≡ limitOf w
+pub no-number : (w : List ℕ) (k : ℕ) → k < length w → isDigit w k ≡ false → Neither ≡ limitOf w
 unfolding limitOf
 no-number w k h e = go (allBelow (isDigit w) (length w)) refl
   where
-    go : (b : Bool) → allBelow (isDigit w) (length w) ≡ b → NotNumber ≡ cond (ltb 0 (length w) && b) (Limit (mostFrames (spells w (length w)))) NotNumber
+    go : (b : Bool) → allBelow (isDigit w) (length w) ≡ b → Neither ≡ cond (ltb 0 (length w) && b) (Limit (mostFrames (spells w (length w)))) Neither
     go true p = let t = all-each (isDigit w) (length w) k p h in let z : _≡_ {A = Bool} true false = sym t ∙ e in let y : _≡_ {A = ℕ} 0 1 = cc in absurd (omega arith)
-    go false p = sym (ap (λ (b : Bool). cond b (Limit (mostFrames (spells w (length w)))) NotNumber) (never (ltb 0 (length w))))
+    go false p = sym (ap (λ (b : Bool). cond b (Limit (mostFrames (spells w (length w)))) Neither) (never (ltb 0 (length w))))
       where
         never : (b : Bool) → (b && false) ≡ false
         never true = refl
         never false = refl
 
 -- no byte at all
-pub no-word : (w : List ℕ) → length w ≡ 0 → NotNumber ≡ limitOf w
+pub no-word : (w : List ℕ) → length w ≡ 0 → Neither ≡ limitOf w
 unfolding limitOf
 no-word w e =
-    sym (ap (λ (b : Bool). cond (b && allBelow (isDigit w) (length w)) (Limit (mostFrames (spells w (length w)))) NotNumber) (le-ltb 0 (length w) (omega (arith, e))))
+    sym (ap (λ (b : Bool). cond (b && allBelow (isDigit w) (length w)) (Limit (mostFrames (spells w (length w)))) Neither) (le-ltb 0 (length w) (omega (arith, e))))
 
 -- all of it
 pub whole : (w : List ℕ) (n k r : ℕ) → Read w n k → k ≡ length w → 0 < k → r ≡ mostFrames n → Limit r ≡ limitOf w
@@ -79,7 +78,7 @@ unfolding limitOf
 whole w n k r i ek h er =
     let e : mostFrames n ≡ mostFrames (spells w (length w)) = go (decLe n maxFrames) in
     let a : (ltb 0 (length w) && allBelow (isDigit w) (length w)) ≡ true = rw (lt-ltb 0 (length w) (omega (arith, ek, h)), ← ek, i .digits) in
-    ap Limit (er ∙ e) ∙ sym (ap (λ (b : Bool). cond b (Limit (mostFrames (spells w (length w)))) NotNumber) a)
+    ap Limit (er ∙ e) ∙ sym (ap (λ (b : Bool). cond b (Limit (mostFrames (spells w (length w)))) Neither) a)
   where
     go : Dec (n ≤ maxFrames) → mostFrames n ≡ mostFrames (spells w (length w))
     go (yes l) = ap mostFrames (i .exact l ∙ ap (spells w) ek)

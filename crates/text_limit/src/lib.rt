@@ -1,17 +1,25 @@
-// A limit of frames as a word of decimal digits, as the programs take it.
+// The words that the programs take: a limit of frames in decimal digits, and `wgsl` for the second pass.
 use answers::MAX_LIMIT;
 use text_decode::most;
 ghost use mathlib.Core.Path.{_≡_};
 ghost use mathlib.Core.Bool.{_&&_};
 ghost use Prim.Native.Nat.{_≤_};
 ghost use lib.Dec.{leb};
-ghost use Rattle.text_limit.specs.Word.{limitOf};
+ghost use Rattle.text_limit.specs.Word.{isWgsl, limitOf, wordOf, alone, besideLimit, besideWgsl, askedBy};
 ghost use Rattle.text_limit.specs.ForProofs.{nextTo};
 
-// What a word says: the limit that holds, or that it is no number.
-pub enum LimitWord {
+// What a word says: the limit that holds by a number, `wgsl`, or neither; or there is no word.
+pub enum Word {
+    Absent,
     Limit(u32),
-    NotNumber,
+    Wgsl,
+    Neither,
+}
+
+// What a program is asked for: the limit that holds, and whether the second pass; or its words are not taken.
+pub enum Asked {
+    Within { limit: u32, wgsl: bool },
+    NotTaken,
 }
 
 fn is_digit(b: u8) -> bool
@@ -33,7 +41,7 @@ fn next(n: u32, digit: u8) -> u32
 }
 
 // The limit that a word of decimal digits spells, of any length.
-pub fn limit_of(word: &[u8]) -> LimitWord
+fn limit_of(word: &[u8]) -> Word
     ensures { λ r. ⌜ r ≡ limitOf (now (word .entry)) ⌝ }
 {
     let mut n = 0;
@@ -44,11 +52,85 @@ pub fn limit_of(word: &[u8]) -> LimitWord
             n = next(n, b - 48);
             k += 1;
         } else {
-            return LimitWord::NotNumber;
+            return Word::Neither;
         }
     }
     if k == 0 {
-        return LimitWord::NotNumber;
+        return Word::Neither;
     }
-    LimitWord::Limit(most(n) as u32)
+    Word::Limit(most(n) as u32)
+}
+
+fn is_wgsl(word: &[u8]) -> bool
+    ensures { λ r. ⌜ r ≡ isWgsl (now (word .entry)) ⌝ }
+{
+    if word.len() != 4 {
+        return false;
+    }
+    (word[0] == 119) & ((word[1] == 103) & ((word[2] == 115) & (word[3] == 108)))
+}
+
+// What a word says.
+pub fn word_of(word: &[u8]) -> Word
+    ensures { λ r. ⌜ r ≡ wordOf (now (word .entry)) ⌝ }
+{
+    if is_wgsl(word) {
+        return Word::Wgsl;
+    }
+    limit_of(word)
+}
+
+// What a second word asks for where the first is absent, is a limit, or is `wgsl`.
+fn alone(word: Word) -> Asked
+    ensures { λ r. ⌜ r ≡ alone word ⌝ }
+{
+    match word {
+        Word::Absent => Asked::Within {
+            limit: MAX_LIMIT,
+            wgsl: false,
+        },
+        Word::Limit(limit) => Asked::Within { limit, wgsl: false },
+        Word::Wgsl => Asked::Within {
+            limit: MAX_LIMIT,
+            wgsl: true,
+        },
+        Word::Neither => Asked::NotTaken,
+    }
+}
+
+fn beside_limit(limit: u32, word: Word) -> Asked
+    ensures { λ r. ⌜ r ≡ besideLimit limit word ⌝ }
+{
+    match word {
+        Word::Absent => Asked::Within { limit, wgsl: false },
+        Word::Limit(_) => Asked::NotTaken,
+        Word::Wgsl => Asked::Within { limit, wgsl: true },
+        Word::Neither => Asked::NotTaken,
+    }
+}
+
+fn beside_wgsl(word: Word) -> Asked
+    ensures { λ r. ⌜ r ≡ besideWgsl word ⌝ }
+{
+    match word {
+        Word::Absent => Asked::Within {
+            limit: MAX_LIMIT,
+            wgsl: true,
+        },
+        Word::Limit(limit) => Asked::Within { limit, wgsl: true },
+        Word::Wgsl => Asked::NotTaken,
+        Word::Neither => Asked::NotTaken,
+    }
+}
+
+// What two words ask for, in either order, each at most once.
+pub fn asked_by(first: Word, second: Word) -> Asked
+    ensures { λ r. ⌜ r ≡ askedBy first second ⌝ }
+{
+    match first {
+        Word::Absent => alone(second),
+        Word::Limit(limit) => beside_limit(limit, second),
+        Word::Wgsl => beside_wgsl(second),
+        Word::Neither => Asked::NotTaken,
+    }
 }

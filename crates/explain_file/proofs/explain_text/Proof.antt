@@ -41,21 +41,21 @@ returns : tie.Need-returns
 returns c =
     let g = c .before .before .before .before .before .before .before .before .before .before .before .before .args in
     let q = c .before .before .before .before .before .explain-with in
-    with-said (explained (g .limit) (g .text .now)) (g .out .now) _ _ (not-printed (explained (g .limit) (g .text .now)) (g .out .now) (omega (arith, c .if1 .taken, q .ensures .0)))
+    with-said (explained (g .pass) (g .limit) (g .text .now)) (g .out .now) _ _ (not-printed (explained (g .pass) (g .limit) (g .text .now)) (g .out .now) (omega (arith, c .if1 .taken, q .ensures .0)))
 
 returns-2 : tie.Need-returns-2
 returns-2 c =
     let g = c .before .before .before .before .before .before .before .before .before .before .before .before .before .before .before .before .before .args in
     let q = c .before .before .before .before .before .before .before .before .before .before .explain-with in
     let p = c .before .before .copy in
-    let l = linesOf (g .limit) (g .text .now) in
+    let l = linesOf (g .pass) (g .limit) (g .text .now) in
     let h = c .before .before .before .before .before .if1 .left in
-    let fits : 0 + length (take (q .result) (q .last .1 .1 .1 .1 .1 .0)) ≤ length (g .out .now) =
-    omega (arith, h, length-take-le (q .result) (q .last .1 .1 .1 .1 .1 .0) (inside l _ (q .last .1 .1 .1 .1 .1 .0) (q .result) (q .ensures))) in
-    with-said (explained (g .limit) (g .text .now)) (g .out .now) _ _
-    (all-printed (explained (g .limit) (g .text .now)) (g .out .now) (p .last .1 .0) (q .result) (q .ensures .0) (omega (arith, h))
-    (copied l _ (q .last .1 .1 .1 .1 .1 .0) (q .result) (q .ensures) (g .out .now) (p .last .1 .0)
-    (p .ensures ∙ put-fits (g .out .now) (take (q .result) (q .last .1 .1 .1 .1 .1 .0)) 0 fits)))
+    let fits : 0 + length (take (q .result) (q .last .1 .1 .1 .1 .1 .1 .0)) ≤ length (g .out .now) =
+    omega (arith, h, length-take-le (q .result) (q .last .1 .1 .1 .1 .1 .1 .0) (inside l _ (q .last .1 .1 .1 .1 .1 .1 .0) (q .result) (q .ensures))) in
+    with-said (explained (g .pass) (g .limit) (g .text .now)) (g .out .now) _ _
+    (all-printed (explained (g .pass) (g .limit) (g .text .now)) (g .out .now) (p .last .1 .0) (q .result) (q .ensures .0) (omega (arith, h))
+    (copied l _ (q .last .1 .1 .1 .1 .1 .1 .0) (q .result) (q .ensures) (g .out .now) (p .last .1 .0)
+    (p .ensures ∙ put-fits (g .out .now) (take (q .result) (q .last .1 .1 .1 .1 .1 .1 .0)) 0 fits)))
 
 pub explain-text-spec : {M : Type 1} → statement M
 explain-text-spec =
@@ -68,10 +68,10 @@ explain-text-spec =
     (λ c κs. (search needs, (search needs, (search needs, search needs))))
     returns
     (λ c.
-    omega (arith, c .before .before .before .before .before .explain-with .ensures .0, explained-fits (c .before .before .before .before .before .before .before .before .before .before .before .before .args .limit) (c .before .before .before .before .before .before .before .before .before .before .before .before .args .text .now)))
+    omega (arith, c .before .before .before .before .before .explain-with .ensures .0, explained-fits (c .before .before .before .before .before .before .before .before .before .before .before .before .args .pass) (c .before .before .before .before .before .before .before .before .before .before .before .before .args .limit) (c .before .before .before .before .before .before .before .before .before .before .before .before .args .text .now)))
     (λ c.
     let q = c .before .before .before .before .before .before .explain-with in
-    sym (length-take-le (q .result) (q .last .1 .1 .1 .1 .1 .0) (inside (linesOf (c .before .before .before .before .before .before .before .before .before .before .before .before .before .args .limit) (c .before .before .before .before .before .before .before .before .before .before .before .before .before .args .text .now)) _ (q .last .1 .1 .1 .1 .1 .0) (q .result) (q .ensures))))
+    sym (length-take-le (q .result) (q .last .1 .1 .1 .1 .1 .1 .0) (inside (linesOf (c .before .before .before .before .before .before .before .before .before .before .before .before .before .args .pass) (c .before .before .before .before .before .before .before .before .before .before .before .before .before .args .limit) (c .before .before .before .before .before .before .before .before .before .before .before .before .before .args .text .now)) _ (q .last .1 .1 .1 .1 .1 .1 .0) (q .result) (q .ensures))))
     (λ c κs. search needs)
     (λ c. search needs)
     returns-2)

@@ -1,15 +1,15 @@
 -- `answer_all`: `answer_rows` over a table of 1,024 places, which is enough. Assumes nothing.
-use mathlib.Core.Path.{_≡_, refl, sym, ap, _∙_}
-use Prim.Native.Nat.{ℕ}
+use mathlib.Core.Path.{refl}
 use native.Mathlib.Omega.{arith}
-use lib.ListN.{length}
+use lib.ListN.{replicate}
 use borrow.Author.Needs.{needs}
-use Rattle.archive.specs.declared.Starts.{Starts}
+use Rattle.answers.specs.Limit.{maxFrames}
 use Rattle.archive.specs.Starts.{startsOf, rowCount}
 use Rattle.rule.specs.Things.{see}
 use Rattle.rule_answers.specs.Outputs.{outputs}
 use Rattle.rule_answers.proofs.Bytes.{bytes-length}
 use Rattle.file_read.proofs.Row.{few-rows}
+use Rattle.file_answers.proofs.Rows.{all-filled}
 use Rattle.file_rows.proofs.answer_all.Statement.{statement}
 use Rattle.file_rows.proofs.answer_all.Tie as tie
 
@@ -17,22 +17,14 @@ pub answer-all-spec : {M : Type 1} → statement M
 answer-all-spec =
     tie.close
     (tie.spec
-    (λ c κs. search needs)
     (λ c. search needs)
-    (λ c κs.
-    let a = c .before .before .before .before .before .args in
-    let starts = c .before .before .find-starts in
-    let ready = c .before .before .before .before .before .pre in
-    (ready, (starts .ensures, rw (starts .ensures) (few-rows (a .pass) (a .frames .now) (length (a .answers .now)) ready))))
+    (λ c κs. tt)
     (λ c. search needs)
     (λ c.
-    let a = c .before .before .before .before .before .before .before .before .before .args in
-    let rows = c .before .before .before .answer-rows in (
-      omega (
-        arith,
-        rows .ensures .0,
-        bytes-length (outputs (a .pass) (see (a .frames .now)) (rowCount (startsOf (a .frames .now)))),
-        ap (λ (z : Starts). length (outputs (a .pass) (see (a .frames .now)) (rowCount z))) (c .before .before .before .before .before .before .find-starts .ensures),
-      ),
-      rows .ensures .1 .0,
-    )))
+    let a = c .before .before .before .before .before .before .before .before .args in
+    let ready = c .before .before .before .before .before .before .before .before .pre in
+    let rows = c .before .before .before .answer-rows in
+    let t =
+    all-filled (a .pass) (a .frames .now) (a .answers .now) (replicate maxFrames 0) (rows .result) (rows .last .1 .1 .0) (rows .last .1 .1 .1 .0) (startsOf (a .frames .now)) (ready .1)
+    (few-rows (a .frames .now) (ready .1 .few)) refl (rows .ensures) in
+    (omega (arith, t .0, bytes-length (outputs (a .pass) (see (a .frames .now)) (rowCount (startsOf (a .frames .now))))), t .1 .0)))

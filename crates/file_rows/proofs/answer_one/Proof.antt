@@ -1,8 +1,9 @@
 -- `answer_one`: the row's answer, read at its place. Assumes nothing.
 use mathlib.Core.Path.{_≡_, refl, sym, ap, _∙_}
 use native.Mathlib.Omega.{arith}
-use lib.ListN.{length}
+use lib.ListN.{length, replicate}
 use borrow.Author.Needs.{needs}
+use Rattle.answers.specs.Limit.{maxFrames}
 use Rattle.archive.specs.declared.Starts.{Starts}
 use Rattle.archive.specs.Starts.{startsOf, rowCount}
 use mathlib.Core.Bool.{true, false}
@@ -10,6 +11,7 @@ use lib.Seq.{length-take-le}
 use Rattle.archive.specs.Names.{isRow}
 use Rattle.file_read.proofs.Row.{few-rows}
 use Rattle.file_read.proofs.One.{places-long, one-answer}
+use Rattle.file_answers.proofs.Rows.{all-filled}
 use Rattle.file_rows.proofs.answer_one.Statement.{statement}
 use Rattle.file_rows.proofs.answer_one.Tie as tie
 
@@ -20,62 +22,50 @@ answer-one-spec =
     (λ c κs. search needs)
     (λ c κs. search needs)
     (λ c. search needs)
-    (λ c κs. (
-      c .before .before .before .before .before .before .before .pre,
-      (
-        c .before .before .before .before .find-starts .ensures,
-        rw (c .before .before .before .before .find-starts .ensures)
-            (few-rows (c .before .before .before .before .before .before .before .args .pass)
-            (c .before .before .before .before .before .before .before .args .frames .now)
-            (length (c .before .before .before .before .before .before .before .args .answers .now))
-            (c .before .before .before .before .before .before .before .pre)),
-      ),
-    ))
+    (λ c κs. tt)
     (λ c κs. search needs)
     (λ c.
+    let a = c .before .before .before .before .before .before .before .before .before .before .before .before .before .args in
+    let ready = c .before .before .before .before .before .before .before .before .before .before .before .before .before .pre in
+    let starts = c .before .before .before .before .before .before .before .before .before .before .find-starts in
+    let rows = c .before .before .before .before .before .answer-rows in
+    let t =
+    all-filled (a .pass) (a .frames .now) (a .answers .now) (replicate maxFrames 0) (rows .result) (rows .last .1 .1 .0) (rows .last .1 .1 .1 .0) (starts .result) (ready .1)
+    (few-rows (a .frames .now) (ready .1 .few)) (starts .ensures) (rows .ensures) in
     omega (
       arith,
-      places-long (c .before .before .before .before .before .before .before .before .before .before .before .before .before .args .pass)
-          (c .before .before .before .before .before .before .before .before .before .before .before .before .before .args .frames .now)
-          (c .before .before .before .before .before .answer-rows .last .1 .1 .1 .1 .0) _
-          (rowCount (c .before .before .before .before .before .before .before .before .before .before .find-starts .result))
-          (c .before .before .before .before .before .answer-rows .ensures .1 .1),
+      places-long (a .pass) (a .frames .now) (rows .last .1 .1 .1 .0) _ (rowCount (starts .result)) (t .1 .1),
       c .before .row-count .ensures,
     ))
     (λ c.
+    let a = c .before .before .before .before .before .before .before .before .before .before .before .before .before .before .args in
+    let ready = c .before .before .before .before .before .before .before .before .before .before .before .before .before .before .pre in
+    let starts = c .before .before .before .before .before .before .before .before .before .before .before .find-starts in
+    let rows = c .before .before .before .before .before .before .answer-rows in
+    let t =
+    all-filled (a .pass) (a .frames .now) (a .answers .now) (replicate maxFrames 0) (rows .result) (rows .last .1 .1 .0) (rows .last .1 .1 .1 .0) (starts .result) (ready .1)
+    (few-rows (a .frames .now) (ready .1 .few)) (starts .ensures) (rows .ensures) in
     sym
     (length-take-le _ _
     (omega (
       arith,
-      places-long
-          (c .before .before .before .before .before .before .before .before .before .before .before .before .before .before .args .pass)
-          (c .before .before .before .before .before .before .before .before .before .before .before .before .before .before .args .frames
-          .now)
-          (c .before .before .before .before .before .before .answer-rows .last .1 .1 .1 .1 .0) _
-          (rowCount (c .before .before .before .before .before .before .before .before .before .before .before .find-starts .result))
-          (c .before .before .before .before .before .before .answer-rows .ensures .1 .1),
+      places-long (a .pass) (a .frames .now) (rows .last .1 .1 .1 .0) _ (rowCount (starts .result)) (t .1 .1),
       c .before .before .row-count .ensures,
     ))))
     (λ c κs. search needs)
     (λ c. search needs)
     (λ c.
-    one-answer
-    (c .before .before .before .before .before .before .before .before .before .before .before .before .before .before .before .args .pass)
-    (c .before .before .before .before .before .before .before .before .before .before .before .before .before .before .before .args
-    .frames .now)
-    (c .before .before .before .before .before .before .before .before .before .before .before .before .before .before .before .args
-    .answers .now)
-    (c .before .before .before .before .before .before .before .answer-rows .last .1 .1 .1 .0)
-    (c .before .before .before .before .before .before .before .answer-rows .last .1 .1 .1 .1 .0) _
-    (c .before .before .before .before .before .before .before .before .before .before .before .before .find-starts .result)
-    (c .before .before .before .before .before .before .before .before .before .before .before .before .before .before .before .pre)
-    (c .before .before .before .before .before .before .before .before .before .before .before .before .find-starts .ensures)
-    (c .before .before .before .before .before .before .before .answer-rows .ensures .1 .0)
-    (c .before .before .before .before .before .before .before .answer-rows .ensures .1 .1)
-    (c .before .before .before .before .before .before .before .before .before .before .before .before .before .before .before .args .row)
-    (sym (c .before .before .before .before .before .before .before .before .before .before .before .is-row .ensures)
-    ∙ c .before .before .before .before .before .before .before .before .before .before .if1 .taken)
-    (c .before .before .before .row-count .result) (c .past .result) (c .before .before .before .row-count .ensures) (c .past .ensures))
+    let a = c .before .before .before .before .before .before .before .before .before .before .before .before .before .before .before .args in
+    let ready = c .before .before .before .before .before .before .before .before .before .before .before .before .before .before .before .pre in
+    let starts = c .before .before .before .before .before .before .before .before .before .before .before .before .find-starts in
+    let rows = c .before .before .before .before .before .before .before .answer-rows in
+    let t =
+    all-filled (a .pass) (a .frames .now) (a .answers .now) (replicate maxFrames 0) (rows .result) (rows .last .1 .1 .0) (rows .last .1 .1 .1 .0) (starts .result) (ready .1)
+    (few-rows (a .frames .now) (ready .1 .few)) (starts .ensures) (rows .ensures) in
+    let n = c .before .before .before .row-count in
+    one-answer (a .pass) (a .frames .now) (a .answers .now) (rows .last .1 .1 .0) (rows .last .1 .1 .1 .0) _ (starts .result) ready (starts .ensures)
+    (t .1 .0) (t .1 .1) (a .row) (sym (c .before .before .before .before .before .before .before .before .before .before .before .is-row .ensures) ∙ c .before .before .before .before .before .before .before .before .before .before .if1 .taken)
+    (n .result) (c .past .result) (n .ensures) (c .past .ensures))
     (λ c.
     (let e : isRow (startsOf (c .before .before .before .before .before .args .frames .now)) (c .before .before .before .before .before .args .row) ≡ false =
     ap (λ (z : Starts). isRow z (c .before .before .before .before .before .args .row)) (sym (c .before .before .find-starts .ensures))

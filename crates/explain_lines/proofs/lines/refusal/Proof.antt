@@ -26,8 +26,8 @@ cast-num-2 c = search needs
 num-requires-2 : tie.Need-num-requires-2
 num-requires-2 c κs = search needs
 
-pick-requires : tie.Need-pick-requires
-pick-requires c κs = search needs
+reason-requires : tie.Need-reason-requires
+reason-requires c κs = search needs
 
 index-requires : tie.Need-index-requires
 index-requires c κs = search needs
@@ -43,7 +43,7 @@ returns-2 c =
       eq-eqb _ _ (c .if2 .taken),
       c .before .num3 .ensures,
       c .before .before .index .ensures,
-      c .before .before .before .pick .ensures,
+      c .before .before .before .reason .ensures,
       c .before .before .before .before .num2 .ensures,
       c .before .before .before .before .before .before .num .ensures,
       c .before .before .before .before .before .before .before .named .ensures,
@@ -62,7 +62,7 @@ returns-3 c =
       c .manner .ensures,
       c .before .before .before .num3 .ensures,
       c .before .before .before .before .index .ensures,
-      c .before .before .before .before .before .pick .ensures,
+      c .before .before .before .before .before .reason .ensures,
       c .before .before .before .before .before .before .num2 .ensures,
       c .before .before .before .before .before .before .before .before .num .ensures,
       c .before .before .before .before .before .before .before .before .before .named .ensures,
@@ -78,7 +78,7 @@ returns-4 c =
       lt-ltb _ _ (c .if4 .taken),
       c .before .before .before .num3 .ensures,
       c .before .before .before .before .index .ensures,
-      c .before .before .before .before .before .pick .ensures,
+      c .before .before .before .before .before .reason .ensures,
       c .before .before .before .before .before .before .num2 .ensures,
       c .before .before .before .before .before .before .before .before .num .ensures,
       c .before .before .before .before .before .before .before .before .before .named .ensures,
@@ -95,7 +95,7 @@ returns-5 c =
       eq-eqb _ _ (c .if5 .taken),
       c .before .before .before .before .num3 .ensures,
       c .before .before .before .before .before .index .ensures,
-      c .before .before .before .before .before .before .pick .ensures,
+      c .before .before .before .before .before .before .reason .ensures,
       c .before .before .before .before .before .before .before .num2 .ensures,
       c .before .before .before .before .before .before .before .before .before .num .ensures,
       c .before .before .before .before .before .before .before .before .before .before .named .ensures,
@@ -112,7 +112,7 @@ returns-6 c =
       ne-eqb _ _ (c .if5 .left),
       c .before .before .before .before .num3 .ensures,
       c .before .before .before .before .before .index .ensures,
-      c .before .before .before .before .before .before .pick .ensures,
+      c .before .before .before .before .before .before .reason .ensures,
       c .before .before .before .before .before .before .before .num2 .ensures,
       c .before .before .before .before .before .before .before .before .before .num .ensures,
       c .before .before .before .before .before .before .before .before .before .before .named .ensures,
@@ -128,7 +128,7 @@ refusal-spec =
     returns
     cast-num-2
     num-requires-2
-    pick-requires
+    reason-requires
     index-requires
     num-requires-3
     returns-2

@@ -1,5 +1,6 @@
 -- `refusal`: in each arm the refusal is the table's place; the last arm is outside the table. Assumes nothing.
 use borrow.Author.Needs.{needs}
+use borrow.Author.Tests.{ne-eqb}
 use Rattle.frames.specs.ForProofs.{refusals}
 use Rattle.ir.proofs.Tables.{past-from}
 use Rattle.frames_answers.proofs.read.refusal.Statement.{statement}
@@ -24,4 +25,7 @@ refusal-spec =
     (λ c. rw (c .match .keys11))
     (λ c. rw (c .match .keys12))
     (λ c. rw (c .match .keys13, c .before .before .before .named .ensures))
-    (λ c. past-from 10 (refusals (c .before .before .before .before .args .f)) _ _ (c .match .rest)))
+    (λ c. rw (c .match .keys14))
+    (λ c.
+    rw (ne-eqb _ _ (c .match .rest .1))
+    (past-from 10 (refusals (c .before .before .before .before .args .f)) _ _ (c .match .rest .0))))

@@ -1,11 +1,11 @@
 -- `gelmusko_row_type`: as `row_type`, where the out-slice has room; the number handed on gives what the number handed in asks for. Assumes nothing.
 use mathlib.Core.Path.{ap, _∙_}
-use Rattle.rule_rows.specs.declared.Pass.the-variants.{First}
+use Rattle.rule_rows.specs.declared.Pass.{Pass}
 use Rattle.gelmusko.proofs.Laws.{is-small, has-room, not-put, row-clamped, answers-clamped}
 use Rattle.frames.specs.Bytes.{putFrame}
 use lib.ListN.{length}
 use Rattle.frames.specs.Out.{oneFrame}
-use Rattle.file_read.specs.Typing.{rowSaid}
+use Rattle.file_read.specs.Typing.{rowType, rowSaid, answersAfterRow}
 use Rattle.file_exports.specs.Exported.{oneNumber}
 use borrow.Author.Needs.{needs}
 use Rattle.gelmusko.proofs.rows.gelmusko_row_type.Statement.{statement}
@@ -25,37 +25,26 @@ returns c = (
 
 returns-2 : tie.Need-returns-2
 returns-2 c =
-    let g =
-    c .before .before .before .before .before .before .before .before .before .before .before .before .before .before .before .before
-    .before .args in
+    let g = c .before .before .before .before .before .before .before .before .before .before .before .before .before .before .before .before .before .before .args in
+    let room = c .before .before .before .before .before .before .before .before .before .before .before .before .before .if1 .left in
+    let by = c .before .before .before .before .before .before .before .before .before .before .before .before .pass-of in
+    let n = c .before .before .before .before .before .before .before .before .before .clamped in
     let p = c .before .before .put-row .ensures in
-    let e = c .before .before .before .before .before .before .before .before .row-type .ensures in (
-      p .0
-          ∙ ap oneNumber
-          (e .1 .0
-          ∙ ap rowSaid (row-clamped First (g .limit) (g .text .now) (length (g .frames .now)) (length (g .answers .now)) (g .row)
-          (c .before .before .before .before .before .before .before .before .before .clamped .result)
-          (c .before .before .before .before .before .before .before .before .before .clamped .ensures)))
-          ∙ has-room (g .out .now) _ _
-          (c .before .before .before .before .before .before .before .before .before .before .before .before .if1 .left),
+    let e = c .before .before .before .before .before .before .before .before .row-type .ensures in
+    let said =
+    e .1 .0
+    ∙ ap rowSaid
+    (row-clamped (by .result) (g .limit) (g .text .now) (length (g .frames .now)) (length (g .answers .now)) (g .row) (n .result) (n .ensures)
+    ∙ ap (λ (pass : Pass). rowType pass (g .limit) (g .text .now) (length (g .frames .now)) (length (g .answers .now)) (record { 0 = g .row })) (by .ensures)) in (
+      p .0 ∙ ap oneNumber said ∙ has-room (g .out .now) _ _ room,
       (
-        e .1 .1 .0
-            ∙ has-room (g .out .now) _ _
-            (c .before .before .before .before .before .before .before .before .before .before .before .before .if1 .left),
+        e .1 .1 .0 ∙ has-room (g .out .now) _ _ room,
         (
           e .1 .1 .1
-              ∙ answers-clamped First (g .limit) (g .text .now) (length (g .frames .now)) (g .answers .now) (g .row)
-              (c .before .before .before .before .before .before .before .before .before .clamped .result)
-              (c .before .before .before .before .before .before .before .before .before .clamped .ensures)
-              ∙ has-room (g .out .now) _ _
-              (c .before .before .before .before .before .before .before .before .before .before .before .before .if1 .left),
-          p .1
-              ∙ ap (putFrame (g .out .now) 0)
-              (ap oneFrame
-              (e .1 .0
-              ∙ ap rowSaid (row-clamped First (g .limit) (g .text .now) (length (g .frames .now)) (length (g .answers .now)) (g .row)
-              (c .before .before .before .before .before .before .before .before .before .clamped .result)
-              (c .before .before .before .before .before .before .before .before .before .clamped .ensures)))),
+              ∙ answers-clamped (by .result) (g .limit) (g .text .now) (length (g .frames .now)) (g .answers .now) (g .row) (n .result) (n .ensures)
+              ∙ ap (λ (pass : Pass). answersAfterRow pass (g .limit) (g .text .now) (length (g .frames .now)) (g .answers .now) (record { 0 = g .row })) (by .ensures)
+              ∙ has-room (g .out .now) _ _ room,
+          p .1 ∙ ap (putFrame (g .out .now) 0) (ap oneFrame said),
         ),
       ),
     )
@@ -66,6 +55,7 @@ gelmusko-row-type-spec =
     (tie.spec
     (λ c κs. tt)
     returns
+    (λ c κs. tt)
     (λ c κs. tt)
     (λ c κs. tt)
     (λ c κs. tt)

@@ -1,6 +1,8 @@
 -- `look_right`: both are seen, or the row ends with what ended the look into the right. Assumes nothing.
 use mathlib.Core.Path.{sym, _∙_}
-use Rattle.row_multiply.proofs.Seen.{both-seen, right-unseen, left-unseen}
+use Rattle.rule_rows.specs.Operators.{product}
+use Rattle.row_operands.proofs.TwoOperands.{right-unseen}
+use Rattle.row_multiply.proofs.Seen.{times-seen}
 use Rattle.row_multiply.proofs.reads.look_right.Statement.{statement}
 use Rattle.row_multiply.proofs.reads.look_right.Tie as tie
 
@@ -17,13 +19,13 @@ look-right-spec =
     (λ c.
     let g = c .before .before .before .before .before .before .before .before .before .args in
     c .times .ensures
-    ∙ both-seen (g .frames .now) (g .s) (g .here) (g .answers .now) (g .places .now) (g .left) (g .right)
+    ∙ times-seen (g .frames .now) (g .s) (g .here) (g .answers .now) (g .places .now) (g .left) (g .right)
     (c .before .before .before .before .before .before .before .before .before .pre)
     (sym (c .before .before .before .before .before .look-into .ensures) ∙ c .before .before .before .y .given .1)
     (c .before .product .result) (c .before .product .ensures))
     (λ c.
     let g = c .before .before .before .before .before .before .before .before .args in
     c .ended .ensures
-    ∙ right-unseen (g .frames .now) (g .s) (g .here) (g .answers .now) (g .places .now) (g .left) (g .right)
+    ∙ right-unseen product (g .frames .now) (g .s) (g .here) (g .answers .now) (g .places .now) (g .left) (g .right)
     (c .before .before .before .before .before .before .before .before .pre)
     (sym (c .before .before .before .before .look-into .ensures) ∙ c .before .before .end .given .1)))

@@ -1,6 +1,7 @@
 -- `multiply`: the left is seen, or shows no form. Assumes nothing.
 use mathlib.Core.Path.{sym, _∙_}
-use Rattle.row_multiply.proofs.Seen.{both-seen, right-unseen, left-unseen}
+use Rattle.rule_rows.specs.Operators.{product}
+use Rattle.row_operands.proofs.TwoOperands.{left-unseen}
 use Rattle.row_multiply.proofs.reads.multiply.Statement.{statement}
 use Rattle.row_multiply.proofs.reads.multiply.Tie as tie
 
@@ -17,5 +18,5 @@ multiply-spec =
     (λ c.
     let g = c .before .before .before .before .before .before .before .args in
     c .left-end .ensures
-    ∙ left-unseen (g .frames .now) (g .s) (g .here) (g .answers .now) (g .places .now) (g .left) (g .right)
+    ∙ left-unseen product (g .frames .now) (g .s) (g .here) (g .answers .now) (g .places .now) (g .left) (g .right)
     (sym (c .before .before .before .look-into .ensures) ∙ c .before .enum-told .given .1)))

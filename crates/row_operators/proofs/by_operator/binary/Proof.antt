@@ -5,7 +5,7 @@ use Rattle.rule_rows.specs.Operators.{binary}
 use Rattle.rule_rows.specs.Answered.{toResult}
 use Rattle.row_operands.specs.Past.{ruled}
 use Rattle.row_operands.proofs.Steps.{same-run}
-use Rattle.row_operators.proofs.Operators.{of-binary-operators}
+use Rattle.row_operands.proofs.Operators.{of-binary-operators}
 use Rattle.row_operators.proofs.by_operator.binary.Statement.{statement}
 use Rattle.row_operators.proofs.by_operator.binary.Tie as tie
 

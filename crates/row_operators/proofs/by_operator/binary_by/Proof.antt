@@ -11,4 +11,4 @@ binary-by-spec =
     (λ c. c .match .keys2)
     (λ c κs. tt)
     (λ c. rw (c .before .enum-told .given .1, c .binary .ensures))
-    (λ c. rw (c .before .enum-told2 .given .1, c .binary2 .ensures)))
+    (λ c. rw (c .before .enum-told2 .given .1, c .wgsl-binary .ensures)))

@@ -1,0 +1,4 @@
+pub mod Worked
+pub mod Alike
+pub mod Judged
+pub mod Apart

@@ -1,0 +1,28 @@
+-- `replay_wgsl::number` is safe and ends: five digits are read from within the line, and the number stays small. Assumes nothing.
+use Prim.Native.Nat.{_-_, _≤_}
+use borrow.Author.Needs.{needs}
+use Rattle.replay_wgsl.proofs.number.Statement.{statement}
+use Rattle.replay_wgsl.proofs.number.Tie as tie
+
+abbrev Inv-loop : tie.InvT-loop
+Inv-loop line at n₀ i₀ n i = i ≤ 5
+
+abbrev μ-loop : tie.MeasureT-loop
+μ-loop line at n₀ i₀ n i = 5 - i
+
+pub number-spec : {M : Type 1} → statement M
+number-spec =
+    tie.close
+    (tie.spec
+    Inv-loop
+    μ-loop
+    (λ c. search needs)
+    (λ c. search needs)
+    (λ c. search needs)
+    (λ c. search needs)
+    (λ c. search needs)
+    (λ c. search needs)
+    (λ c. search needs)
+    (λ c. search needs)
+    (λ c. search needs)
+    (λ c. search needs))

@@ -1,0 +1,59 @@
+// Binary in the second pass: looks into the left operand's type, then the right's, and ends by their shapes; where
+// one shows no form, by the answers in the order that they are read.
+use super::by_operator::shapes_result;
+use super::tests::shape_of;
+use answers::Answer;
+use archive::Starts;
+use ir::BinaryOperator;
+use ir::RowNumber;
+use ir::TypeInner;
+use row_operands::Looked;
+use row_operands::both::left_end;
+use row_operands::past::ended;
+use row_operands::past::look_into;
+ghost use mathlib.Core.Path.{_≡_};
+ghost use Rattle.rule_rows.specs.Operators.{wgslBinary};
+ghost use Rattle.rule_rows.specs.Answered.{toResult};
+ghost use Rattle.row_operands.specs.declared.Looked.the-variants.{Seen};
+ghost use Rattle.row_operands.specs.Past.{ruled, lookedIn};
+
+// The left form is known: looks into the right.
+fn look_right(
+    frames: &[u8],
+    s: Starts,
+    answers: &[u8],
+    places: &[u16],
+    here: RowNumber,
+    op: BinaryOperator,
+    left: RowNumber,
+    right: RowNumber,
+    x: TypeInner,
+) -> Answer
+    requires { ⌜ lookedIn (now frames) s (now answers) (now places) here left ≡ Seen x ⌝ }
+    ensures { λ r. ⌜ toResult r
+        ≡ ruled (now (frames .entry)) s (now (answers .entry)) (now (places .entry)) (wgslBinary here op left right) ⌝ }
+{
+    match look_into(frames, s, answers, places, here, right) {
+        Looked::Seen(y) => shapes_result(op, shape_of(x), shape_of(y)),
+        Looked::Ended(end) => ended(end),
+    }
+}
+
+pub fn wgsl_binary(
+    frames: &[u8],
+    s: Starts,
+    answers: &[u8],
+    places: &[u16],
+    here: RowNumber,
+    op: BinaryOperator,
+    left: RowNumber,
+    right: RowNumber,
+) -> Answer
+    ensures { λ r. ⌜ toResult r
+        ≡ ruled (now (frames .entry)) s (now (answers .entry)) (now (places .entry)) (wgslBinary here op left right) ⌝ }
+{
+    match look_into(frames, s, answers, places, here, left) {
+        Looked::Seen(x) => look_right(frames, s, answers, places, here, op, left, right, x),
+        Looked::Ended(_) => left_end(answers, places, here, left, right),
+    }
+}
