@@ -25,12 +25,12 @@ use Rattle.archive.specs.Names.{isType, isRow}
 use Rattle.rule.specs.declared.Fault.{Fault}
 use Rattle.rule.specs.declared.Fault.the-variants as Fa
 use Rattle.rule.specs.Answers.{TypeAnswer, number, Typed, given, refused, chosenRefusal, Place, row, component, composed, nowhere, chosen, Judgement, count, Compared, Result, told, newer}
-use Rattle.rule.specs.Things.{compose, Form, Thing, Seen, kind, form, texels, structNumber, fault, inRange, faultOf, see}
+use Rattle.rule.specs.Things.{compose, Form, Thing, Seen, kind, form, texels, structNumber, fault, inRange, see}
 use Rattle.rule.specs.Rule.{Rule, done, come, past, Answers, run, Step, step, Readings, placed, follow}
 use Rattle.rule.specs.Claim.{answers, amongReadings, readings, ours, reading}
 use Rattle.rule.proofs.InOrder.{at-within}
 use Rattle.rule_types.specs.Canonical.{canonical, equalTypes, identical}
-use Rattle.rule_types.specs.Comparison.{inForm, byStruct, byIdentical, compare, answered, tested, rightTested, handed}
+use Rattle.rule_types.specs.Comparison.{inForm, byStruct, byIdentical, compare, answered, Sound, tested, rightTested, handed}
 use Rattle.rule_rows.specs.declared.Pass.{Pass}
 use Rattle.rule_rows.specs.declared.Pass.the-variants as Pa
 use Rattle.rule_rows.specs.Typed.{typing}
@@ -49,7 +49,7 @@ use Rattle.law_verdicts.proofs.Composes.{Composes, composes, rule-is}
 
 -- a type that a comparison gives neither 5 nor 6: a number of a type of the file, or such a value, and no malformed frame
 abbrev pub IsSound : List ℕ → TypeAnswer → Type 0
-IsSound fr a = faultOf (startsOf fr) a ≡ Fa.Sound
+IsSound fr a = Sound (startsOf fr) a
 
 -- a place in the verdict on a compose of m components: the composed type, or one of the components
 abbrev pub PlaceInVerdict : ℕ → Place → Type 0

@@ -1,5 +1,6 @@
 pub mod Loads
 pub mod Members
+pub mod Parts
 pub mod Storage
 pub mod Written
 pub mod Wgsl

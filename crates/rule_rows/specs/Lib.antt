@@ -3,6 +3,7 @@ pub mod Steps
 pub mod WgslTables
 pub mod Wgsl
 pub mod Access
+pub mod Parts
 pub mod Variables
 pub mod Images
 pub mod Operators

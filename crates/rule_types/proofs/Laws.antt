@@ -29,7 +29,7 @@ use Rattle.rule.specs.Things.{form, faultOf, formIn, seeIn, isStructForm, isStr
 use Rattle.rule.specs.Rule.{Rule, come, Answers, run}
 use Rattle.rule.specs.Claim.{among}
 use Rattle.rule_types.specs.Canonical.{valuePointer, orOwn, canonical, formFound, throughBase, canonicalFormIn, equalTypes, identical}
-use Rattle.rule_types.specs.Comparison.{inForm, inForms, byStruct, byIdentical, compare, answered, handed, given}
+use Rattle.rule_types.specs.Comparison.{inForm, inForms, byStruct, byIdentical, compare, answered, Sound, handed, given}
 use Rattle.rule_types.specs.ForProofs.{orSelf, canonicalThrough, canonicalOf, byForms, byAnswers, likeness, Equal}
 use Rattle.rule_types.proofs.Equality.{equal-types, equal-sym, identical-frames, identical-self, identical-sym}
 use Rattle.rule_types.proofs.Seen.{never}
@@ -113,9 +113,6 @@ module _ (fr : List ℕ) (s : Starts) where
   abbrev compared : TypeAnswer → TypeAnswer → Result Compared
   compared a b = given fr s (handed a b)
 
-  abbrev Sound : TypeAnswer → Type 0
-  Sound a = faultOf s a ≡ Fa.Sound
-
   -- yes, no, or newer
   abbrev pub told-of : Option Bool → Result Compared
   told-of (some b) = told (cond b alike unlike)
@@ -128,11 +125,11 @@ module _ (fr : List ℕ) (s : Starts) where
 
   -- WHAT A COMPARISON GIVES
 
-  pub compared-is : (a b : TypeAnswer) → Sound a → Sound b → compared a b ≡ told-of (likeness fr s a b)
+  pub compared-is : (a b : TypeAnswer) → Sound s a → Sound s b → compared a b ≡ told-of (likeness fr s a b)
   compared-is a b p q = rw (p, q, given, run) (compare-run (among []) newer nowhere a b answered ∙ answer-told (likeness fr s a b))
 
   -- each equals itself, also where its kind is unknown
-  pub same-self : (a : TypeAnswer) → Sound a → compared a a ≡ told alike
+  pub same-self : (a : TypeAnswer) → Sound s a → compared a a ≡ told alike
   same-self a p =
       compared-is a a p p
       ∙ ap (λ (i : Bool). told-of (byAnswers i (isStruct fr s a || isStruct fr s a) (canonicalOf fr s a) (canonicalOf fr s a)))
@@ -164,7 +161,7 @@ module _ (fr : List ℕ) (s : Starts) where
       ∙ ap (λ (q : Bool). byAnswers (identical b a) q u v) (or-sym (isStruct fr s a) (isStruct fr s b))
       ∙ answers-sym (identical b a) (isStruct fr s b || isStruct fr s a) u v
 
-  pub either-order : (a b : TypeAnswer) → Sound a → Sound b → compared a b ≡ compared b a
+  pub either-order : (a b : TypeAnswer) → Sound s a → Sound s b → compared a b ≡ compared b a
   either-order a b p q = compared-is a b p q ∙ ap told-of (likeness-sym a b) ∙ sym (compared-is b a q p)
 
   -- YES, exactly when the frames are identical, or neither is a struct's number and the canonical forms are equal as data
@@ -189,7 +186,7 @@ module _ (fr : List ℕ) (s : Starts) where
   when-equal a b true h = refl
   when-equal a b false h = rw (h .unnamed, h .left, h .right, equal-types (h .shape) (h .shape) .1 refl)
 
-  pub alike-when : (a b : TypeAnswer) → Sound a → Sound b
+  pub alike-when : (a b : TypeAnswer) → Sound s a → Sound s b
       → (compared a b ≡ told alike) ↔ ((typeAnswerFrame a ≡ typeAnswerFrame b) ⊎ Equal fr s a b)
   alike-when a b p q = (
     λ e.
@@ -210,7 +207,7 @@ module _ (fr : List ℕ) (s : Starts) where
   number-same : (n m : TypeNumber) → numberFrame n ≡ numberFrame m → n .0 ≡ m .0
   number-same n m e = sym (half-back (n .0)) ∙ ap (λ (f : Frame). half f 2) e ∙ half-back (m .0)
 
-  pub structs-differ : (n m : TypeNumber) → Sound (number n) → Sound (number m) → isStruct fr s (number n) ≡ true → (n .0 ≡ m .0 → ⊥)
+  pub structs-differ : (n m : TypeNumber) → Sound s (number n) → Sound s (number m) → isStruct fr s (number n) ≡ true → (n .0 ≡ m .0 → ⊥)
       → compared (number n) (number m) ≡ told unlike
   structs-differ n m p q h d = compared-is (number n) (number m) p q ∙ go (identical (number n) (number m)) refl
     where
@@ -230,7 +227,7 @@ module _ (fr : List ℕ) (s : Starts) where
   pointer-unnamed b q (value t) e = refl
   pointer-unnamed b q (malformed f) e = refl
 
-  pub pointer-to : (b : TypeNumber) (q : AddressSpace) (z : OptionVectorSize) (k : Scalar) (a : TypeAnswer) (c : TypeInner) → Sound a
+  pub pointer-to : (b : TypeNumber) (q : AddressSpace) (z : OptionVectorSize) (k : Scalar) (a : TypeAnswer) (c : TypeInner) → Sound s a
       → formIn fr s a ≡ Tf.Known (Ti.Pointer b q) → typeIn fr s b ≡ Tf.Known c → valuePointer q c ≡ some (Ti.ValuePointer z k q)
       → compared a (value (Ti.ValuePointer z k q)) ≡ told alike
   pointer-to b q z k a c p e g h =
@@ -243,12 +240,12 @@ module _ (fr : List ℕ) (s : Starts) where
         right = refl;
       }))
 
-  pub pointer-to-scalar : (b : TypeNumber) (q : AddressSpace) (k : Scalar) (a : TypeAnswer) → Sound a
+  pub pointer-to-scalar : (b : TypeNumber) (q : AddressSpace) (k : Scalar) (a : TypeAnswer) → Sound s a
       → formIn fr s a ≡ Tf.Known (Ti.Pointer b q)
       → typeIn fr s b ≡ Tf.Known (Ti.Scalar k) → compared a (value (Ti.ValuePointer Ov.None k q)) ≡ told alike
   pointer-to-scalar b q k a p e g = pointer-to b q Ov.None k a (Ti.Scalar k) p e g refl
 
-  pub pointer-to-vector : (b : TypeNumber) (q : AddressSpace) (z : VectorSize) (k : Scalar) (a : TypeAnswer) → Sound a
+  pub pointer-to-vector : (b : TypeNumber) (q : AddressSpace) (z : VectorSize) (k : Scalar) (a : TypeAnswer) → Sound s a
       → formIn fr s a ≡ Tf.Known (Ti.Pointer b q)
       → typeIn fr s b ≡ Tf.Known (Ti.Vector z k) → compared a (value (Ti.ValuePointer (Ov.Some z) k q)) ≡ told alike
   pointer-to-vector b q z k a p e g = pointer-to b q (Ov.Some z) k a (Ti.Vector z k) p e g refl
@@ -261,8 +258,8 @@ module _ (fr : List ℕ) (s : Starts) where
   pub left-six : (a b : TypeAnswer) → faultOf s a ≡ Fa.Index → compared a b ≡ told index
   left-six a b p = rw (p, given, run)
 
-  pub right-five : (a b : TypeAnswer) → Sound a → faultOf s b ≡ Fa.Field → compared a b ≡ told field
+  pub right-five : (a b : TypeAnswer) → Sound s a → faultOf s b ≡ Fa.Field → compared a b ≡ told field
   right-five a b p q = rw (p, q, given, run)
 
-  pub right-six : (a b : TypeAnswer) → Sound a → faultOf s b ≡ Fa.Index → compared a b ≡ told index
+  pub right-six : (a b : TypeAnswer) → Sound s a → faultOf s b ≡ Fa.Index → compared a b ≡ told index
   right-six a b p q = rw (p, q, given, run)

@@ -1,5 +1,6 @@
 pub mod Equality
 pub mod Laws
+pub mod Equivalence
 pub mod Handed
 pub mod Looks
 pub mod Seen

@@ -20,7 +20,7 @@ use Rattle.rule.specs.Rule.{Rule, come, Step, step, Readings, Reading, follow}
 use Rattle.rule_types.specs.Canonical.{canonical, equalTypes, identical}
 use Rattle.rule_types.specs.Comparison.{inForm, inForms, byStruct, byIdentical, answered, handed}
 use Rattle.rule_types.specs.Looks.{Shape, struct, unknown, other, pointer, pointerToUnknown, pointerShape, innerShape, formShape, shapeOf, looks, looked, comparisonReading}
-use Rattle.rule_types.proofs.Seen.{never}
+use Rattle.rule_types.proofs.Seen.{never, neither}
 
 -- the base that a shape has, looked into
 abbrev bases : Shape → List TypeAnswer
@@ -198,10 +198,6 @@ module _ (fr : List ℕ) (rd : Readings) where
   struct-shape (number n) p = form-struct (typeAt fr n)
   struct-shape (value t) p = sym (value-struct t _ p refl)
   struct-shape (malformed f) p = refl
-
-  neither : (x y : Bool) → (x || y) ≡ false → (x ≡ false) × (y ≡ false)
-  neither true y e = never (cc)
-  neither false y e = (refl, e)
 
   -- of two sound answers
   module _ (a b : TypeAnswer) (p : faultOf (startsOf fr) a ≡ Fa.Sound) (q : faultOf (startsOf fr) b ≡ Fa.Sound) where

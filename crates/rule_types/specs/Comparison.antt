@@ -1,4 +1,5 @@
 -- The comparison of two types: the source's compare_types (document 01, "Same type or not"; "Numbers handed back", last paragraph).
+use mathlib.Core.Path.{_≡_}
 use mathlib.Core.Bool.{Bool, true, false, _||_}
 use Prim.Native.Nat.{ℕ}
 use mathlib.Core.List.{List, []}
@@ -11,7 +12,7 @@ use Rattle.archive.specs.Starts.{startsOf}
 use Rattle.rule.specs.declared.Fault.{Fault}
 use Rattle.rule.specs.declared.Fault.the-variants as Fa
 use Rattle.rule.specs.Answers.{TypeAnswer, number, value, malformed, typeAnswerOf, Place, nowhere, Result, told, newer, Compared, alike, unlike, field, index}
-use Rattle.rule.specs.Things.{form, structNumber, fault, seeIn}
+use Rattle.rule.specs.Things.{form, structNumber, fault, faultOf, seeIn}
 use Rattle.rule.specs.Rule.{Rule, done, come, run}
 use Rattle.rule.specs.Claim.{among}
 use Rattle.rule_types.specs.Canonical.{ifPointer, canonical, equalTypes, identical}
@@ -41,6 +42,10 @@ compare p a b rest = byIdentical p a b rest (identical a b)
 abbrev pub answered : Bool → Rule Compared
 answered true = done alike
 answered false = done unlike
+
+-- an answer that a comparison meets with neither 5 nor 6
+abbrev pub Sound : Starts → TypeAnswer → Type 0
+Sound s a = faultOf s a ≡ Fa.Sound
 
 -- an answer handed in gets its 5 or 6 before any look
 abbrev pub tested : Rule Compared → Fault → Rule Compared
