@@ -35,8 +35,10 @@
  *   b0 = 9    a type by value, laid as a type of the file
  *   b0 = 10   a number in b1, its place in b2-3; number 0 where the file is accepted and nothing else is to be said.
  *             For a row's answer 10 to 20, 22, or in the second pass 41, with an index in b4-7 and a flag in b8
+ *             For a type's size 42 to 44, with the lowest faulty type as its place
  *   b0 = 11   a verdict: 0, 22 or 30 to 33 in b1, its compose row in b2-3, expected or component in b4-7, given in
  *             b8-11
+ *   b0 = 12   alignment and size in bytes: 2, 4, 8 or 16 in b4, the size in b8-11
  *
  * Numbers of several bytes have their low byte first. An `out` of fewer than 16 bytes is a lent buffer too short: the
  * call returns 1 or 2 if that is the text's, and else 3, and changes nothing at all.
@@ -82,6 +84,10 @@ extern "C" {
 #define GELMUSKO_NEWER 22u      /* something that this reader does not know; place 0. Only of a comparison, a canonical
                                    form or a base */
 #define GELMUSKO_RANGE 40u      /* a density over 10,000. Only of gelmusko_texel */
+#define GELMUSKO_UNMEASURED 42u /* a type outside the list of types that have a size; place: that type. Only of
+                                   gelmusko_type_size, as 43 and 44 */
+#define GELMUSKO_MISPLACED 43u  /* a stride, an offset or a span breaks the rules; place: that type */
+#define GELMUSKO_HUGE 44u       /* a size of 2 to the 32 or more; place: that type */
 #define GELMUSKO_DIFFERENT 256u /* a comparison: not the same type. out: b0 = 10, number 0 */
 #define GELMUSKO_NO_POINTER 257u /* a base: the type is no pointer. out: b0 = 10, number 0 */
 
@@ -132,6 +138,12 @@ uint32_t gelmusko_canonical_form(const uint8_t *text, size_t text_len, uint32_t 
 uint32_t gelmusko_pointer_base(const uint8_t *text, size_t text_len, uint32_t limit,
                                uint8_t *frames, size_t frames_len,
                                uint32_t n, uint8_t *out, size_t out_len);
+
+/* Alignment and size in bytes of type n, by WGSL's memory layout (b0 = 12). Returns 0 to 6, or 42, 43 or 44 with the
+ * lowest faulty type, of those that the size rests on, as its place. */
+uint32_t gelmusko_type_size(const uint8_t *text, size_t text_len, uint32_t limit,
+                            uint8_t *frames, size_t frames_len,
+                            uint32_t n, uint8_t *out, size_t out_len);
 
 /* The R16Unorm texel of a density in hundredths of a per cent, 0 to 10,000: density times 65,535 divided by 10,000,
  * rounded to the nearest whole number, a half to the even one. Returns 0, and the first two bytes of out are the

@@ -29,6 +29,7 @@ int main(void)
     expect("same_type", gelmusko_same_type(NULL, 0, 0, NULL, 0, NULL, 0, NULL, 0, out, 16), GELMUSKO_FIELD);
     expect("canonical_form", gelmusko_canonical_form(NULL, 0, 0, NULL, 0, 0, out, 16), GELMUSKO_INDEX);
     expect("pointer_base", gelmusko_pointer_base(NULL, 0, 0, NULL, 0, 0, out, 16), GELMUSKO_INDEX);
+    expect("type_size", gelmusko_type_size(NULL, 0, 0, NULL, 0, 0, out, 16), GELMUSKO_INDEX);
     expect("frame of number 6", out[0] * 256u + out[1], 10 * 256 + 6);
 
     /* no out, or one that is too short */
@@ -54,6 +55,8 @@ int main(void)
     expect("its own canonical form", gelmusko_canonical_form(text, 33, 0, frames, 16, 0, out, 16), GELMUSKO_GIVEN);
     expect("frame of type 0", memcmp(out, number, 16) != 0, 0);
     expect("no pointer", gelmusko_pointer_base(text, 33, 0, frames, 16, 0, out, 16), GELMUSKO_NO_POINTER);
+    expect("f32 fills 4 bytes", gelmusko_type_size(text, 33, 0, frames, 16, 0, out, 16), GELMUSKO_GIVEN);
+    expect("its frame", out[0] * 65536u + out[4] * 256u + out[8], 12 * 65536 + 4 * 256 + 4);
     expect("65,536 is no type", gelmusko_pointer_base(text, 33, 0, frames, 16, 65536, out, 16), GELMUSKO_INDEX);
 
     /* a texel has two bytes, low byte first */

@@ -98,6 +98,23 @@ fn compare_pairs(file: &File, pairs: &str) -> Result<String, Fault> {
     Ok(lines)
 }
 
+/// The source's size of each type, `none` where it has none, `newer` for a type of unknown kind.
+fn sizes(file: &File) -> Result<String, Fault> {
+    let read = module::read(file)?;
+    let mut lines = String::new();
+    for (at, frame) in file.types.iter().enumerate() {
+        let known = (1..=14).contains(&frame[1]);
+        let size = known.then(|| read.module.types[module::handle(at)].inner.try_size(read.module.to_ctx()));
+        lines.push_str(&match size {
+            None => String::from("newer"),
+            Some(None) => String::from("none"),
+            Some(Some(size)) => format!("{size}"),
+        });
+        lines.push('\n');
+    }
+    Ok(lines)
+}
+
 fn run(args: &[String]) -> Result<String, Fault> {
     let mut text = Vec::new();
     let input = std::io::stdin().read_to_end(&mut text);
@@ -111,8 +128,9 @@ fn run(args: &[String]) -> Result<String, Fault> {
             let pairs = pairs.map_err(|error| Fault::bad(format!("{path}: {error}")))?;
             compare_pairs(&File::read(&text)?, &pairs)
         }
+        ["sizes"] => sizes(&File::read(&text)?),
         _ => Err(Fault::bad(String::from(
-            "use: oracle < FILE | oracle compare LEFT RIGHT < FILE | oracle compare-many PAIRS < FILE",
+            "use: oracle < FILE | oracle sizes < FILE | oracle compare LEFT RIGHT < FILE | oracle compare-many PAIRS < FILE",
         ))),
     }
 }

@@ -80,5 +80,15 @@ extern "C" {
         out: *mut u8,
         out_len: usize,
     ) -> u32;
+    pub fn gelmusko_type_size(
+        text: *const u8,
+        text_len: usize,
+        limit: u32,
+        frames: *mut u8,
+        frames_len: usize,
+        n: u32,
+        out: *mut u8,
+        out_len: usize,
+    ) -> u32;
     pub fn gelmusko_texel(density: u32, out: *mut u8, out_len: usize) -> u32;
 }

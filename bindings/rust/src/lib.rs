@@ -217,6 +217,29 @@ pub enum PointerBase {
     Refused(Outcome),
 }
 
+/// What asking for the bytes that a type fills gives. `Refused` has the file's number, or 6; 42 to 44 name the lowest faulty type that the size rests on.
+#[derive(Clone, Copy, Debug, PartialEq, Eq)]
+pub enum TypeSize {
+    /// The alignment, 2, 4, 8 or 16, and the size, both in bytes.
+    Fills {
+        align: u8,
+        size: u32,
+    },
+    /// 42: a type outside the list.
+    Unmeasured {
+        ty: u16,
+    },
+    /// 43: a stride, an offset or a span breaks the rules.
+    Misplaced {
+        ty: u16,
+    },
+    /// 44: count times stride is 2 to the 32 or more.
+    Huge {
+        ty: u16,
+    },
+    Refused(Outcome),
+}
+
 /// What asking for the texel of a density gives.
 #[derive(Clone, Copy, Debug, PartialEq, Eq)]
 pub enum Texel {
@@ -541,6 +564,33 @@ impl Limit {
             _ => PointerBase::Refused(Outcome::of(out)),
         }
     }
+
+    /// Alignment and size in bytes of type n, by WGSL's memory layout.
+    pub fn type_size(self, text: &[u8], frames: &mut [u8], n: u32) -> TypeSize {
+        let mut out = Frame::default();
+        let number = unsafe {
+            ffi::gelmusko_type_size(
+                text.as_ptr(),
+                text.len(),
+                self.0,
+                frames.as_mut_ptr(),
+                frames.len(),
+                n,
+                out.0.as_mut_ptr(),
+                16,
+            )
+        };
+        match number {
+            0 => TypeSize::Fills {
+                align: out.0[4],
+                size: u32::from_le_bytes([out.0[8], out.0[9], out.0[10], out.0[11]]),
+            },
+            42 => TypeSize::Unmeasured { ty: out.place() },
+            43 => TypeSize::Misplaced { ty: out.place() },
+            44 => TypeSize::Huge { ty: out.place() },
+            _ => TypeSize::Refused(Outcome::of(out)),
+        }
+    }
 }
 
 /// [`Limit::read_file`] within 1,024 frames.
@@ -588,6 +638,11 @@ pub fn canonical_form(text: &[u8], frames: &mut [u8], n: u32) -> CanonicalForm {
 /// [`Limit::pointer_base`] within 1,024 frames.
 pub fn pointer_base(text: &[u8], frames: &mut [u8], n: u32) -> PointerBase {
     Limit::default().pointer_base(text, frames, n)
+}
+
+/// [`Limit::type_size`] within 1,024 frames.
+pub fn type_size(text: &[u8], frames: &mut [u8], n: u32) -> TypeSize {
+    Limit::default().type_size(text, frames, n)
 }
 
 /// The R16Unorm texel of a density in hundredths of a per cent, 0 to 10,000: the nearest to as large a part of 65,535, of two that are equally near the even one.

@@ -172,6 +172,7 @@ fn with_out(
         call(&|o| unsafe { ffi::gelmusko_same_type(t, n, 0, f, m, l, z, l, z, o, out_bytes) }),
         call(&|o| unsafe { ffi::gelmusko_canonical_form(t, n, 0, f, m, 0, o, out_bytes) }),
         call(&|o| unsafe { ffi::gelmusko_pointer_base(t, n, 0, f, m, 0, o, out_bytes) }),
+        call(&|o| unsafe { ffi::gelmusko_type_size(t, n, 0, f, m, 0, o, out_bytes) }),
     ]
 }
 

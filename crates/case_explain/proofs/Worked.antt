@@ -32,15 +32,19 @@ use Rattle.explain_words.specs.ForProofs.{lines}
 use Rattle.explain_lines.specs.Types.{picked, named, scalarWords, around, vector, brief, within, pointer, array, cooperative, className, arrayedName, image, whole}
 use Rattle.explain_lines.specs.Answers.{manner, reason, refusal, judged, said, shown, ending, lineOf, faultWords}
 use Rattle.explain_file.specs.Explained.{joined, nextRow, rowAt, linesOf, explained}
-use Rattle.case_explain.specs.Table.{Room, over, below, Case, table}
+use Rattle.rule_sizes.specs.Sizes as Sz
+use Rattle.rule_sizes.specs.Sizes.{arrayOf, partsOf, spanned, structOf, measures, measureIn, sizeFrames}
+use Rattle.explain_lines.specs.Sizes.{sizeWords, sizeLineOf}
+use Rattle.explain_file.specs.Sized.{sizesOf, sized}
+use Rattle.case_explain.specs.Table.{Room, over, below, Case, table, SizeCase, sizes}
 
 -- the output buffer, of bytes 7
-abbrev sized : ℕ → Room → ℕ
-sized n (over k) = n + k
-sized n (below k) = n - k
+abbrev sizedBy : ℕ → Room → ℕ
+sizedBy n (over k) = n + k
+sizedBy n (below k) = n - k
 
 abbrev lent : Case → List ℕ
-lent c = replicate (sized (length (lines (c .lines))) (c .room)) 7
+lent c = replicate (sizedBy (length (lines (c .lines))) (c .room)) 7
 
 -- what is given, and what is left of the buffer
 abbrev given : Case → Printed × List ℕ
@@ -56,3 +60,21 @@ wanted c = left (lines (c .lines)) (c .room)
 worked : map given table ≡ map wanted table
 unfolding lowest allBelow build sumBelow digitValue lineOk byteOf answerFrames tooShort mostFrames readText frameAt typeOf itemOf rowOf memberOf componentOf fieldsFit orderOk start startsOf namesOk earlyOk indexOk checkFrames readFile printed printedAfter listed typeIn equalTypes identical sameIn sameType canonicalTypeIn pointerBaseIn rowIn eachPart vectorParts outputs framesBytes digitOf charOf wordBytes W.table digits pieceBytes spelled picked named scalarWords around vector brief within pointer array cooperative className arrayedName image whole manner reason refusal judged said shown ending lineOf faultWords joined nextRow rowAt linesOf
 worked = refl
+
+-- THE SIZES of a file's types: the same of `sizes_text`
+
+abbrev sizedText : SizeCase → List ℕ
+sizedText c = sized (c .limit) (lines (c .text))
+
+abbrev lentSizes : SizeCase → List ℕ
+lentSizes c = replicate (sizedBy (length (lines (c .lines))) (c .room)) 7
+
+abbrev givenSizes : SizeCase → Printed × List ℕ
+givenSizes c = (printed (sizedText c) (length (lentSizes c)), printedAfter (sizedText c) (lentSizes c))
+
+abbrev wantedSizes : SizeCase → Printed × List ℕ
+wantedSizes c = left (lines (c .lines)) (c .room)
+
+sizes-worked : map givenSizes sizes ≡ map wantedSizes sizes
+unfolding lowest allBelow build sumBelow digitValue lineOk byteOf answerFrames tooShort mostFrames readText frameAt typeOf itemOf rowOf memberOf componentOf fieldsFit orderOk start startsOf namesOk earlyOk indexOk checkFrames readFile printed printedAfter typeIn digitOf charOf wordBytes W.table digits pieceBytes spelled picked named scalarWords around vector brief within pointer array cooperative className arrayedName image whole faultWords joined sizeWords sizeLineOf sizesOf sizeFrames measures measureIn arrayOf Sz.joined partsOf spanned structOf
+sizes-worked = refl

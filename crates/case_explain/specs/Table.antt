@@ -88,3 +88,49 @@ table =
     ∷ record { text = noCount; limit = maxFrames; pass = First; lines = "line 2: number 5, field: a byte is outside its values" ∷ []; room = below 1 }
     ∷ record { text = "0101" ∷ []; limit = maxFrames; pass = First; lines = "line 1: number 2, torn: not 32 digits and a line feed" ∷ []; room = below 54 }
     ∷ []
+
+-- A TEXT and the lines of its types' sizes, within a limit of frames, and an output buffer's length
+pub record SizeCase : Type 0 where
+  pub text : List String
+  pub limit : ℕ
+  pub lines : List String
+  pub room : Room
+
+abbrev sized : List String → List String → SizeCase
+sized t l = record { text = t; limit = maxFrames; lines = l; room = over 0 }
+
+-- f32; vec3<f32>; arrays of it: four with a stride of 16, four with 12, and 2 to the 28 with 16; a struct of it and the
+-- first array; a sampler; a struct of the vec3 and the sampler
+abbrev measured : List String
+measured =
+    "01010000020400000000000000000000" ∷
+    "01020300020400000000000000000000" ∷
+    "01080100000000000400000010000000" ∷
+    "0108010000000000040000000c000000" ∷
+    "01080100000000000000001010000000" ∷
+    "01090000020000000000000050000000" ∷
+    "010b0000000000000000000000000000" ∷
+    "01090200020000000000000020000000" ∷
+    "02000100000000000000000000000000" ∷
+    "02000200000000000000000010000000" ∷
+    "02000100000000000000000000000000" ∷
+    "02000600000000000000000010000000" ∷ []
+
+abbrev pub sizes : List SizeCase
+sizes =
+    sized measured
+    ("type 0  f32  align 4, size 4" ∷
+    "type 1  vec3<f32>  align 16, size 12" ∷
+    "type 2  array<vec3<f32>, 4>  align 16, size 64" ∷
+    "type 3  array<vec3<f32>, 4>  refused 43 misplaced: type 3" ∷
+    "type 4  array<vec3<f32>, 268435456>  refused 44 huge: type 4" ∷
+    "type 5  struct  align 16, size 80" ∷
+    "type 6  sampler  refused 42 unmeasured: type 6" ∷
+    "type 7  struct  refused 42 unmeasured: type 6" ∷ [])
+    ∷ sized noCount ("line 2: number 5, field: a byte is outside its values" ∷ [])
+    ∷ sized [] []
+    ∷ record { text = measured; limit = 7; lines = "number 1, long: over 7 frames (231 bytes)" ∷ []; room = over 0 }
+    -- bytes past the lines stay; one byte too few is number 3 and changes nothing
+    ∷ record { text = "01010000020400000000000000000000" ∷ []; limit = maxFrames; lines = "type 0  f32  align 4, size 4" ∷ []; room = over 3 }
+    ∷ record { text = "01010000020400000000000000000000" ∷ []; limit = maxFrames; lines = "type 0  f32  align 4, size 4" ∷ []; room = below 1 }
+    ∷ []

@@ -4,13 +4,20 @@ use mathlib.Core.Path.{_≡_, ap}
 use mathlib.Core.List.{List}
 use lib.ListN.{length}
 use Rattle.answers.specs.Limit.{maxFrameBytes, maxAnswerBytes}
-use Rattle.text.specs.declared.AnswerRoom.the-variants.{Lent}
+use Rattle.text.specs.declared.AnswerRoom.the-variants.{NotLent, Lent}
 use Rattle.text.specs.Reading.{mostFrames}
 use Rattle.rule_rows.specs.declared.Pass.{Pass}
 use Rattle.file_read.proofs.Alike.{over-alike}
 use Rattle.explain_file.specs.Explained.{allOf, faultLines, fileLines, linesOf, explained}
+use Rattle.explain_file.specs.Sized.{fileSizes, sizesOf, sized}
 
 pub explained-alike : (pass : Pass) (limit other : ℕ) (t : List ℕ) → length t ≤ 33 * mostFrames limit → length t ≤ 33 * mostFrames other
     → explained pass limit t ≡ explained pass other t
 unfolding linesOf
 explained-alike pass limit other t a b = ap allOf (over-alike limit other t a b faultLines (fileLines pass) maxFrameBytes (Lent maxAnswerBytes))
+
+-- and so have the sizes of its types
+pub sized-alike : (limit other : ℕ) (t : List ℕ) → length t ≤ 33 * mostFrames limit → length t ≤ 33 * mostFrames other
+    → sized limit t ≡ sized other t
+unfolding sizesOf
+sized-alike limit other t a b = ap allOf (over-alike limit other t a b faultLines fileSizes maxFrameBytes NotLent)

@@ -7,22 +7,29 @@ use mathlib.Core.List.{List}
 use lib.ListN.{length}
 use Rattle.answers.specs.declared.Outcome.{Outcome}
 use Rattle.answers.specs.declared.Outcome.the-variants.{Accepted, Long, Torn, Short, Order, Field, Index}
-use Rattle.answers.specs.Limit.{maxFrameBytes, maxAnswerBytes}
-use Rattle.text.specs.declared.AnswerRoom.the-variants.{Lent}
+use Rattle.answers.specs.Limit.{maxFrames, maxFrameBytes, maxAnswerBytes}
+use Rattle.text.specs.declared.AnswerRoom.the-variants.{NotLent, Lent}
 use Rattle.text.specs.Lines.{decoded}
+use Rattle.text.proofs.Laws.{count-small}
 use Rattle.frames.specs.Bytes.{frameAt, frameCount}
 use Rattle.frames.specs.Out.{outcomeFrame}
+use Rattle.archive.specs.Starts.{startsOf, typeCount}
+use Rattle.archive.proofs.Owners.{starts-small}
+use Rattle.rule_sizes.specs.Sizes.{sizeFrames}
+use Rattle.type_sizes.proofs.Written.{sizes-long}
 use Rattle.rule_rows.specs.declared.Pass.{Pass}
 use Rattle.rule_answers.specs.Outputs.{outputBytes}
 use Rattle.file_read.specs.File.{overFile, readFile}
+use Rattle.file_read.proofs.Laws.{count-decoded, accepted-when}
 use Rattle.file_read.proofs.Printed.{few-outputs}
-use Rattle.explain_lines.proofs.Long.{line-long, fault-long}
+use Rattle.explain_lines.proofs.Long.{line-long, fault-long, size-line-long}
 use Rattle.explain_file.specs.Explained.{allOf, rowAt, lineAt, faultLines, fileLines, linesOf, explained, maxExplainedBytes}
+use Rattle.explain_file.specs.Sized.{sizeLineAt, fileSizes, sizesOf, sized, maxSizedBytes}
 use Rattle.explain_file.proofs.Fitting.{joined-long}
 
 -- the line of a fault
-fault-fits : (o : Outcome) → length (allOf (faultLines o)) ≤ maxExplainedBytes
-fault-fits o = omega (arith, joined-long (faultLines o .line) 1 (λ k. fault-long (outcomeFrame o)))
+fault-line : (o : Outcome) → length (allOf (faultLines o)) ≤ 142
+fault-line o = omega (arith, joined-long (faultLines o .line) 142 1 (λ k. fault-long (outcomeFrame o)))
 
 pub explained-fits : (pass : Pass) (limit : ℕ) (t : List ℕ) → length (explained pass limit t) ≤ maxExplainedBytes
 unfolding linesOf
@@ -32,10 +39,41 @@ explained-fits pass limit t = go (readFile limit t maxFrameBytes (Lent maxAnswer
     go (Accepted n) e =
         let fr = decoded t n in
         let an = outputBytes pass fr in
-        omega (arith, joined-long (lineAt fr an) (frameCount an) (λ k. line-long fr (rowAt an k) (frameAt an k)), few-outputs pass limit t maxFrameBytes maxAnswerBytes n e)
-    go (Long m) e = fault-fits (Long m)
-    go (Torn k) e = fault-fits (Torn k)
-    go Short e = fault-fits Short
-    go (Order k) e = fault-fits (Order k)
-    go (Field k) e = fault-fits (Field k)
-    go (Index k) e = fault-fits (Index k)
+        omega (arith, joined-long (lineAt fr an) 142 (frameCount an) (λ k. line-long fr (rowAt an k) (frameAt an k)), few-outputs pass limit t maxFrameBytes maxAnswerBytes n e)
+    go (Long m) e = omega (arith, fault-line (Long m))
+    go (Torn k) e = omega (arith, fault-line (Torn k))
+    go Short e = omega (arith, fault-line Short)
+    go (Order k) e = omega (arith, fault-line (Order k))
+    go (Field k) e = omega (arith, fault-line (Field k))
+    go (Index k) e = omega (arith, fault-line (Index k))
+
+-- THE SIZES of every file's types fit into `maxSizedBytes`: an accepted file has at most `maxFrames` types
+pub few-types : (limit : ℕ) (t : List ℕ) (f n : ℕ) → readFile limit t f NotLent ≡ Accepted n
+    → typeCount (startsOf (decoded t n)) ≤ maxFrames
+few-types limit t f n e =
+    let few : frameCount (decoded t n) ≤ maxFrames =
+    rw (count-decoded t n) (count-small (accepted-when limit t f NotLent n .0 e .readable)) in
+    starts-small (decoded t n) maxFrames few .0
+
+pub sized-fits : (limit : ℕ) (t : List ℕ) → length (sized limit t) ≤ maxSizedBytes
+unfolding sizesOf
+sized-fits limit t = go (readFile limit t maxFrameBytes NotLent) refl
+  where
+    go : (o : Outcome) → readFile limit t maxFrameBytes NotLent ≡ o
+        → length (allOf (overFile faultLines fileSizes t o)) ≤ maxSizedBytes
+    go (Accepted n) e =
+        let fr = decoded t n in
+        let s = startsOf fr in
+        let z = sizeFrames fr s (typeCount s) in
+        omega (
+          arith,
+          joined-long (sizeLineAt fr z) 176 (frameCount z) (λ k. size-line-long fr (record { 0 = k }) (frameAt z k)),
+          sizes-long fr s (typeCount s),
+          few-types limit t maxFrameBytes n e,
+        )
+    go (Long m) e = omega (arith, fault-line (Long m))
+    go (Torn k) e = omega (arith, fault-line (Torn k))
+    go Short e = omega (arith, fault-line Short)
+    go (Order k) e = omega (arith, fault-line (Order k))
+    go (Field k) e = omega (arith, fault-line (Field k))
+    go (Index k) e = omega (arith, fault-line (Index k))

@@ -16,14 +16,14 @@ use Rattle.explain_words.specs.ForProofs.{written}
 use Rattle.explain_words.proofs.Writing.{written-long}
 use Rattle.explain_lines.specs.Answers.{lineOf}
 use Rattle.explain_lines.specs.LinesForProofs.{madeIn, madeLong}
-use Rattle.explain_file.specs.Explained.{Lines, joined, nextRow, rowAt, lineAt}
+use Rattle.explain_file.specs.Explained.{Lines, joined, allOf, nextRow, rowAt, lineAt}
 use Rattle.explain_file.specs.ForProofs.{Shown}
 
--- n lines of at most 142 bytes
-pub joined-long : (f : ℕ → List ℕ) (n : ℕ) → ((k : ℕ) → length (f k) ≤ 142) → length (joined f n) ≤ 142 * n
+-- n lines of at most m bytes
+pub joined-long : (f : ℕ → List ℕ) (m n : ℕ) → ((k : ℕ) → length (f k) ≤ m) → length (joined f n) ≤ m * n
 unfolding joined
-joined-long f zero h = omega arith
-joined-long f (suc n) h = omega (arith, length-append (joined f n) (f n), joined-long f n h, h n)
+joined-long f m zero h = omega arith
+joined-long f m (suc n) h = omega (arith, length-append (joined f n) (f n), joined-long f m n h, h n)
 
 -- what is written after k lines
 abbrev pub After : (ℕ → List ℕ) → ℕ → List ℕ → ℕ → List ℕ → Type 0
@@ -84,14 +84,22 @@ row-small k row r f e h = rw e (either (eqb (f .b0) 11))
     either false = omega arith
 
 -- its buffer's length stays, and it is as long as the part lent on
-pub made-long : (l₀ l x : List ℕ) (m : ℕ) → l ≡ written l₀ 0 x → m ≡ length x → m ≤ 1056 → length l₀ ≡ 1056
-    → (length l ≡ 1056) × (m ≡ length (take m l))
+pub made-long : (l₀ l x : List ℕ) (m : ℕ) → l ≡ written l₀ 0 x → m ≡ length x → m ≤ 1296 → length l₀ ≡ 1296
+    → (length l ≡ 1296) × (m ≡ length (take m l))
 made-long l₀ l x m e em h hl =
     (ap length e ∙ written-long l₀ x 0 (omega arith) ∙ hl, em ∙ ap length (sym (made l₀ l x m e em)))
 
 -- a line's buffer is large enough
-pub made-at : (l₀ l x : List ℕ) (m : ℕ) → length l₀ ≡ 1056 → m ≡ madeLong l₀ x → l ≡ madeIn l₀ x → (m ≡ length x) × (l ≡ written l₀ 0 x)
+pub made-at : (l₀ l x : List ℕ) (m : ℕ) → length l₀ ≡ 1296 → m ≡ madeLong l₀ x → l ≡ madeIn l₀ x → (m ≡ length x) × (l ≡ written l₀ 0 x)
 unfolding madeLong madeIn
 made-at l₀ l x m h em e =
-    let n : 1056 ≤ length l₀ = omega arith in
+    let n : 1296 ≤ length l₀ = omega arith in
     (em ∙ rw (le-ltb _ _ n), e ∙ rw (le-ltb _ _ n))
+
+-- lines that stand at the front of their buffer
+module _ (l : Lines) (o last : List ℕ) (m : ℕ) (h : Shown l o m last) where
+  pub inside : m ≤ length last
+  inside = omega (arith, h .0, ap length (h .1) ∙ length-append (allOf l) (drop m o))
+
+  pub lines-are : take m last ≡ allOf l
+  lines-are = ap (take m) (h .1) ∙ take-at (allOf l) (drop m o) m (sym (h .0))

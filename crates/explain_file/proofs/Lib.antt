@@ -1,4 +1,5 @@
 pub mod Fitting
 pub mod File
+pub mod FileSizes
 pub mod Fits
 pub mod Alike

@@ -1,21 +1,27 @@
-// A file explained to people: a line for each row and one more after a compose, in words; one line for a file that is not accepted (specs/Explained.antt).
+// A file explained to people: a line for each row and one more after a compose, in words; one line for a file that is not accepted (specs/Explained.antt). And a line for each type with its size
+// (specs/Sized.antt).
 use answers::MAX_ANSWER_BYTES;
 use answers::MAX_FRAME_BYTES;
 use answers::MAX_FRAMES;
 use answers::Outcome;
 use answers::Printed;
+use archive_access::families::find_starts;
 use explain_lines::lines::put_fault;
 use explain_lines::lines::put_line;
+use explain_lines::lines::put_size;
 use explain_words::copy;
 use file_read::OptionUsize;
 use file_read::frames_in;
+use file_read::read_file;
 use file_rows::type_file;
 use frames::Frame;
 use frames::frame_at;
 use frames::frame_count;
 use frames_answers::write::outcome_frame;
 use ir::RowNumber;
+use ir::TypeNumber;
 use rule_rows::Pass;
+use type_sizes::measure_all;
 ghost use mathlib.Core.Path.{_≡_};
 ghost use Prim.Native.Nat.{_≤_, _<_};
 ghost use lib.ListN.{length};
@@ -23,10 +29,14 @@ ghost use Rattle.answers.specs.Limit.{maxFrameBytes, maxAnswerBytes};
 ghost use Rattle.answers.specs.Numbers.{printedSaid};
 ghost use Rattle.file_read.specs.Printed.{printed, printedAfter};
 ghost use Rattle.explain_file.specs.Explained.{nextRow, maxExplainedBytes, answerLines, faultLines, linesOf, explained};
+ghost use Rattle.explain_file.specs.Sized.{sizeLines, sizesOf, sized, maxSizedBytes};
 ghost use Rattle.explain_file.specs.ForProofs.{Shown};
 
 // The bytes that the lines of any file fit into, at most 142 each.
 pub const MAX_EXPLAINED_BYTES: usize = 2 * 142 * MAX_FRAMES;
+
+// The same of types' sizes, at most 176 each.
+pub const MAX_SIZED_BYTES: usize = 176 * MAX_FRAMES;
 
 // The next row, after an answer or a verdict.
 fn next_row(row: RowNumber, f: Frame) -> RowNumber
@@ -41,7 +51,7 @@ fn next_row(row: RowNumber, f: Frame) -> RowNumber
 
 // The lines of what is handed back. A line is made in a buffer of its own first.
 fn explain_answers(frames: &[u8], answers: &[u8], line: &mut [u8], out: &mut [u8]) -> usize
-    requires { ⌜ (length (now line) ≡ 1056) × (length (now answers) ≤ maxAnswerBytes)
+    requires { ⌜ (length (now line) ≡ 1296) × (length (now answers) ≤ maxAnswerBytes)
         × (maxExplainedBytes ≤ length (now out)) ⌝ }
     ensures { λ r. ⌜ Shown (answerLines (now (frames .entry)) (now (answers .entry))) (now (out .entry)) r
         (now (out .exit)) ⌝ }
@@ -63,7 +73,7 @@ fn explain_answers(frames: &[u8], answers: &[u8], line: &mut [u8], out: &mut [u8
 
 // The line of a file that is not accepted.
 fn explain_fault(o: Outcome, line: &mut [u8], out: &mut [u8]) -> usize
-    requires { ⌜ (length (now line) ≡ 1056) × (maxExplainedBytes ≤ length (now out)) ⌝ }
+    requires { ⌜ (length (now line) ≡ 1296) × (142 ≤ length (now out)) ⌝ }
     ensures { λ r. ⌜ Shown (faultLines o) (now (out .entry)) r (now (out .exit)) ⌝ }
 {
     let m = put_fault(outcome_frame(o), line);
@@ -83,7 +93,7 @@ fn explain_with(
 ) -> usize
     requires frames { ⌜ length (now frames) ≡ maxFrameBytes ⌝ }
     requires answers { ⌜ length (now answers) ≡ maxAnswerBytes ⌝ }
-    requires line { ⌜ length (now line) ≡ 1056 ⌝ }
+    requires line { ⌜ length (now line) ≡ 1296 ⌝ }
     requires out { ⌜ length (now out) ≡ maxExplainedBytes ⌝ }
     ensures { λ r. ⌜ Shown (linesOf pass limit (now (text .entry))) (now (out .entry)) r (now (out .exit)) ⌝ }
 {
@@ -99,6 +109,18 @@ fn explain_with(
     }
 }
 
+// Copies lines to the front of the output buffer; where it is too small, number 3, and nothing is changed.
+fn print(lines: &[u8], out: &mut [u8]) -> Printed
+    ensures outcome { λ r. ⌜ r ≡ printed (now (lines .entry)) (length (now (out .entry))) ⌝ }
+    ensures out { λ r. ⌜ now (out .exit) ≡ printedAfter (now (lines .entry)) (now (out .entry)) ⌝ }
+{
+    if out.len() < lines.len() {
+        return Printed::Short;
+    }
+    copy(lines, out, 0);
+    Printed::Bytes(lines.len())
+}
+
 // Explains a file: writes its lines, and gives how many bytes they are; where the output buffer is too small it gives number 3 and changes nothing. MAX_EXPLAINED_BYTES are room
 // for any file's (`explained-fits`, proofs/Fits.antt).
 pub fn explain_text(text: &[u8], limit: u32, pass: Pass, out: &mut [u8]) -> Printed
@@ -109,7 +131,7 @@ pub fn explain_text(text: &[u8], limit: u32, pass: Pass, out: &mut [u8]) -> Prin
 {
     let mut frames = [0u8; MAX_FRAME_BYTES];
     let mut answers = [0u8; MAX_ANSWER_BYTES];
-    let mut line = [0u8; 1056];
+    let mut line = [0u8; 1296];
     let mut lines = [0u8; MAX_EXPLAINED_BYTES];
     let m = explain_with(
         text,
@@ -120,9 +142,68 @@ pub fn explain_text(text: &[u8], limit: u32, pass: Pass, out: &mut [u8]) -> Prin
         &mut line,
         &mut lines,
     );
-    if out.len() < m {
-        return Printed::Short;
+    print(&lines[..m], out)
+}
+
+// The lines of what types fill, a frame each.
+fn size_lines(frames: &[u8], sizes: &[u8], line: &mut [u8], out: &mut [u8]) -> usize
+    requires { ⌜ (length (now line) ≡ 1296) × (length (now sizes) ≤ maxFrameBytes)
+        × (maxSizedBytes ≤ length (now out)) ⌝ }
+    ensures { λ r. ⌜ Shown (sizeLines (now (frames .entry)) (now (sizes .entry))) (now (out .entry)) r
+        (now (out .exit)) ⌝ }
+{
+    let n = frame_count(sizes);
+    let mut k = 0;
+    let mut at = 0;
+    while k < n {
+        let f = frame_at(sizes, k);
+        let m = put_size(frames, TypeNumber(k as u16), f, line);
+        copy(&line[..m], out, at);
+        at += m;
+        k += 1;
     }
-    copy(&lines[..m], out, 0);
-    Printed::Bytes(m)
+    at
+}
+
+// The sizes of a text's types, over lent buffers of the largest sizes that a file asks for.
+fn sizes_with(
+    text: &[u8],
+    limit: u32,
+    frames: &mut [u8],
+    sizes: &mut [u8],
+    line: &mut [u8],
+    out: &mut [u8],
+) -> usize
+    requires frames { ⌜ length (now frames) ≡ maxFrameBytes ⌝ }
+    requires sizes { ⌜ length (now sizes) ≡ maxFrameBytes ⌝ }
+    requires line { ⌜ length (now line) ≡ 1296 ⌝ }
+    requires out { ⌜ length (now out) ≡ maxSizedBytes ⌝ }
+    ensures { λ r. ⌜ Shown (sizesOf limit (now (text .entry))) (now (out .entry)) r (now (out .exit)) ⌝ }
+{
+    let read = read_file(text, limit, frames);
+    match frames_in(read) {
+        OptionUsize::None => explain_fault(read, line, out),
+        OptionUsize::Some(n) => {
+            let m = 16 * n;
+            let s = find_starts(&frames[..m]);
+            measure_all(&frames[..m], s, sizes);
+            let e = 16 * s.members;
+            size_lines(&frames[..m], &sizes[..e], line, out)
+        }
+    }
+}
+
+// The sizes of a file's types: writes a line for each, and gives how many bytes they are; where the output buffer is too small it gives number 3 and changes nothing. MAX_SIZED_BYTES
+// are room for any file's (`sized-fits`, proofs/Fits.antt).
+pub fn sizes_text(text: &[u8], limit: u32, out: &mut [u8]) -> Printed
+    ensures outcome { λ r. ⌜ r ≡ printed (sized limit (now (text .entry))) (length (now (out .entry))) ⌝ }
+    ensures said { λ r. ⌜ printedSaid r ≡ printedSaid (printed (sized limit (now (text .entry))) (length (now (out .entry)))) ⌝ }
+    ensures out { λ r. ⌜ now (out .exit) ≡ printedAfter (sized limit (now (text .entry))) (now (out .entry)) ⌝ }
+{
+    let mut frames = [0u8; MAX_FRAME_BYTES];
+    let mut sizes = [0u8; MAX_FRAME_BYTES];
+    let mut line = [0u8; 1296];
+    let mut lines = [0u8; MAX_SIZED_BYTES];
+    let m = sizes_with(text, limit, &mut frames, &mut sizes, &mut line, &mut lines);
+    print(&lines[..m], out)
 }

@@ -40,3 +40,12 @@ three o₀ o₁ o₂ o₃ x y z a s r ea es er h e₁ e₂ e₃ =
 -- the same of pieces
 pub three-spelled : (h b t : List ℕ) → spelled (h ++ b ++ t) ≡ spelled h ++ spelled b ++ spelled t
 three-spelled h b t = spelled-more (h ++ b) t ∙ ap (λ (l : List ℕ). l ++ spelled t) (spelled-more h b)
+
+-- and where empty words fill up two of them
+pub runs-filled : (h b t hw bw tw : List ℕ) (i j : ℕ) → hw ≡ h → bw ≡ filled i b → tw ≡ filled j t
+    → spelled (hw ++ bw ++ tw) ≡ spelled (h ++ b ++ t)
+runs-filled h b t hw bw tw i j eh eb et =
+    three-spelled hw bw tw ∙ ap (λ (l : List ℕ). spelled l ++ spelled bw ++ spelled tw) eh
+    ∙ ap (λ (l : List ℕ). spelled h ++ l ++ spelled tw) (ap spelled eb ∙ spelled-filled i b)
+    ∙ ap (λ (l : List ℕ). spelled h ++ spelled b ++ l) (ap spelled et ∙ spelled-filled j t)
+    ∙ sym (three-spelled h b t)

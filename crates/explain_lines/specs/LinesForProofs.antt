@@ -6,10 +6,10 @@ use lib.Dec.{ltb}
 use lib.ListN.{length}
 use Rattle.explain_words.specs.ForProofs.{written}
 
--- a line made at the front of a buffer of at least 1,056 bytes, which are enough for any: 22 pieces of at most 48 bytes. A smaller buffer stays as it was.
+-- a line made at the front of a buffer of at least 1,296 bytes, which are enough for any: 27 pieces of at most 48 bytes. A smaller buffer stays as it was.
 unfoldable pub madeIn : List ℕ → List ℕ → List ℕ
-madeIn o l = cond (ltb (length o) 1056) o (written o 0 l)
+madeIn o l = cond (ltb (length o) 1296) o (written o 0 l)
 
 -- and its length
 unfoldable pub madeLong : List ℕ → List ℕ → ℕ
-madeLong o l = cond (ltb (length o) 1056) 0 (length l)
+madeLong o l = cond (ltb (length o) 1296) 0 (length l)

@@ -1,4 +1,4 @@
-// What each line for people says, as pieces (explain_words/specs/Lines.antt), from the bytes of frames: types in WGSL's spelling, answers, verdicts and faults.
+// What each line for people says, as pieces (explain_words/specs/Lines.antt), from the bytes of frames: types in WGSL's spelling, answers, verdicts, faults and sizes.
 pub mod lines;
 pub mod types;
 

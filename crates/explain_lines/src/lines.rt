@@ -1,4 +1,4 @@
-// What the lines of answers, verdicts and faults say (specs/Answers.antt), and their bytes.
+// What the lines of answers, verdicts and faults say (specs/Answers.antt), and of types' sizes (specs/Sizes.antt), and their bytes.
 use super::types::pick;
 use super::types::whole;
 use explain_words::num;
@@ -14,6 +14,9 @@ ghost use Prim.Native.Nat.{_+_, _≤_};
 ghost use lib.ListN.{length, take, drop};
 ghost use Rattle.explain_lines.specs.ForProofs.{filled};
 ghost use Rattle.explain_lines.specs.Answers.{manner, reason, refusal, judged, said, shown, ending, lineOf, faultWords, faultOf};
+ghost use Rattle.explain_words.specs.Lines.{spelled};
+ghost use Rattle.explain_words.specs.ForProofs.{written};
+ghost use Rattle.explain_lines.specs.Sizes.{sizeWords, sizeLineOf};
 ghost use Rattle.explain_lines.specs.LinesForProofs.{madeIn, madeLong};
 
 fn manner(flag: u8) -> u64
@@ -329,22 +332,35 @@ fn ending(f: Frame) -> [u64; 3]
     [table::FEED, 0, 0]
 }
 
-// Writes the line of an answer or verdict at the front of a buffer, and gives its length. A buffer of fewer than 1,056 bytes, which are enough for any line, stays as it was.
+// Writes three runs of pieces one after the other at the front of a buffer, and gives their length.
+fn put_runs(head: &[u64], body: &[u64], end: &[u64], line: &mut [u8]) -> usize
+    requires room { ⌜ 1296 ≤ length (now line) ⌝ }
+    requires few { ⌜ length (now head) + length (now body) + length (now end) ≤ 27 ⌝ }
+    ensures long { λ r. ⌜ r
+        ≡ length (spelled (now (head .entry) ++ now (body .entry) ++ now (end .entry))) ⌝ }
+    ensures small { λ r. ⌜ r ≤ 1296 ⌝ }
+    ensures line { λ r. ⌜ now (line .exit)
+        ≡ written (now (line .entry)) 0 (spelled (now (head .entry) ++ now (body .entry) ++ now (end .entry))) ⌝ }
+{
+    let a = put_pieces(head, line, 0);
+    let b = put_pieces(body, line, a);
+    put_pieces(end, line, b)
+}
+
+// Writes the line of an answer or verdict at the front of a buffer, and gives its length. A buffer of fewer than 1,296 bytes, which are enough for any line, stays as it was.
 pub fn put_line(frames: &[u8], row: RowNumber, f: Frame, line: &mut [u8]) -> usize
     ensures { λ r. ⌜ (r ≡ madeLong (now (line .entry)) (lineOf (now (frames .entry)) row f))
-        × (r ≤ 1056)
+        × (r ≤ 1296)
         × (now (line .exit) ≡ madeIn (now (line .entry)) (lineOf (now (frames .entry)) row f)) ⌝ }
 {
-    if line.len() < 1056 {
+    if line.len() < 1296 {
         return 0;
     }
     let r = shown(row, f);
     let head = [table::ROW, num(r.0 as u32), table::GAP];
     let body = said(frames, f);
     let end = ending(f);
-    let a = put_pieces(&head, line, 0);
-    let b = put_pieces(&body, line, a);
-    put_pieces(&end, line, b)
+    put_runs(&head, &body, &end, line)
 }
 
 fn fault_words(f: Frame) -> [u64; 8]
@@ -388,12 +404,60 @@ fn fault_words(f: Frame) -> [u64; 8]
 // The same of the line of a file that is not accepted.
 pub fn put_fault(f: Frame, line: &mut [u8]) -> usize
     ensures { λ r. ⌜ (r ≡ madeLong (now (line .entry)) (faultOf f))
-        × (r ≤ 1056)
+        × (r ≤ 1296)
         × (now (line .exit) ≡ madeIn (now (line .entry)) (faultOf f)) ⌝ }
 {
-    if line.len() < 1056 {
+    if line.len() < 1296 {
         return 0;
     }
     let words = fault_words(f);
     put_pieces(&words, line, 0)
+}
+
+fn size_words(f: Frame) -> [u64; 8]
+    ensures { λ r. ⌜ r ≡ filled 8 (sizeWords f) ⌝ }
+{
+    if f.b0 == 12 {
+        let align = num(f.b4 as u32);
+        let size = num(f.third());
+        return [
+            table::GAP,
+            table::ALIGN,
+            align,
+            table::SIZE,
+            size,
+            table::FEED,
+            0,
+            0,
+        ];
+    }
+    let number = num(f.b1 as u32);
+    let fault = pick(table::UNMEASURED, 42, 3, f.b1);
+    let place = num(f.named() as u32);
+    [
+        table::GAP,
+        table::REFUSED,
+        number,
+        fault,
+        place,
+        table::FEED,
+        0,
+        0,
+    ]
+}
+
+// Writes the line of type n, whose size the frame says, at the front of a buffer, and gives its length. A buffer of fewer than 1,296 bytes, which are enough for any line, stays
+// as it was.
+pub fn put_size(frames: &[u8], n: TypeNumber, f: Frame, line: &mut [u8]) -> usize
+    ensures { λ r. ⌜ (r ≡ madeLong (now (line .entry)) (sizeLineOf (now (frames .entry)) n f))
+        × (r ≤ 1296)
+        × (now (line .exit) ≡ madeIn (now (line .entry)) (sizeLineOf (now (frames .entry)) n f)) ⌝ }
+{
+    if line.len() < 1296 {
+        return 0;
+    }
+    let head = [table::TYPE, num(n.0 as u32), table::GAP];
+    let body = whole(frames, frame_at(frames, n.0 as usize));
+    let end = size_words(f);
+    put_runs(&head, &body, &end, line)
 }

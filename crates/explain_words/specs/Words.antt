@@ -170,7 +170,12 @@ table =
     ", order: unknown or out of order" ∷
     ", field: a byte is outside its values" ∷
     ", index: a number is out of range or not earlier" ∷
-    " frames (" ∷ []
+    " frames (" ∷
+    "align " ∷
+    ", size " ∷
+    " unmeasured: type " ∷
+    " misplaced: type " ∷
+    " huge: type " ∷ []
 
 -- the characters of word w; none past the table
 unfoldable pub wordBytes : ℕ → List ℕ
@@ -386,3 +391,12 @@ fault = 149
 
 abbrev pub framesOf : ℕ
 framesOf = 155
+
+abbrev pub align : ℕ
+align = 156
+
+abbrev pub size : ℕ
+size = 157
+
+abbrev pub unmeasured : ℕ
+unmeasured = 158

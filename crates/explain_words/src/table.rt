@@ -1,9 +1,9 @@
 // The words of the lines for people, run together, and where each begins (specs/Words.antt has them one by one). A name that stands for several (as SPACE) is the
 // number of the first; the others follow it.
 
-pub const COUNT: usize = 156;
+pub const COUNT: usize = 161;
 
-pub const STARTS: [u16; 157] = [
+pub const STARTS: [u16; 162] = [
     0,
     0,
     4,
@@ -161,6 +161,11 @@ pub const STARTS: [u16; 157] = [
     1693,
     1741,
     1750,
+    1756,
+    1763,
+    1781,
+    1798,
+    1810,
 ];
 
 pub const NONE: u64 = 0;
@@ -302,3 +307,9 @@ pub const NUMBER: u64 = 148;
 pub const FAULT: u32 = 149;
 
 pub const FRAMES_OF: u64 = 155;
+
+pub const ALIGN: u64 = 156;
+
+pub const SIZE: u64 = 157;
+
+pub const UNMEASURED: u32 = 158;

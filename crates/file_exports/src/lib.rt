@@ -15,13 +15,17 @@ use frames_answers::write::outcome_frame;
 use frames_answers::write::verdict_frame;
 use ir::RowNumber;
 use rule_rows::Pass;
+use rule_sizes::TypeSize;
 use text::AnswerRoom;
 use text_decode::read_text;
+use type_sizes::table::measure_number;
+use type_sizes::table::said_frame;
 ghost use mathlib.Core.Path.{_≡_};
 ghost use Prim.Native.Nat.{min};
 ghost use Rattle.answers.specs.Numbers.{at, noRefusal, notThere, samenessSaid, canonicalSaid, baseSaid};
 ghost use Rattle.frames.specs.Bytes.{putFrame};
 ghost use Rattle.frames.specs.Out.{refusedFrame, outcomeFrame, rowTypeSaid, composeVerdictSaid, oneFrame};
+ghost use Rattle.rule_sizes.specs.Sizes.{sizeSaid, sizeSaidFrame};
 ghost use Rattle.file_exports.specs.Exported.{outcomeNumber, orShort, noRoom, oneNumber, saidNumber, saidFrame, typeSaidNumber, typeSaidFrame, passOf, handedFrame};
 
 // A number handed in, as a row's or a type's number has it: no file has 65,535 of either, so a greater one is out of range as that is.
@@ -202,5 +206,20 @@ pub fn put_base(out: &mut [u8], given: PointerBase) -> u32
         PointerBase::Newer => put_newer(out),
         PointerBase::Index => put_index(out),
         PointerBase::NotAccepted(o) => put_outcome(out, o),
+    }
+}
+
+// What a type fills.
+pub fn put_size(out: &mut [u8], given: TypeSize) -> u32
+    ensures outcome { λ r. ⌜ r ≡ oneNumber (sizeSaid given) ⌝ }
+    ensures out { λ r. ⌜ now (out .exit) ≡ putFrame (now (out .entry)) 0 (sizeSaidFrame (sizeSaid given)) ⌝ }
+{
+    match given {
+        TypeSize::Measured(m) => {
+            put_frame(out, 0, said_frame(m));
+            measure_number(m)
+        }
+        TypeSize::Index => put_index(out),
+        TypeSize::NotAccepted(o) => put_outcome(out, o),
     }
 }

@@ -32,11 +32,14 @@ use Rattle.rule.specs.Things.{see}
 use Rattle.rule_rows.specs.declared.Pass.{Pass}
 use Rattle.rule_compose.specs.Rows.{verdictOf}
 use Rattle.rule_types.specs.Canonical.{baseOfForm, pointerBaseIn, canonicalOfForm, canonicalTypeIn}
+use Rattle.rule_sizes.specs.declared.TypeSize.the-variants as Ts
+use Rattle.rule_sizes.specs.Sizes.{measureIn, typeSizeIn}
 use Rattle.rule_answers.specs.Outputs.{rowAnswer}
 use Rattle.file_read.specs.File.{overFile, readFile}
 use Rattle.file_read.specs.Typing.{answersWritten, RowGiven, rowGiven, rowType, answersAfterRow, VerdictGiven, orNoCompose, verdictGiven, composeVerdict, verdictSaid, ifJudged, answersAfterVerdict}
 use Rattle.file_read.proofs.Laws.{count-decoded, accepted-when}
 use Rattle.file_pointers.specs.Forms.{canonicalType, pointerBaseType}
+use Rattle.file_sizes.specs.Sizes.{typeSize}
 use Rattle.file_exports.specs.Exported.{outcomeNumber, orShort, noRoom, byRoom}
 
 -- AN OUT-SLICE THAT IS TOO SMALL
@@ -219,3 +222,16 @@ module _ (limit : ℕ) (t : List ℕ) (f : ℕ) where
   pub base-clamped : (n k : ℕ) → k ≡ min n 65535
       → pointerBaseType limit t f (record { 0 = k }) ≡ pointerBaseType limit t f (record { 0 = n })
   base-clamped = clamped-is (λ (m : ℕ). pointerBaseType limit t f (record { 0 = m })) _ base-stray
+
+  pub size-stray : (m : ℕ) → 65535 ≤ m
+      → typeSize limit t f (record { 0 = m }) ≡ overFile Ts.NotAccepted (λ (x : List ℕ). Ts.Index) t (readFile limit t f NotLent)
+  unfolding typeSize typeSizeIn
+  size-stray m l =
+      over-same Ts.NotAccepted (λ (x : List ℕ). typeSizeIn x (startsOf x) (record { 0 = m })) (λ (x : List ℕ). Ts.Index) t (readFile limit t f NotLent)
+      (λ n e.
+      let x = decoded t n in
+      ap (λ (b : Bool). cond b (Ts.Measured (measureIn x (startsOf x) (record { 0 = m }))) Ts.Index)
+      (no-type x m (few limit t f NotLent n e) l))
+
+  pub size-clamped : (n k : ℕ) → k ≡ min n 65535 → typeSize limit t f (record { 0 = k }) ≡ typeSize limit t f (record { 0 = n })
+  size-clamped = clamped-is (λ (m : ℕ). typeSize limit t f (record { 0 = m })) _ size-stray

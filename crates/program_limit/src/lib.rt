@@ -1,4 +1,5 @@
 // The words that a program is started with: a limit of frames in decimal, and `wgsl` for the second pass.
+use answers::MAX_LIMIT;
 use libc::STDERR_FILENO;
 use text_limit::Asked;
 use text_limit::Word;
@@ -32,4 +33,26 @@ pub fn asked() -> Asked {
         b"The arguments, in either order, are the limit of frames, a number in decimal (1 to 1024, any other counting as 1024), and wgsl for the second pass.\n",
     );
     Asked::NotTaken
+}
+
+// The limit that holds, of a program that takes no other word: 1,024 where none is handed in. Other arguments, and more than
+// one, are told on standard error, with what is taken.
+pub fn asked_limit() -> Word {
+    if os::arg_count() <= 2 {
+        match word_at(1) {
+            Word::Absent => {
+                return Word::Limit(MAX_LIMIT);
+            }
+            Word::Limit(limit) => {
+                return Word::Limit(limit);
+            }
+            Word::Wgsl => {}
+            Word::Neither => {}
+        }
+    }
+    io::write_all(
+        STDERR_FILENO,
+        b"The argument is the limit of frames, a number in decimal (1 to 1024, any other counting as 1024).\n",
+    );
+    Word::Neither
 }

@@ -23,7 +23,7 @@ record Inv (frames answers line out₀ out : List ℕ) (n k at : ℕ) (row : Row
   counted : row ≡ rowAt answers k
   small : row .0 ≤ k
   written : After (lineAt frames answers) k out₀ at out
-  wide : length line ≡ 1056
+  wide : length line ≡ 1296
   long : length out ≡ length out₀
 
 abbrev Inv-loop : tie.InvT-loop
@@ -57,7 +57,7 @@ made-here c =
 
 -- the buffer's length stays, and the line is as long as the part lent on
 kept-here : (c : tie.After-put-line Inv-loop μ-loop) → let p = c .put-line in let line = p .last .1 .1 .1 .0 in
-    (length line ≡ 1056) × (p .result ≡ length (take (p .result) line))
+    (length line ≡ 1296) × (p .result ≡ length (take (p .result) line))
 kept-here c =
     let l = c .before .before .before .before .loop in
     let p = c .put-line in
@@ -79,7 +79,7 @@ room-here c =
       made-here c .0,
       line-long fr (l .row) (c .before .before .frame-at .result),
       l .inv .written .0,
-      joined-long (lineAt fr an) (l .k) (λ k. line-long fr (rowAt an k) (frameAt an k)),
+      joined-long (lineAt fr an) 142 (l .k) (λ k. line-long fr (rowAt an k) (frameAt an k)),
       c .before .before .before .loop-test .taken,
       c .before .before .before .before .before .frame-count .ensures,
       l .inv .long,

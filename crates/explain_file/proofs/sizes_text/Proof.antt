@@ -1,0 +1,42 @@
+-- `explain_file::sizes_text`: the lines stand at the front of their buffer, and are copied to the other. Assumes nothing.
+use mathlib.Core.Path.{_≡_, sym, ap, _∙_}
+use mathlib.Core.List.{List}
+use Prim.Native.Nat.{ℕ}
+use native.Mathlib.Omega.{arith}
+use lib.ListN.{length, take}
+use lib.Seq.{length-take-le}
+use borrow.Author.Needs.{needs}
+use Rattle.answers.specs.Numbers.{printedSaid}
+use Rattle.file_read.specs.Printed.{printed, printedAfter}
+use Rattle.file_read.proofs.Over.{with-said}
+use Rattle.explain_file.specs.Sized.{sizesOf}
+use Rattle.explain_file.proofs.Fits.{sized-fits}
+use Rattle.explain_file.proofs.Fitting.{inside, lines-are}
+use Rattle.explain_file.proofs.sizes_text.Statement.{statement}
+use Rattle.explain_file.proofs.sizes_text.Tie as tie
+
+returns : tie.Need-returns
+returns c =
+    let g = c .before .before .before .before .before .before .before .before .before .before .before .before .before .before .before .before .args in
+    let q = c .before .before .before .before .before .before .before .before .before .sizes-with in
+    let p = c .before .before .print in
+    let e = lines-are (sizesOf (g .limit) (g .text .now)) _ (q .last .1 .1 .1 .1 .1 .0) (q .result) (q .ensures) in
+    with-said printedSaid (p .ensures .0 ∙ ap (λ (x : List ℕ). printed x (length (g .out .now))) e)
+    (p .ensures .1 ∙ ap (λ (x : List ℕ). printedAfter x (g .out .now)) e)
+
+pub sizes-text-spec : {M : Type 1} → statement M
+sizes-text-spec =
+    tie.close
+    (tie.spec
+    (λ c. search needs)
+    (λ c. search needs)
+    (λ c. search needs)
+    (λ c. search needs)
+    (λ c κs. (search needs, (search needs, (search needs, search needs))))
+    (λ c. omega (arith, c .before .before .before .before .sizes-with .ensures .0, sized-fits (c .before .before .before .before .before .before .before .before .before .before .before .args .limit) (c .before .before .before .before .before .before .before .before .before .before .before .args .text .now)))
+    (λ c.
+    let q = c .before .before .before .before .before .sizes-with in
+    sym (length-take-le (q .result) (q .last .1 .1 .1 .1 .1 .0) (inside (sizesOf (c .before .before .before .before .before .before .before .before .before .before .before .before .args .limit) (c .before .before .before .before .before .before .before .before .before .before .before .before .args .text .now)) _ (q .last .1 .1 .1 .1 .1 .0) (q .result) (q .ensures))))
+    (λ c κs. search needs)
+    (λ c. search needs)
+    returns)

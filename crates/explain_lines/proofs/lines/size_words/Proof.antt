@@ -1,0 +1,45 @@
+-- `explain_lines::lines::size_words`: each way through the code is the definition's case. Assumes nothing.
+use borrow.Author.Needs.{needs}
+use borrow.Author.Tests.{eq-eqb, ne-eqb}
+use Rattle.explain_lines.specs.ForProofs.{filled}
+use Rattle.explain_lines.specs.Sizes.{sizeWords}
+use Rattle.explain_lines.proofs.lines.size_words.Statement.{statement}
+use Rattle.explain_lines.proofs.lines.size_words.Tie as tie
+
+returns : tie.Need-returns
+unfolding sizeWords filled
+returns c =
+    simp (
+      eq-eqb _ _ (c .before .before .before .before .if1 .taken),
+      c .num2 .ensures,
+      c .before .third .ensures,
+      c .before .before .num .ensures,
+    )
+
+returns-2 : tie.Need-returns-2
+unfolding sizeWords filled
+returns-2 c =
+    simp (
+      ne-eqb _ _ (c .before .before .before .before .before .if1 .left),
+      c .num4 .ensures,
+      c .before .named .ensures,
+      c .before .before .pick .ensures,
+      c .before .before .before .num3 .ensures,
+    )
+
+pub size-words-spec : {M : Type 1} → statement M
+size-words-spec =
+    tie.close
+    (tie.spec
+    (λ c. search needs)
+    (λ c κs. search needs)
+    (λ c κs. search needs)
+    (λ c κs. search needs)
+    returns
+    (λ c. search needs)
+    (λ c κs. search needs)
+    (λ c κs. search needs)
+    (λ c κs. search needs)
+    (λ c. search needs)
+    (λ c κs. search needs)
+    returns-2)

@@ -1,0 +1,22 @@
+-- What the line of a type's size says, as pieces (docs/EXPLAIN.md; document 02, request 5): of the frame of alignment and size, or of a number 42 to 44.
+use Prim.Native.Nat.{ℕ}
+use mathlib.Core.Bool.{cond}
+use mathlib.Core.List.{List, [], _∷_, _++_}
+use lib.Dec.{eqb}
+use Rattle.ir.specs.declared.TypeNumber.{TypeNumber}
+use Rattle.frames.specs.declared.Frame.{Frame}
+use Rattle.frames.specs.Bytes.{half, word, frameAt}
+use Rattle.explain_words.specs.Words as W
+use Rattle.explain_words.specs.Lines.{num, spelled}
+use Rattle.explain_lines.specs.Types.{picked, whole}
+
+-- `  align 16, size 12`, and `  refused 43 misplaced: type 8`, which is the lowest faulty type
+unfoldable pub sizeWords : Frame → List ℕ
+sizeWords f =
+    W.gap
+    ∷ cond (eqb (f .b0) 12) (W.align ∷ num (f .b4) ∷ W.size ∷ num (word f 8) ∷ W.feed ∷ [])
+    (W.refused ∷ num (f .b1) ∷ picked W.unmeasured 42 3 (f .b1) ∷ num (half f 2) ∷ W.feed ∷ [])
+
+-- THE LINE of type n, whose size frame f says, in a file whose frames these are: `type 3  vec3<f32>  align 16, size 12`
+unfoldable pub sizeLineOf : List ℕ → TypeNumber → Frame → List ℕ
+sizeLineOf fr n f = spelled ((W.type ∷ num (n .0) ∷ W.gap ∷ []) ++ whole fr (frameAt fr (n .0)) ++ sizeWords f)

@@ -1,0 +1,49 @@
+-- Not part of any public statement: for proofs and code only. A table of measures, a frame each: family 12, alignment
+-- and size, or a number and its place; and all of them in a buffer.
+use Prim.Native.Nat.{ℕ, _*_}
+use mathlib.Core.Path.{_≡_}
+use mathlib.Core.Bool.{true, cond, _&&_}
+use mathlib.Core.List.{List, _++_}
+use lib.Dec.{eqb, leb}
+use lib.ListN.{length, drop}
+use Rattle.answers.specs.Limit.{maxFrames}
+use Rattle.frames.specs.declared.Frame.{Frame}
+use Rattle.frames.specs.Bytes.{half, word, frameAt}
+use Rattle.archive.specs.declared.Starts.{Starts}
+use Rattle.archive.specs.Starts.{typeCount}
+use Rattle.rule_sizes.specs.declared.SizeFault.{SizeFault}
+use Rattle.rule_sizes.specs.declared.SizeFault.the-variants.{Unmeasured, Misplaced, Huge}
+use Rattle.rule_sizes.specs.declared.Measure.{Measure}
+use Rattle.rule_sizes.specs.declared.Measure.the-variants.{Fills, Faulty}
+use Rattle.rule_sizes.specs.Wgsl.{bytes, alignmentOf}
+use Rattle.rule_sizes.specs.Sizes.{measureIn, faultNumber, measured, sizeFrames}
+
+-- the number of a measure: 0 where there is a size
+abbrev pub measureNumber : Measure → ℕ
+measureNumber (Fills a z) = 0
+measureNumber (Faulty k p) = faultNumber k
+
+abbrev pub faultOf : ℕ → SizeFault
+faultOf b = cond (eqb b 42) Unmeasured (cond (eqb b 43) Misplaced Huge)
+
+abbrev pub measureFrame : Measure → Frame
+measureFrame (Fills a z) = measured 12 0 0 (bytes a) z
+measureFrame (Faulty k p) = measured 12 (faultNumber k) (p .0) 0 0
+
+unfoldable pub measureOf : Frame → Measure
+measureOf f = cond (eqb (f .b1) 0) (Fills (alignmentOf (f .b4)) (word f 8)) (Faulty (faultOf (f .b1)) (record { 0 = half f 2 }))
+
+-- what a frame of a table holds of type n: its measure, or nothing yet
+abbrev pub Held : List ℕ → Starts → ℕ → Frame → Type 0
+Held fr s n f = eqb (f .b0) 12 ≡ true → measureOf f ≡ measureIn fr s (record { 0 = n })
+
+-- a table of measures
+abbrev pub Known : List ℕ → Starts → List ℕ → Type 0
+Known fr s t = (n : ℕ) → Held fr s n (frameAt t n)
+
+-- a buffer with what every type fills at its front, a frame each; as it was where it has no room for them, or there are
+-- more than 1,024
+unfoldable pub sizesWritten : List ℕ → Starts → List ℕ → List ℕ
+sizesWritten fr s o =
+    cond (leb (typeCount s) maxFrames && leb (16 * typeCount s) (length o))
+    (sizeFrames fr s (typeCount s) ++ drop (16 * typeCount s) o) o
