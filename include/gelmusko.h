@@ -12,10 +12,11 @@
  * second, by WGSL's. Any other number counts as 0. All other rows, and verdicts, keep their rules, over the answers of
  * the pass. Callers of a header without it hand in 0 after the limit.
  *
- * SLICES. Each slice is a pointer and a length in bytes. It must point to that many bytes, which the caller may read,
- * and, unless it is const, write. A slice of length 0 is neither read nor written, and its pointer may be null; a
- * null pointer with another length is undefined. Slices that are written (frames, answers, out) may not overlap each
- * other, nor any other slice of the call. Const slices (text, left, right) may overlap each other.
+ * SLICES. Each slice is a pointer and a length in bytes, of a table of counts in counts of 4 bytes each. It must
+ * point to that many, aligned as its type is, which the caller may read, and, unless it is const, write. A slice of
+ * length 0 is neither read nor written, and its pointer may be null; a null pointer with another length is undefined.
+ * Slices that are written (frames, answers, out) may not overlap each other, nor any other slice of the call. Const
+ * slices (text, left, right, least, greatest) may overlap each other.
  *
  * BUFFERS. The caller lends them; the library keeps no pointer and no state, allocates nothing, and may be called
  * from several threads with buffers of their own.
@@ -23,6 +24,8 @@
  *   frames    16 bytes for each line of the text.                    16,384 bytes are enough for every file.
  *   answers   16 bytes for each row and 16 more for each compose.    32,768 bytes are enough for every file.
  *   out       16 bytes: one frame, what the call hands back.
+ *   least, greatest   1,024 counts each, one for each override of the file; those past its overrides are free. A table
+ *             of fewer counts is a lent buffer too short. They are read alone.
  *
  * A longer buffer is as good; its bytes past what is written stay as they were. After numbers 1 to 3 no byte of
  * `frames` and `answers` is changed. After numbers 4 to 6 of the file `frames` has the frames of the text at its
@@ -35,10 +38,12 @@
  *   b0 = 9    a type by value, laid as a type of the file
  *   b0 = 10   a number in b1, its place in b2-3; number 0 where the file is accepted and nothing else is to be said.
  *             For a row's answer 10 to 20, 22, or in the second pass 41, with an index in b4-7 and a flag in b8
- *             For a type's size 42 to 44, with the lowest faulty type as its place
+ *             For a type's size 42 to 44, with the lowest faulty type as its place; for a range 45 too, with the
+ *             lowest override at fault
  *   b0 = 11   a verdict: 0, 22 or 30 to 33 in b1, its compose row in b2-3, expected or component in b4-7, given in
  *             b8-11
  *   b0 = 12   alignment and size in bytes: 2, 4, 8 or 16 in b4, the size in b8-11
+ *   b0 = 13   a range: alignment in b4, least size in b8-11, greatest size in b12-15
  *
  * Numbers of several bytes have their low byte first. An `out` of fewer than 16 bytes is a lent buffer too short: the
  * call returns 1 or 2 if that is the text's, and else 3, and changes nothing at all.
@@ -66,6 +71,9 @@ extern "C" {
 #define GELMUSKO_OUT_BYTES 16
 #define GELMUSKO_TEXEL_BYTES 2
 
+/* counts of a table */
+#define GELMUSKO_COUNTS 1024
+
 /* passes */
 #define GELMUSKO_FIRST_PASS 0u
 #define GELMUSKO_SECOND_PASS 1u
@@ -85,9 +93,11 @@ extern "C" {
                                    form or a base */
 #define GELMUSKO_RANGE 40u      /* a density over 10,000. Only of gelmusko_texel */
 #define GELMUSKO_UNMEASURED 42u /* a type outside the list of types that have a size; place: that type. Only of
-                                   gelmusko_type_size, as 43 and 44 */
+                                   gelmusko_type_size and gelmusko_size_range, as 43 and 44 */
 #define GELMUSKO_MISPLACED 43u  /* a stride, an offset or a span breaks the rules; place: that type */
 #define GELMUSKO_HUGE 44u       /* a size of 2 to the 32 or more; place: that type */
+#define GELMUSKO_SPAN 45u       /* a least count of 0 or above its greatest; place: that override. Only of
+                                   gelmusko_size_range */
 #define GELMUSKO_DIFFERENT 256u /* a comparison: not the same type. out: b0 = 10, number 0 */
 #define GELMUSKO_NO_POINTER 257u /* a base: the type is no pointer. out: b0 = 10, number 0 */
 
@@ -144,6 +154,14 @@ uint32_t gelmusko_pointer_base(const uint8_t *text, size_t text_len, uint32_t li
 uint32_t gelmusko_type_size(const uint8_t *text, size_t text_len, uint32_t limit,
                             uint8_t *frames, size_t frames_len,
                             uint32_t n, uint8_t *out, size_t out_len);
+
+/* Alignment, least and greatest size in bytes of type n (b0 = 13), where the count of a pending array of override o is
+ * any from least[o] to greatest[o]. Returns 0 to 6; 45 with the lowest override of the file whose least count is 0 or
+ * above its greatest as its place; or 42, 43 or 44 with the lowest faulty type, at the greatest counts. */
+uint32_t gelmusko_size_range(const uint8_t *text, size_t text_len, uint32_t limit,
+                             uint8_t *frames, size_t frames_len,
+                             const uint32_t *least, size_t least_len, const uint32_t *greatest, size_t greatest_len,
+                             uint32_t n, uint8_t *out, size_t out_len);
 
 /* The R16Unorm texel of a density in hundredths of a per cent, 0 to 10,000: density times 65,535 divided by 10,000,
  * rounded to the nearest whole number, a half to the even one. Returns 0, and the first two bytes of out are the

@@ -28,11 +28,14 @@ contract file_lines::type_text
 contract file_pointers::canonical_form
 contract file_pointers::pointer_base
 contract file_sizes::type_size
+contract file_sizes::size_range
 contract text_encode::write_text
 contract text_limit::word_of
 contract text_limit::asked_by
+contract text_limit::counts::counts_of
 contract explain_file::explain_text
 contract explain_file::sizes_text
+contract explain_file::ranges_text
 contract texel::texel_of
 contract gelmusko::*
 theorem file_read/proofs/Laws.antt accepted-when long-when torn-when short-when order-when field-when index-when by-file
@@ -45,7 +48,7 @@ theorem law_verdicts/proofs/Numbers.antt verdict-numbers
 theorem law_verdicts/proofs/Each.antt one-each
 theorem file_read/proofs/Said.antt row-said verdict-said
 theorem file_read/proofs/Printed.antt text-fits
-theorem explain_file/proofs/Fits.antt explained-fits sized-fits
+theorem explain_file/proofs/Fits.antt explained-fits sized-fits ranged-fits
 theorem law_later_readers/proofs/Ours.antt type-rows-keeps row-type-keeps just-enough
 theorem law_later_readers/proofs/Only.antt only-ours
 theorem law_later_readers/proofs/ShutOut.antt not-all-newer not-before-reading not-as-another not-at-itself
@@ -53,6 +56,13 @@ theorem rule_rows/proofs/Wgsl.antt wgsl-is
 theorem rule_sizes/proofs/Table.antt in-the-table
 theorem law_sizes/proofs/Laws.antt fills-when fault-when
 theorem law_sizes/proofs/Source.antt source-size
+theorem rule_ranges/proofs/Laws.antt no-counts
+theorem law_ranges/proofs/Ranges.antt range-when range-reached range-within range-fixed faults-at-greatest refused-when span-when index-when asked-when
+theorem law_ranges/proofs/Steps.antt array-steps struct-steps
+theorem law_ranges/proofs/Same.antt fixed-same same-counts holds-when
+theorem law_ranges/proofs/Grow.antt grows fills-below only-huge
+theorem law_ranges/proofs/Laws.antt has-at-when fault-at-when
+theorem law_ranges/proofs/Free.antt entries-free
 theorem law_passes/proofs/Judged.antt binary-judged
 theorem law_passes/proofs/Alike.antt passes-alike rows-alike verdicts-alike row-frames-alike outputs-alike file-alike
 theorem law_passes/proofs/Apart.antt not-both not-first-pass not-first-pass-by-row

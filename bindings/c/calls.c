@@ -17,6 +17,7 @@ static void expect(const char *what, uint32_t got, uint32_t want)
 int main(void)
 {
     uint8_t out[16], frames[16], answers[16], before[16];
+    static const uint32_t counts[GELMUSKO_COUNTS];
     memset(out, 7, 16);
     memcpy(before, out, 16);
 
@@ -30,6 +31,10 @@ int main(void)
     expect("canonical_form", gelmusko_canonical_form(NULL, 0, 0, NULL, 0, 0, out, 16), GELMUSKO_INDEX);
     expect("pointer_base", gelmusko_pointer_base(NULL, 0, 0, NULL, 0, 0, out, 16), GELMUSKO_INDEX);
     expect("type_size", gelmusko_type_size(NULL, 0, 0, NULL, 0, 0, out, 16), GELMUSKO_INDEX);
+    expect("size_range, no tables", gelmusko_size_range(NULL, 0, 0, NULL, 0, NULL, 0, NULL, 0, 0, out, 16),
+           GELMUSKO_SHORT);
+    expect("size_range", gelmusko_size_range(NULL, 0, 0, NULL, 0, counts, 1024, counts, 1024, 0, out, 16),
+           GELMUSKO_INDEX);
     expect("frame of number 6", out[0] * 256u + out[1], 10 * 256 + 6);
 
     /* no out, or one that is too short */
@@ -57,6 +62,9 @@ int main(void)
     expect("no pointer", gelmusko_pointer_base(text, 33, 0, frames, 16, 0, out, 16), GELMUSKO_NO_POINTER);
     expect("f32 fills 4 bytes", gelmusko_type_size(text, 33, 0, frames, 16, 0, out, 16), GELMUSKO_GIVEN);
     expect("its frame", out[0] * 65536u + out[4] * 256u + out[8], 12 * 65536 + 4 * 256 + 4);
+    expect("at any counts", gelmusko_size_range(text, 33, 0, frames, 16, counts, 1024, counts, 1024, 0, out, 16),
+           GELMUSKO_GIVEN);
+    expect("its frame", out[0] * 65536u + out[8] * 256u + out[12], 13 * 65536 + 4 * 256 + 4);
     expect("65,536 is no type", gelmusko_pointer_base(text, 33, 0, frames, 16, 65536, out, 16), GELMUSKO_INDEX);
 
     /* a texel has two bytes, low byte first */

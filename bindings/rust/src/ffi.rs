@@ -90,5 +90,19 @@ extern "C" {
         out: *mut u8,
         out_len: usize,
     ) -> u32;
+    pub fn gelmusko_size_range(
+        text: *const u8,
+        text_len: usize,
+        limit: u32,
+        frames: *mut u8,
+        frames_len: usize,
+        least: *const u32,
+        least_len: usize,
+        greatest: *const u32,
+        greatest_len: usize,
+        n: u32,
+        out: *mut u8,
+        out_len: usize,
+    ) -> u32;
     pub fn gelmusko_texel(density: u32, out: *mut u8, out_len: usize) -> u32;
 }

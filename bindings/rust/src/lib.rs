@@ -20,11 +20,13 @@ use std::fmt;
 pub const FRAMES_BYTES: usize = 16_384;
 /// Bytes of an answer buffer that are enough for every file.
 pub const ANSWERS_BYTES: usize = 32_768;
+/// Counts of a table, one for each override of a file; those past its overrides are free.
+pub const COUNTS: usize = 1_024;
 
 const DIFFERENT: u32 = 256;
 const NO_POINTER: u32 = 257;
 
-/// Sixteen bytes, numbers with their low byte first. Byte 0 is the family: 1 to 5 in a file, 8 to 11 in what is handed back.
+/// Sixteen bytes, numbers with their low byte first. Byte 0 is the family: 1 to 5 in a file, 8 to 13 in what is handed back.
 #[derive(Clone, Copy, Default, PartialEq, Eq, Hash)]
 pub struct Frame(pub [u8; 16]);
 
@@ -236,6 +238,35 @@ pub enum TypeSize {
     /// 44: count times stride is 2 to the 32 or more.
     Huge {
         ty: u16,
+    },
+    Refused(Outcome),
+}
+
+/// What asking for the range of the bytes that a type fills gives. `Refused` has the file's number, or 6; 42 to 44 name the lowest faulty type that the size rests on at the greatest
+/// counts.
+#[derive(Clone, Copy, Debug, PartialEq, Eq)]
+pub enum SizeRange {
+    /// The alignment, 2, 4, 8 or 16, and the least and the greatest size, all in bytes.
+    Spans {
+        align: u8,
+        least: u32,
+        greatest: u32,
+    },
+    /// 42: a type outside the list.
+    Unmeasured {
+        ty: u16,
+    },
+    /// 43: a stride, an offset or a span breaks the rules.
+    Misplaced {
+        ty: u16,
+    },
+    /// 44: a greatest size of 2 to the 32 or more.
+    Huge {
+        ty: u16,
+    },
+    /// 45: the least count of that override is 0 or above its greatest.
+    Span {
+        item: u16,
     },
     Refused(Outcome),
 }
@@ -591,6 +622,47 @@ impl Limit {
             _ => TypeSize::Refused(Outcome::of(out)),
         }
     }
+
+    /// Alignment, least and greatest size in bytes of type n, where the count of a pending array of override o is any from `least[o]` to `greatest[o]`. A table of fewer than [`COUNTS`]
+    /// is number 3.
+    pub fn size_range(
+        self,
+        text: &[u8],
+        frames: &mut [u8],
+        least: &[u32],
+        greatest: &[u32],
+        n: u32,
+    ) -> SizeRange {
+        let mut out = Frame::default();
+        let number = unsafe {
+            ffi::gelmusko_size_range(
+                text.as_ptr(),
+                text.len(),
+                self.0,
+                frames.as_mut_ptr(),
+                frames.len(),
+                least.as_ptr(),
+                least.len(),
+                greatest.as_ptr(),
+                greatest.len(),
+                n,
+                out.0.as_mut_ptr(),
+                16,
+            )
+        };
+        match number {
+            0 => SizeRange::Spans {
+                align: out.0[4],
+                least: out.second(),
+                greatest: u32::from_le_bytes([out.0[12], out.0[13], out.0[14], out.0[15]]),
+            },
+            42 => SizeRange::Unmeasured { ty: out.place() },
+            43 => SizeRange::Misplaced { ty: out.place() },
+            44 => SizeRange::Huge { ty: out.place() },
+            45 => SizeRange::Span { item: out.place() },
+            _ => SizeRange::Refused(Outcome::of(out)),
+        }
+    }
 }
 
 /// [`Limit::read_file`] within 1,024 frames.
@@ -643,6 +715,17 @@ pub fn pointer_base(text: &[u8], frames: &mut [u8], n: u32) -> PointerBase {
 /// [`Limit::type_size`] within 1,024 frames.
 pub fn type_size(text: &[u8], frames: &mut [u8], n: u32) -> TypeSize {
     Limit::default().type_size(text, frames, n)
+}
+
+/// [`Limit::size_range`] within 1,024 frames.
+pub fn size_range(
+    text: &[u8],
+    frames: &mut [u8],
+    least: &[u32],
+    greatest: &[u32],
+    n: u32,
+) -> SizeRange {
+    Limit::default().size_range(text, frames, least, greatest, n)
 }
 
 /// The R16Unorm texel of a density in hundredths of a per cent, 0 to 10,000: the nearest to as large a part of 65,535, of two that are equally near the even one.

@@ -147,7 +147,7 @@ fn faults_of_frames_leave_the_frames() {
     }
 }
 
-/// What the seven functions return with these buffers, an `out` of so many bytes among them, and that `out`.
+/// What the nine functions return with these buffers, an `out` of so many bytes among them, and that `out`.
 fn with_out(
     file: &[u8],
     frames: &mut [u8],
@@ -158,6 +158,8 @@ fn with_out(
     let (a, k) = (answers.as_mut_ptr(), answers.len());
     let frame = bytes(&["08000000000000000000000000000000"]);
     let (l, z) = (frame.as_ptr(), frame.len());
+    let counts = vec![1; gelmusko::COUNTS];
+    let (c, w) = (counts.as_ptr(), counts.len());
     let call = |function: &dyn Fn(*mut u8) -> u32| {
         let mut out = lent(out_bytes);
         (function(out.as_mut_ptr()), out)
@@ -173,6 +175,7 @@ fn with_out(
         call(&|o| unsafe { ffi::gelmusko_canonical_form(t, n, 0, f, m, 0, o, out_bytes) }),
         call(&|o| unsafe { ffi::gelmusko_pointer_base(t, n, 0, f, m, 0, o, out_bytes) }),
         call(&|o| unsafe { ffi::gelmusko_type_size(t, n, 0, f, m, 0, o, out_bytes) }),
+        call(&|o| unsafe { ffi::gelmusko_size_range(t, n, 0, f, m, c, w, c, w, 0, o, out_bytes) }),
     ]
 }
 
@@ -213,6 +216,8 @@ fn exact_and_long_out() {
             (0, accepted),
             (0, type_0),
             (257, accepted),
+            (0, "0c000000040000000400000000000000"),
+            (0, "0d000000040000000400000004000000"),
         ]) {
             assert_eq!(number, expected);
             assert_eq!(out, after(&bytes(&[frame]), out_bytes));

@@ -17,6 +17,7 @@ use Rattle.archive.specs.Starts.{start, startsOf}
 use Rattle.archive.specs.Names.{namesOk}
 use Rattle.archive.specs.Parts.{earlyOk}
 use Rattle.archive.specs.Checks.{indexOk, checkFrames}
+use Rattle.answers.specs.Limit.{maxFrames}
 use Rattle.archive.specs.Access.{typeIn, rowIn}
 use Rattle.rule.specs.Things.{listed}
 use Rattle.rule_types.specs.Canonical.{equalTypes, identical, canonicalTypeIn, pointerBaseIn}
@@ -33,10 +34,13 @@ use Rattle.explain_lines.specs.Types.{picked, named, scalarWords, around, vecto
 use Rattle.explain_lines.specs.Answers.{manner, reason, refusal, judged, said, shown, ending, lineOf, faultWords}
 use Rattle.explain_file.specs.Explained.{joined, nextRow, rowAt, linesOf, explained}
 use Rattle.rule_sizes.specs.Sizes as Sz
-use Rattle.rule_sizes.specs.Sizes.{arrayOf, partsOf, spanned, structOf, measures, measureIn, sizeFrames}
-use Rattle.explain_lines.specs.Sizes.{sizeWords, sizeLineOf}
-use Rattle.explain_file.specs.Sized.{sizesOf, sized}
-use Rattle.case_explain.specs.Table.{Room, over, below, Case, table, SizeCase, sizes}
+use Rattle.rule_sizes.specs.Sizes.{arrayOf, partsOf, spanned, structOf, measures, measureIn, framesOf}
+use Rattle.rule_ranges.specs.Pending.{memberHolds, holding, holdsPending}
+use Rattle.rule_ranges.specs.Counts.{freshParts, freshStruct, measuresBy, measureBy}
+use Rattle.rule_ranges.specs.Ranges.{countsOf, rangeIn, faultySpan}
+use Rattle.explain_lines.specs.Sizes.{sizeWords, spanWords, sizeLineOf}
+use Rattle.explain_file.specs.Sized.{sizesOf, sized, rangesOf, ranged}
+use Rattle.case_explain.specs.Table.{Room, over, below, Case, table, SizeCase, sizes, RangeCase, ranges}
 
 -- the output buffer, of bytes 7
 abbrev sizedBy : ℕ → Room → ℕ
@@ -76,5 +80,23 @@ abbrev wantedSizes : SizeCase → Printed × List ℕ
 wantedSizes c = left (lines (c .lines)) (c .room)
 
 sizes-worked : map givenSizes sizes ≡ map wantedSizes sizes
-unfolding lowest allBelow build sumBelow digitValue lineOk byteOf answerFrames tooShort mostFrames readText frameAt typeOf itemOf rowOf memberOf componentOf fieldsFit orderOk start startsOf namesOk earlyOk indexOk checkFrames readFile printed printedAfter typeIn digitOf charOf wordBytes W.table digits pieceBytes spelled picked named scalarWords around vector brief within pointer array cooperative className arrayedName image whole faultWords joined sizeWords sizeLineOf sizesOf sizeFrames measures measureIn arrayOf Sz.joined partsOf spanned structOf
+unfolding lowest allBelow build sumBelow digitValue lineOk byteOf answerFrames tooShort mostFrames readText frameAt typeOf itemOf rowOf memberOf componentOf fieldsFit orderOk start startsOf namesOk earlyOk indexOk checkFrames readFile printed printedAfter typeIn digitOf charOf wordBytes W.table digits pieceBytes spelled picked named scalarWords around vector brief within pointer array cooperative className arrayedName image whole faultWords joined sizeWords sizeLineOf sizesOf framesOf measures measureIn arrayOf Sz.joined partsOf spanned structOf
 sizes-worked = refl
+
+-- THE RANGES of them: the same of `ranges_text`
+
+abbrev rangedText : RangeCase → List ℕ
+rangedText c = ranged maxFrames (countsOf (c .least)) (countsOf (c .greatest)) (lines (c .text))
+
+abbrev lentRanges : RangeCase → List ℕ
+lentRanges c = replicate (sizedBy (length (lines (c .lines))) (c .room)) 7
+
+abbrev givenRanges : RangeCase → Printed × List ℕ
+givenRanges c = (printed (rangedText c) (length (lentRanges c)), printedAfter (rangedText c) (lentRanges c))
+
+abbrev wantedRanges : RangeCase → Printed × List ℕ
+wantedRanges c = left (lines (c .lines)) (c .room)
+
+ranges-worked : map givenRanges ranges ≡ map wantedRanges ranges
+unfolding lowest allBelow build sumBelow digitValue lineOk byteOf answerFrames tooShort mostFrames readText frameAt typeOf itemOf rowOf memberOf componentOf fieldsFit orderOk start startsOf namesOk earlyOk indexOk checkFrames readFile printed printedAfter typeIn digitOf charOf wordBytes W.table digits pieceBytes spelled picked named scalarWords around vector brief within pointer array cooperative className arrayedName image whole faultWords joined sizeWords spanWords sizeLineOf rangesOf framesOf arrayOf Sz.joined partsOf spanned structOf memberHolds holding holdsPending freshParts freshStruct measuresBy measureBy rangeIn faultySpan
+ranges-worked = refl

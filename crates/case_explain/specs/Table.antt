@@ -134,3 +134,63 @@ sizes =
     ∷ record { text = "01010000020400000000000000000000" ∷ []; limit = maxFrames; lines = "type 0  f32  align 4, size 4" ∷ []; room = over 3 }
     ∷ record { text = "01010000020400000000000000000000" ∷ []; limit = maxFrames; lines = "type 0  f32  align 4, size 4" ∷ []; room = below 1 }
     ∷ []
+
+-- A TEXT, least and greatest counts, and the lines of its types' ranges
+pub record RangeCase : Type 0 where
+  pub text : List String
+  pub least : List ℕ
+  pub greatest : List ℕ
+  pub lines : List String
+  pub room : Room
+
+-- f32; vec3<f32>; an array of f32 over override 0; a struct of the two and f32; two elements of that array; a bool
+abbrev counted : List String
+counted =
+    "01010000020400000000000000000000" ∷
+    "01020300020400000000000000000000" ∷
+    "01080000010000000000000004000000" ∷
+    "01090000030000000000000000000000" ∷
+    "01080200000000000200000010000000" ∷
+    "01010000030100000000000000000000" ∷
+    "02000100000000000000000000000000" ∷
+    "02000200000000000000000000000000" ∷
+    "02000000000000000000000000000000" ∷
+    "03020000000000000000000000000000" ∷
+    "03020000000000000000000000000000" ∷ []
+
+-- one line
+abbrev faulty : List String → List ℕ → List ℕ → String → RangeCase
+faulty t y z l = record { text = t; least = y; greatest = z; lines = l ∷ []; room = over 0 }
+
+abbrev pub ranges : List RangeCase
+ranges =
+    record {
+      text = counted;
+      least = 1 ∷ 2 ∷ [];
+      greatest = 5 ∷ 2 ∷ [];
+      lines =
+          "type 0  f32  align 4, size 4 to 4" ∷
+          "type 1  vec3<f32>  align 16, size 12 to 12" ∷
+          "type 2  array<f32, override 0>  align 4, size 4 to 20" ∷
+          "type 3  struct  align 16, size 32 to 48" ∷
+          "type 4  array<type 2, 2>  refused 42 unmeasured: type 4" ∷
+          "type 5  bool  refused 42 unmeasured: type 5" ∷ [];
+      room = over 2;
+    }
+    -- 44 goes by the greatest
+    ∷ record {
+      text =
+          "01010000020400000000000000000000" ∷
+          "01080000010000000000000004000000" ∷
+          "03020000000000000000000000000000" ∷ [];
+      least = 1 ∷ [];
+      greatest = 1073741824 ∷ [];
+      lines = "type 0  f32  align 4, size 4 to 4" ∷ "type 1  array<f32, override 0>  refused 44 huge: type 1" ∷ [];
+      room = over 0;
+    }
+    -- number 45 comes before any size; a count that is not there is 0
+    ∷ faulty counted (1 ∷ 3 ∷ []) (5 ∷ 2 ∷ []) "number 45, span: override 1"
+    ∷ faulty counted (1 ∷ []) (5 ∷ []) "number 45, span: override 1"
+    -- the file's own number comes first
+    ∷ faulty noCount [] [] "line 2: number 5, field: a byte is outside its values"
+    ∷ []

@@ -5,6 +5,8 @@ use native.Mathlib.Omega.{arith}
 use mathlib.Core.Path.{_≡_, refl}
 use mathlib.Core.List.{List}
 use lib.ListN.{length}
+use Rattle.scan.specs.declared.Found.{Found}
+use Rattle.scan.specs.declared.Found.the-variants.{At, Nothing}
 use Rattle.answers.specs.declared.Outcome.{Outcome}
 use Rattle.answers.specs.declared.Outcome.the-variants.{Accepted, Long, Torn, Short, Order, Field, Index}
 use Rattle.answers.specs.Limit.{maxFrames, maxFrameBytes, maxAnswerBytes}
@@ -13,18 +15,21 @@ use Rattle.text.specs.Lines.{decoded}
 use Rattle.text.proofs.Laws.{count-small}
 use Rattle.frames.specs.Bytes.{frameAt, frameCount}
 use Rattle.frames.specs.Out.{outcomeFrame}
-use Rattle.archive.specs.Starts.{startsOf, typeCount}
+use Rattle.archive.specs.Starts.{startsOf, typeCount, overrideCount}
 use Rattle.archive.proofs.Owners.{starts-small}
-use Rattle.rule_sizes.specs.Sizes.{sizeFrames}
-use Rattle.type_sizes.proofs.Written.{sizes-long}
+use Rattle.archive.proofs.Ranks.{begins}
+use Rattle.rule_sizes.specs.Sizes.{framesOf, sizeFrame, sizeFrames}
+use Rattle.rule_ranges.specs.Counts.{Counts}
+use Rattle.rule_ranges.specs.Ranges.{faultySpan, rangeFrame}
+use Rattle.type_sizes.proofs.Written.{frames-long}
 use Rattle.rule_rows.specs.declared.Pass.{Pass}
 use Rattle.rule_answers.specs.Outputs.{outputBytes}
 use Rattle.file_read.specs.File.{overFile, readFile}
 use Rattle.file_read.proofs.Laws.{count-decoded, accepted-when}
 use Rattle.file_read.proofs.Printed.{few-outputs}
-use Rattle.explain_lines.proofs.Long.{line-long, fault-long, size-line-long}
+use Rattle.explain_lines.proofs.Long.{line-long, fault-long, size-line-long, span-long}
 use Rattle.explain_file.specs.Explained.{allOf, rowAt, lineAt, faultLines, fileLines, linesOf, explained, maxExplainedBytes}
-use Rattle.explain_file.specs.Sized.{sizeLineAt, fileSizes, sizesOf, sized, maxSizedBytes}
+use Rattle.explain_file.specs.Sized.{sizeLineAt, sizeLines, fileSizes, sizesOf, sized, spanLines, orSpan, rangesIn, rangesOf, ranged, maxSizedBytes}
 use Rattle.explain_file.proofs.Fitting.{joined-long}
 
 -- the line of a fault
@@ -68,9 +73,46 @@ sized-fits limit t = go (readFile limit t maxFrameBytes NotLent) refl
         omega (
           arith,
           joined-long (sizeLineAt fr z) 176 (frameCount z) (λ k. size-line-long fr (record { 0 = k }) (frameAt z k)),
-          sizes-long fr s (typeCount s),
+          frames-long (sizeFrame fr s) s (typeCount s),
           few-types limit t maxFrameBytes n e,
         )
+    go (Long m) e = omega (arith, fault-line (Long m))
+    go (Torn k) e = omega (arith, fault-line (Torn k))
+    go Short e = omega (arith, fault-line Short)
+    go (Order k) e = omega (arith, fault-line (Order k))
+    go (Field k) e = omega (arith, fault-line (Field k))
+    go (Index k) e = omega (arith, fault-line (Index k))
+
+-- AND SO DO THE RANGES
+pub overrides-few : (limit : ℕ) (t : List ℕ) (f n : ℕ) → readFile limit t f NotLent ≡ Accepted n
+    → overrideCount (startsOf (decoded t n)) ≤ maxFrames
+unfolding startsOf
+overrides-few limit t f n e =
+    let few : frameCount (decoded t n) ≤ maxFrames =
+    rw (count-decoded t n) (count-small (accepted-when limit t f NotLent n .0 e .readable)) in
+    omega (arith, few, begins (decoded t n) 771 .within)
+
+pub ranged-fits : (limit : ℕ) (least greatest : Counts) (t : List ℕ) → length (ranged limit least greatest t) ≤ maxSizedBytes
+unfolding rangesOf
+ranged-fits limit least greatest t = go (readFile limit t maxFrameBytes NotLent) refl
+  where
+    by-span : (fr : List ℕ) (f : Found) → typeCount (startsOf fr) ≤ maxFrames
+        → length (allOf (orSpan f (sizeLines fr (framesOf (rangeFrame fr (startsOf fr) least greatest) (typeCount (startsOf fr)))))) ≤ maxSizedBytes
+    by-span fr (At o) h = omega (arith, joined-long (spanLines o .line) 142 1 (λ k. span-long o))
+    by-span fr Nothing h =
+        let s = startsOf fr in
+        let z = framesOf (rangeFrame fr s least greatest) (typeCount s) in
+        omega (
+          arith,
+          joined-long (sizeLineAt fr z) 176 (frameCount z) (λ k. size-line-long fr (record { 0 = k }) (frameAt z k)),
+          frames-long (rangeFrame fr s least greatest) s (typeCount s),
+          h,
+        )
+
+    go : (o : Outcome) → readFile limit t maxFrameBytes NotLent ≡ o
+        → length (allOf (overFile faultLines (λ (fr : List ℕ). rangesIn fr (startsOf fr) least greatest) t o)) ≤ maxSizedBytes
+    go (Accepted n) e =
+        by-span (decoded t n) (faultySpan (startsOf (decoded t n)) least greatest) (few-types limit t maxFrameBytes n e)
     go (Long m) e = omega (arith, fault-line (Long m))
     go (Torn k) e = omega (arith, fault-line (Torn k))
     go Short e = omega (arith, fault-line Short)

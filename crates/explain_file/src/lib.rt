@@ -1,14 +1,17 @@
-// A file explained to people: a line for each row and one more after a compose, in words; one line for a file that is not accepted (specs/Explained.antt). And a line for each type with its size
+// A file explained to people: a line for each row and one more after a compose, in words; one line for a file that is
+// not accepted (specs/Explained.antt). And a line for each type with its size, or the range of its sizes
 // (specs/Sized.antt).
 use answers::MAX_ANSWER_BYTES;
 use answers::MAX_FRAME_BYTES;
 use answers::MAX_FRAMES;
 use answers::Outcome;
 use answers::Printed;
+use archive::Starts;
 use archive_access::families::find_starts;
 use explain_lines::lines::put_fault;
 use explain_lines::lines::put_line;
 use explain_lines::lines::put_size;
+use explain_lines::lines::put_span;
 use explain_words::copy;
 use file_read::OptionUsize;
 use file_read::frames_in;
@@ -21,15 +24,20 @@ use frames_answers::write::outcome_frame;
 use ir::RowNumber;
 use ir::TypeNumber;
 use rule_rows::Pass;
+use scan::Found;
 use type_sizes::measure_all;
+use type_sizes::pending::faulty_span;
+use type_sizes::range_all;
 ghost use mathlib.Core.Path.{_≡_};
 ghost use Prim.Native.Nat.{_≤_, _<_};
 ghost use lib.ListN.{length};
-ghost use Rattle.answers.specs.Limit.{maxFrameBytes, maxAnswerBytes};
+ghost use Rattle.answers.specs.Limit.{maxFrames, maxFrameBytes, maxAnswerBytes};
 ghost use Rattle.answers.specs.Numbers.{printedSaid};
 ghost use Rattle.file_read.specs.Printed.{printed, printedAfter};
 ghost use Rattle.explain_file.specs.Explained.{nextRow, maxExplainedBytes, answerLines, faultLines, linesOf, explained};
-ghost use Rattle.explain_file.specs.Sized.{sizeLines, sizesOf, sized, maxSizedBytes};
+ghost use Rattle.archive.specs.Starts.{typeCount, overrideCount};
+ghost use Rattle.rule_ranges.specs.Ranges.{countsOf};
+ghost use Rattle.explain_file.specs.Sized.{sizeLines, sizesOf, sized, spanLines, rangesIn, rangesOf, ranged, maxSizedBytes};
 ghost use Rattle.explain_file.specs.ForProofs.{Shown};
 
 // The bytes that the lines of any file fit into, at most 142 each.
@@ -205,5 +213,108 @@ pub fn sizes_text(text: &[u8], limit: u32, out: &mut [u8]) -> Printed
     let mut line = [0u8; 1296];
     let mut lines = [0u8; MAX_SIZED_BYTES];
     let m = sizes_with(text, limit, &mut frames, &mut sizes, &mut line, &mut lines);
+    print(&lines[..m], out)
+}
+
+// The line of number 45.
+fn explain_span(o: u16, line: &mut [u8], out: &mut [u8]) -> usize
+    requires { ⌜ (length (now line) ≡ 1296) × (142 ≤ length (now out)) ⌝ }
+    ensures { λ r. ⌜ Shown (spanLines o) (now (out .entry)) r (now (out .exit)) ⌝ }
+{
+    let m = put_span(o, line);
+    copy(&line[..m], out, 0);
+    m
+}
+
+// The lines of the ranges of a file's types.
+fn range_lines(
+    frames: &[u8],
+    s: Starts,
+    least: &[u32],
+    greatest: &[u32],
+    sizes: &mut [u8],
+    line: &mut [u8],
+    out: &mut [u8],
+) -> usize
+    requires starts { ⌜ (typeCount s ≤ maxFrames) × (overrideCount s ≤ maxFrames) ⌝ }
+    requires sizes { ⌜ length (now sizes) ≡ maxFrameBytes ⌝ }
+    requires line { ⌜ length (now line) ≡ 1296 ⌝ }
+    requires out { ⌜ length (now out) ≡ maxSizedBytes ⌝ }
+    ensures { λ r. ⌜ Shown (rangesIn (now (frames .entry)) s (countsOf (now (least .entry)))
+        (countsOf (now (greatest .entry)))) (now (out .entry)) r (now (out .exit)) ⌝ }
+{
+    match faulty_span(s, least, greatest) {
+        Found::At(o) => explain_span(o as u16, line, out),
+        Found::Nothing => {
+            range_all(frames, s, least, greatest, sizes);
+            let e = 16 * s.members;
+            size_lines(frames, &sizes[..e], line, out)
+        }
+    }
+}
+
+// Those of a text, over lent buffers of the largest sizes that a file asks for.
+fn ranges_with(
+    text: &[u8],
+    limit: u32,
+    least: &[u32],
+    greatest: &[u32],
+    frames: &mut [u8],
+    sizes: &mut [u8],
+    line: &mut [u8],
+    out: &mut [u8],
+) -> usize
+    requires frames { ⌜ length (now frames) ≡ maxFrameBytes ⌝ }
+    requires sizes { ⌜ length (now sizes) ≡ maxFrameBytes ⌝ }
+    requires line { ⌜ length (now line) ≡ 1296 ⌝ }
+    requires out { ⌜ length (now out) ≡ maxSizedBytes ⌝ }
+    ensures { λ r. ⌜ Shown (rangesOf limit (countsOf (now (least .entry))) (countsOf (now (greatest .entry)))
+        (now (text .entry))) (now (out .entry)) r (now (out .exit)) ⌝ }
+{
+    let read = read_file(text, limit, frames);
+    match frames_in(read) {
+        OptionUsize::None => explain_fault(read, line, out),
+        OptionUsize::Some(n) => {
+            let m = 16 * n;
+            let s = find_starts(&frames[..m]);
+            range_lines(&frames[..m], s, least, greatest, sizes, line, out)
+        }
+    }
+}
+
+// The ranges of the sizes of a file's types between two tables of counts, where an entry that is not there is 0: as
+// `sizes_text`, and one line where an override is at fault (45). MAX_SIZED_BYTES are room for any file's
+// (`ranged-fits`).
+pub fn ranges_text(
+    text: &[u8],
+    limit: u32,
+    least: &[u32],
+    greatest: &[u32],
+    out: &mut [u8],
+) -> Printed
+    ensures outcome { λ r. ⌜ r
+        ≡ printed (ranged limit (countsOf (now (least .entry))) (countsOf (now (greatest .entry)))
+        (now (text .entry))) (length (now (out .entry))) ⌝ }
+    ensures said { λ r. ⌜ printedSaid r
+        ≡ printedSaid (printed (ranged limit (countsOf (now (least .entry))) (countsOf (now (greatest .entry)))
+        (now (text .entry))) (length (now (out .entry)))) ⌝ }
+    ensures out { λ r. ⌜ now (out .exit)
+        ≡ printedAfter (ranged limit (countsOf (now (least .entry))) (countsOf (now (greatest .entry)))
+        (now (text .entry))) (now (out .entry)) ⌝ }
+{
+    let mut frames = [0u8; MAX_FRAME_BYTES];
+    let mut sizes = [0u8; MAX_FRAME_BYTES];
+    let mut line = [0u8; 1296];
+    let mut lines = [0u8; MAX_SIZED_BYTES];
+    let m = ranges_with(
+        text,
+        limit,
+        least,
+        greatest,
+        &mut frames,
+        &mut sizes,
+        &mut line,
+        &mut lines,
+    );
     print(&lines[..m], out)
 }

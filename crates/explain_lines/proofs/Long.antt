@@ -23,7 +23,7 @@ use Rattle.explain_lines.specs.declared.ScalarWords.{ScalarWords}
 use Rattle.explain_lines.specs.declared.Short.{Short}
 use Rattle.explain_lines.specs.Types.{picked, isScalar, named, bytesOf, scalarWords, around, byNumber, vector, isBrief, brief, within, inside, pointer, array, cooperative, className, arrayedName, image, unknownKind, whole}
 use Rattle.explain_lines.specs.Answers.{manner, reason, refusal, judged, said, shown, ending, lineOf, faultWords, faultOf}
-use Rattle.explain_lines.specs.Sizes.{sizeWords, sizeLineOf}
+use Rattle.explain_lines.specs.Sizes.{sizeWords, sizeLineOf, spanWords, spanOf}
 use Rattle.explain_lines.proofs.Runs.{three-spelled}
 
 -- a piece has at most m bytes; pieces have
@@ -288,15 +288,22 @@ fault-long f =
     (simp (piece-long, none-long)
     (omega (arith, number-long (half f 2 + 1), number-long (f .b1), picked-long W.fault 1 6 (f .b1) 48 refl refl))))
 
--- THE LINE of a type's size: 17 bytes for the type's number, 106 for its spelling, 49 for what its frame says
-size-words-long : (f : Frame) → Pieces (sizeWords f) 49
+-- THE LINE of a type's size: 17 bytes for the type's number, 106 for its spelling, 50 for what its frame says
+size-words-long : (f : Frame) → Pieces (sizeWords f) 50
 unfolding sizeWords pieceBytes wordBytes W.table longest
 size-words-long f =
-    more _ _ _ 2 47 (omega arith)
-    (by-cond (λ l. Pieces l 47) (eqb (f .b0) 12) _ _
+    more _ _ _ 2 48 (omega arith)
+    (by-cond (λ l. Pieces l 48) (eqb (f .b0) 12) _ _
     (simp (piece-long, none-long) (omega (arith, number-long (f .b4), number-long (word f 8))))
+    (by-cond (λ l. Pieces l 48) (eqb (f .b0) 13) _ _
+    (simp (piece-long, none-long) (omega (arith, number-long (f .b4), number-long (word f 8), number-long (word f 12))))
     (simp (piece-long, none-long)
-    (omega (arith, number-long (f .b1), picked-long W.unmeasured 42 3 (f .b1) 18 refl refl, number-long (half f 2))))) refl
+    (omega (arith, number-long (f .b1), picked-long W.unmeasured 42 3 (f .b1) 18 refl refl, number-long (half f 2)))))) refl
+
+-- THE LINE of number 45
+pub span-long : (o : ℕ) → length (spanOf o) ≤ 142
+unfolding spanWords pieceBytes wordBytes W.table longest
+span-long o = simp (piece-long, none-long) (omega (arith, number-long 45, number-long o))
 
 pub size-line-long : (fr : List ℕ) (n : TypeNumber) (f : Frame) → length (sizeLineOf fr n f) ≤ 176
 unfolding sizeLineOf pieceBytes wordBytes W.table

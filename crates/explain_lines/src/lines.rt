@@ -16,7 +16,7 @@ ghost use Rattle.explain_lines.specs.ForProofs.{filled};
 ghost use Rattle.explain_lines.specs.Answers.{manner, reason, refusal, judged, said, shown, ending, lineOf, faultWords, faultOf};
 ghost use Rattle.explain_words.specs.Lines.{spelled};
 ghost use Rattle.explain_words.specs.ForProofs.{written};
-ghost use Rattle.explain_lines.specs.Sizes.{sizeWords, sizeLineOf};
+ghost use Rattle.explain_lines.specs.Sizes.{sizeWords, sizeLineOf, spanOf};
 ghost use Rattle.explain_lines.specs.LinesForProofs.{madeIn, madeLong};
 
 fn manner(flag: u8) -> u64
@@ -417,9 +417,9 @@ pub fn put_fault(f: Frame, line: &mut [u8]) -> usize
 fn size_words(f: Frame) -> [u64; 8]
     ensures { λ r. ⌜ r ≡ filled 8 (sizeWords f) ⌝ }
 {
+    let align = num(f.b4 as u32);
+    let size = num(f.third());
     if f.b0 == 12 {
-        let align = num(f.b4 as u32);
-        let size = num(f.third());
         return [
             table::GAP,
             table::ALIGN,
@@ -429,6 +429,19 @@ fn size_words(f: Frame) -> [u64; 8]
             table::FEED,
             0,
             0,
+        ];
+    }
+    if f.b0 == 13 {
+        let greatest = num(f.last());
+        return [
+            table::GAP,
+            table::ALIGN,
+            align,
+            table::SIZE,
+            size,
+            table::TO,
+            greatest,
+            table::FEED,
         ];
     }
     let number = num(f.b1 as u32);
@@ -460,4 +473,23 @@ pub fn put_size(frames: &[u8], n: TypeNumber, f: Frame, line: &mut [u8]) -> usiz
     let body = whole(frames, frame_at(frames, n.0 as usize));
     let end = size_words(f);
     put_runs(&head, &body, &end, line)
+}
+
+// The same of the line of number 45, by its override.
+pub fn put_span(o: u16, line: &mut [u8]) -> usize
+    ensures { λ r. ⌜ (r ≡ madeLong (now (line .entry)) (spanOf o))
+        × (r ≤ 1296)
+        × (now (line .exit) ≡ madeIn (now (line .entry)) (spanOf o)) ⌝ }
+{
+    if line.len() < 1296 {
+        return 0;
+    }
+    let words = [
+        table::NUMBER,
+        num(45),
+        table::SPAN,
+        num(o as u32),
+        table::FEED,
+    ];
+    put_pieces(&words, line, 0)
 }

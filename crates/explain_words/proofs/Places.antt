@@ -41,7 +41,7 @@ starts =
     514 ∷ 521 ∷ 528 ∷ 536 ∷ 544 ∷ 552 ∷ 559 ∷ 566 ∷ 573 ∷ 580 ∷ 588 ∷ 596 ∷ 604 ∷ 613 ∷ 623 ∷ 633 ∷ 642 ∷ 651 ∷ 661 ∷ 672 ∷ 684 ∷ 697 ∷ 704 ∷ 712 ∷
     720 ∷ 729 ∷ 739 ∷ 749 ∷ 760 ∷ 770 ∷ 780 ∷ 791 ∷ 799 ∷ 807 ∷ 816 ∷ 825 ∷ 836 ∷ 847 ∷ 854 ∷ 872 ∷ 894 ∷ 931 ∷ 940 ∷ 964 ∷ 972 ∷ 992 ∷ 1013 ∷ 1030 ∷
     1051 ∷ 1072 ∷ 1094 ∷ 1114 ∷ 1147 ∷ 1186 ∷ 1203 ∷ 1240 ∷ 1287 ∷ 1295 ∷ 1316 ∷ 1337 ∷ 1366 ∷ 1375 ∷ 1381 ∷ 1401 ∷ 1428 ∷ 1459 ∷ 1476 ∷ 1493 ∷
-    1517 ∷ 1525 ∷ 1530 ∷ 1532 ∷ 1539 ∷ 1552 ∷ 1589 ∷ 1624 ∷ 1656 ∷ 1693 ∷ 1741 ∷ 1750 ∷ 1756 ∷ 1763 ∷ 1781 ∷ 1798 ∷ 1810 ∷ []
+    1517 ∷ 1525 ∷ 1530 ∷ 1532 ∷ 1539 ∷ 1552 ∷ 1589 ∷ 1624 ∷ 1656 ∷ 1693 ∷ 1741 ∷ 1750 ∷ 1756 ∷ 1763 ∷ 1781 ∷ 1798 ∷ 1810 ∷ 1814 ∷ 1831 ∷ []
 
 abbrev pub start : ℕ → ℕ
 start i = getD starts i 0
@@ -49,21 +49,21 @@ start i = getD starts i 0
 abbrev pub next : ℕ → ℕ
 next i = getD starts (i + 1) 0
 
-pub next-is : (i : ℕ) → i < 161 → next i ≡ start i + length (wordBytes i)
+pub next-is : (i : ℕ) → i < 163 → next i ≡ start i + length (wordBytes i)
 unfolding listed wordBytes table
-next-is i h = agree next (λ (k : ℕ). start k + length (wordBytes k)) 161 i refl h
+next-is i h = agree next (λ (k : ℕ). start k + length (wordBytes k)) 163 i refl h
 
-pub word-is : (i : ℕ) → i < 161 → take (next i - start i) (drop (start i) (run table)) ≡ wordBytes i
+pub word-is : (i : ℕ) → i < 163 → take (next i - start i) (drop (start i) (run table)) ≡ wordBytes i
 unfolding listed wordBytes table
-word-is i h = agree (λ (k : ℕ). take (next k - start k) (drop (start k) (run table))) wordBytes 161 i refl h
+word-is i h = agree (λ (k : ℕ). take (next k - start k) (drop (start k) (run table))) wordBytes 163 i refl h
 
-pub short : (i : ℕ) → i < 161 → length (wordBytes i) ≤ 48
+pub short : (i : ℕ) → i < 163 → length (wordBytes i) ≤ 48
 unfolding listed wordBytes table
-short i h = leb-true (length (wordBytes i)) 48 (agree (λ (k : ℕ). leb (length (wordBytes k)) 48) (λ (k : ℕ). true) 161 i refl h)
+short i h = leb-true (length (wordBytes i)) 48 (agree (λ (k : ℕ). leb (length (wordBytes k)) 48) (λ (k : ℕ). true) 163 i refl h)
 
-pub within : (i : ℕ) → i < 161 → next i ≤ 1810
+pub within : (i : ℕ) → i < 163 → next i ≤ 1831
 unfolding listed wordBytes table
-within i h = leb-true (next i) 1810 (agree (λ (k : ℕ). leb (next k) 1810) (λ (k : ℕ). true) 161 i refl h)
+within i h = leb-true (next i) 1831 (agree (λ (k : ℕ). leb (next k) 1831) (λ (k : ℕ). true) 163 i refl h)
 
 past-end : (l : List String) (i : ℕ) → length l ≤ i → getD l i "" ≡ ""
 past-end [] i h = refl
@@ -71,6 +71,6 @@ past-end (x ∷ l) zero h = absurd (omega arith)
 past-end (x ∷ l) (suc i) h = past-end l i (omega arith)
 
 -- there is no word past the table
-pub no-word : (w : ℕ) → 161 ≤ w → wordBytes w ≡ []
+pub no-word : (w : ℕ) → 163 ≤ w → wordBytes w ≡ []
 unfolding wordBytes table
 no-word w h = ap characters (past-end table w h)

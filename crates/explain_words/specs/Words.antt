@@ -175,7 +175,9 @@ table =
     ", size " ∷
     " unmeasured: type " ∷
     " misplaced: type " ∷
-    " huge: type " ∷ []
+    " huge: type " ∷
+    " to " ∷
+    ", span: override " ∷ []
 
 -- the characters of word w; none past the table
 unfoldable pub wordBytes : ℕ → List ℕ
@@ -400,3 +402,9 @@ size = 157
 
 abbrev pub unmeasured : ℕ
 unmeasured = 158
+
+abbrev pub to : ℕ
+to = 161
+
+abbrev pub span : ℕ
+span = 162

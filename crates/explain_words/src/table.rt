@@ -1,9 +1,9 @@
 // The words of the lines for people, run together, and where each begins (specs/Words.antt has them one by one). A name that stands for several (as SPACE) is the
 // number of the first; the others follow it.
 
-pub const COUNT: usize = 161;
+pub const COUNT: usize = 163;
 
-pub const STARTS: [u16; 162] = [
+pub const STARTS: [u16; 164] = [
     0,
     0,
     4,
@@ -166,6 +166,8 @@ pub const STARTS: [u16; 162] = [
     1781,
     1798,
     1810,
+    1814,
+    1831,
 ];
 
 pub const NONE: u64 = 0;
@@ -313,3 +315,7 @@ pub const ALIGN: u64 = 156;
 pub const SIZE: u64 = 157;
 
 pub const UNMEASURED: u32 = 158;
+
+pub const TO: u64 = 161;
+
+pub const SPAN: u64 = 162;

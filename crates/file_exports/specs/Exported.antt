@@ -6,10 +6,8 @@ use mathlib.Core.List.{List}
 use lib.Dec.{ltb, eqb}
 use lib.ListN.{length}
 use Rattle.answers.specs.declared.Outcome.{Outcome}
-use Rattle.answers.specs.declared.Outcome.the-variants as O
 use Rattle.answers.specs.Numbers.{noRefusal, outcomeValues, Said, SaidOf, SaidOne, alike, different, numbered, type, noPointer, refused, asked, instead}
-use Rattle.text.specs.declared.AnswerRoom.the-variants.{NotLent}
-use Rattle.text.specs.Reading.{readText}
+use Rattle.text_room.specs.Room.{shortRead}
 use Rattle.frames.specs.declared.Frame.{Frame}
 use Rattle.frames.specs.Bytes.{frameAt, zeroFrame}
 use Rattle.frames.specs.Out.{resolutionFrame, refusedFrame}
@@ -22,19 +20,9 @@ outcomeNumber o = outcomeValues o .number
 
 -- AN OUT-SLICE OF FEWER THAN 16 BYTES is a lent buffer too small: number 3, unless the text has number 1 or 2, since checks run in order
 
--- numbers 1 and 2 stay, all else is number 3
-abbrev pub orShort : Outcome → Outcome
-orShort (O.Accepted n) = O.Short
-orShort (O.Long m) = O.Long m
-orShort (O.Torn k) = O.Torn k
-orShort O.Short = O.Short
-orShort (O.Order k) = O.Short
-orShort (O.Field k) = O.Short
-orShort (O.Index k) = O.Short
-
--- what is returned then; the same for any other frame buffer and answer buffer: `any-room` (gelmusko/proofs/Laws.antt)
+-- what is returned then
 unfoldable pub noRoom : ℕ → List ℕ → ℕ
-noRoom limit t = outcomeNumber (orShort (readText limit t 0 NotLent))
+noRoom limit t = outcomeNumber (shortRead limit t)
 
 -- what holds of an out-slice that is too small, else what holds of one that has room
 abbrev pub byRoom : {A : Type 0} → List ℕ → A → A → A

@@ -14,19 +14,23 @@ use frames_answers::write::newer_frame;
 use frames_answers::write::outcome_frame;
 use frames_answers::write::verdict_frame;
 use ir::RowNumber;
+use rule_ranges::TypeRange;
 use rule_rows::Pass;
 use rule_sizes::TypeSize;
-use text::AnswerRoom;
-use text_decode::read_text;
+use text_room::short_read;
 use type_sizes::table::measure_number;
+use type_sizes::table::range_frame;
+use type_sizes::table::range_number;
 use type_sizes::table::said_frame;
+use type_sizes::table::span_frame;
 ghost use mathlib.Core.Path.{_≡_};
 ghost use Prim.Native.Nat.{min};
 ghost use Rattle.answers.specs.Numbers.{at, noRefusal, notThere, samenessSaid, canonicalSaid, baseSaid};
 ghost use Rattle.frames.specs.Bytes.{putFrame};
 ghost use Rattle.frames.specs.Out.{refusedFrame, outcomeFrame, rowTypeSaid, composeVerdictSaid, oneFrame};
 ghost use Rattle.rule_sizes.specs.Sizes.{sizeSaid, sizeSaidFrame};
-ghost use Rattle.file_exports.specs.Exported.{outcomeNumber, orShort, noRoom, oneNumber, saidNumber, saidFrame, typeSaidNumber, typeSaidFrame, passOf, handedFrame};
+ghost use Rattle.rule_ranges.specs.Ranges.{typeRangeSaid, rangeSaidFrame};
+ghost use Rattle.file_exports.specs.Exported.{outcomeNumber, noRoom, oneNumber, saidNumber, saidFrame, typeSaidNumber, typeSaidFrame, passOf, handedFrame};
 
 // A number handed in, as a row's or a type's number has it: no file has 65,535 of either, so a greater one is out of range as that is.
 pub fn clamped(n: u32) -> u16
@@ -53,28 +57,11 @@ pub fn handed_frame(s: &[u8]) -> Frame
     }
 }
 
-// Number 1 or 2, else 3.
-fn short_number(o: Outcome) -> u32
-    ensures { λ r. ⌜ r ≡ outcomeNumber (orShort o) ⌝ }
-{
-    match o {
-        Outcome::Accepted { frames: _ } => 3,
-        Outcome::Long { limit: _ } => 1,
-        Outcome::Torn { line: _ } => 2,
-        Outcome::Short => 3,
-        Outcome::Order { frame: _ } => 3,
-        Outcome::Field { frame: _ } => 3,
-        Outcome::Index { frame: _ } => 3,
-    }
-}
-
-// What is returned where the out-slice is too small: numbers 1 and 2 are the text's whatever is lent, so nothing is lent here.
+// What is returned where the out-slice is too small.
 pub fn no_room(text: &[u8], limit: u32) -> u32
     ensures { λ r. ⌜ r ≡ noRoom limit (now (text .entry)) ⌝ }
 {
-    let mut none = [0u8; 0];
-    let read = read_text(text, limit, &mut none, AnswerRoom::NotLent);
-    short_number(read)
+    outcome_number(short_read(text, limit))
 }
 
 // A file's number; 0 where it is accepted.
@@ -221,5 +208,24 @@ pub fn put_size(out: &mut [u8], given: TypeSize) -> u32
         }
         TypeSize::Index => put_index(out),
         TypeSize::NotAccepted(o) => put_outcome(out, o),
+    }
+}
+
+// The range of what a type fills.
+pub fn put_range(out: &mut [u8], given: TypeRange) -> u32
+    ensures outcome { λ r. ⌜ r ≡ oneNumber (typeRangeSaid given) ⌝ }
+    ensures out { λ r. ⌜ now (out .exit) ≡ putFrame (now (out .entry)) 0 (rangeSaidFrame (typeRangeSaid given)) ⌝ }
+{
+    match given {
+        TypeRange::Ranged(g) => {
+            put_frame(out, 0, range_frame(g));
+            range_number(g)
+        }
+        TypeRange::Span { place } => {
+            put_frame(out, 0, span_frame(place));
+            45
+        }
+        TypeRange::Index => put_index(out),
+        TypeRange::NotAccepted(o) => put_outcome(out, o),
     }
 }

@@ -1,16 +1,29 @@
-// The bytes that a type of a file fills (document 02, request 5). The file is checked first.
+// The bytes that a type of a file fills, and their range where the lengths of pending arrays are known as ranges only
+// (document 02, requests 5 and 6). The file is checked first.
+use archive::Starts;
 use archive_access::families::find_starts;
+use archive_access::families::is_type;
 use file_read::OptionUsize;
 use file_read::frames_in;
 use file_read::read_file;
 use ir::TypeNumber;
+use rule_ranges::TypeRange;
 use rule_sizes::TypeSize;
+use scan::Found;
+use text_room::short_read;
+use type_sizes::pending::faulty_span;
+use type_sizes::pending::pending_marks;
+use type_sizes::range_marked;
 ghost use mathlib.Core.Path.{_≡_};
+ghost use Prim.Native.Nat.{_≤_};
 ghost use lib.ListN.{length};
 ghost use Rattle.text.specs.declared.AnswerRoom.the-variants.{NotLent};
 ghost use Rattle.rule_sizes.specs.Sizes.{sizeSaid};
 ghost use Rattle.file_read.specs.File.{framesAfter};
+ghost use Rattle.archive.specs.Starts.{typeCount, overrideCount};
+ghost use Rattle.rule_ranges.specs.Ranges.{countsOf, typeRangeIn, typeRangeSaid};
 ghost use Rattle.file_sizes.specs.Sizes.{typeSize};
+ghost use Rattle.file_sizes.specs.Ranges.{sizeRange, framesRanged};
 
 // Alignment and size of type n, or 42, 43 or 44 with the lowest faulty type; 6 where there is no such type. The frame
 // buffer is as `read_file` leaves it.
@@ -26,6 +39,59 @@ pub fn type_size(text: &[u8], limit: u32, frames: &mut [u8], n: TypeNumber) -> T
             let m = 16 * k;
             let s = find_starts(&frames[..m]);
             type_sizes::type_size(&frames[..m], s, n)
+        }
+    }
+}
+
+// The range of type n: number 6 where there is no such type, then 45, then what it fills.
+fn type_range(frames: &[u8], s: Starts, least: &[u32], greatest: &[u32], n: TypeNumber) -> TypeRange
+    requires { ⌜ (typeCount s ≤ 1024) × (overrideCount s ≤ 1024) ⌝ }
+    ensures { λ r. ⌜ r
+        ≡ typeRangeIn (now (frames .entry)) s (countsOf (now (least .entry))) (countsOf (now (greatest .entry))) n ⌝ }
+{
+    if is_type(s, n) {
+        match faulty_span(s, least, greatest) {
+            Found::At(o) => TypeRange::Span { place: o as u16 },
+            Found::Nothing => {
+                let marks = pending_marks(frames, s);
+                TypeRange::Ranged(range_marked(frames, s, &marks, least, greatest, n))
+            }
+        }
+    } else {
+        TypeRange::Index
+    }
+}
+
+// Alignment, least and greatest size of type n where the count of each override is between those of two tables; 42, 43
+// or 44 with the lowest faulty type, 45 with the lowest override at fault, 6 where there is no such type. The frame
+// buffer is as `read_file` leaves it; a table of fewer than 1,024 counts is number 3, and the buffer stays.
+pub fn size_range(
+    text: &[u8],
+    limit: u32,
+    frames: &mut [u8],
+    least: &[u32],
+    greatest: &[u32],
+    n: TypeNumber,
+) -> TypeRange
+    ensures outcome { λ r. ⌜ r
+        ≡ sizeRange limit (now (text .entry)) (length (now (frames .entry))) (now (least .entry))
+        (now (greatest .entry)) n ⌝ }
+    ensures said { λ r. ⌜ typeRangeSaid r
+        ≡ typeRangeSaid (sizeRange limit (now (text .entry)) (length (now (frames .entry))) (now (least .entry))
+        (now (greatest .entry)) n) ⌝ }
+    ensures frames { λ r. ⌜ now (frames .exit)
+        ≡ framesRanged limit (now (text .entry)) (now (frames .entry)) (now (least .entry)) (now (greatest .entry)) ⌝ }
+{
+    if (least.len() < 1024) | (greatest.len() < 1024) {
+        return TypeRange::NotAccepted(short_read(text, limit));
+    }
+    let outcome = read_file(text, limit, frames);
+    match frames_in(outcome) {
+        OptionUsize::None => TypeRange::NotAccepted(outcome),
+        OptionUsize::Some(k) => {
+            let m = 16 * k;
+            let s = find_starts(&frames[..m]);
+            type_range(&frames[..m], s, least, greatest, n)
         }
     }
 }

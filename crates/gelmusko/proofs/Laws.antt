@@ -34,13 +34,18 @@ use Rattle.rule_compose.specs.Rows.{verdictOf}
 use Rattle.rule_types.specs.Canonical.{baseOfForm, pointerBaseIn, canonicalOfForm, canonicalTypeIn}
 use Rattle.rule_sizes.specs.declared.TypeSize.the-variants as Ts
 use Rattle.rule_sizes.specs.Sizes.{measureIn, typeSizeIn}
+use Rattle.rule_ranges.specs.declared.TypeRange.the-variants as Tr
+use Rattle.rule_ranges.specs.Ranges.{countsOf, rangeIn, faultySpan, unlessSpan, typeRangeIn}
 use Rattle.rule_answers.specs.Outputs.{rowAnswer}
 use Rattle.file_read.specs.File.{overFile, readFile}
 use Rattle.file_read.specs.Typing.{answersWritten, RowGiven, rowGiven, rowType, answersAfterRow, VerdictGiven, orNoCompose, verdictGiven, composeVerdict, verdictSaid, ifJudged, answersAfterVerdict}
 use Rattle.file_read.proofs.Laws.{count-decoded, accepted-when}
 use Rattle.file_pointers.specs.Forms.{canonicalType, pointerBaseType}
 use Rattle.file_sizes.specs.Sizes.{typeSize}
-use Rattle.file_exports.specs.Exported.{outcomeNumber, orShort, noRoom, byRoom}
+use Rattle.file_sizes.specs.Ranges.{byTables, sizeRange}
+use Rattle.text_room.specs.Room.{orShort, shortRead}
+use Rattle.text_room.proofs.Laws.{short-any}
+use Rattle.file_exports.specs.Exported.{outcomeNumber, noRoom, byRoom}
 
 -- AN OUT-SLICE THAT IS TOO SMALL
 
@@ -57,25 +62,8 @@ not-put out f h = rw (le-ltb 0 (frameCount out) (omega arith))
 
 -- numbers 1 and 2 do not depend on what is lent
 pub any-room : (limit : ℕ) (t : List ℕ) (f : ℕ) (room : AnswerRoom) → noRoom limit t ≡ outcomeNumber (orShort (readText limit t f room))
-unfolding noRoom readText
-any-room limit t f room =
-    by-long (ltb (33 * mostFrames limit) (length t)) (lowest (lineOk t) (lineCount t)) (tooShort t 0 NotLent) (tooShort t f room)
-  where
-    short : (a b : Bool) (n : ℕ) → outcomeNumber (orShort (cond a Short (Accepted n))) ≡ outcomeNumber (orShort (cond b Short (Accepted n)))
-    short true true n = refl
-    short true false n = refl
-    short false true n = refl
-    short false false n = refl
-
-    by-torn : (k : Found) (a b : Bool)
-        → outcomeNumber (orShort (afterTorn k (cond a Short (Accepted (lineCount t))))) ≡ outcomeNumber (orShort (afterTorn k (cond b Short (Accepted (lineCount t)))))
-    by-torn (Fo.At k) a b = refl
-    by-torn Fo.Nothing a b = short a b (lineCount t)
-
-    by-long : (l : Bool) (k : Found) (a b : Bool)
-        → outcomeNumber (orShort (cond l (Long (mostFrames limit)) (afterTorn k (cond a Short (Accepted (lineCount t)))))) ≡ outcomeNumber (orShort (cond l (Long (mostFrames limit)) (afterTorn k (cond b Short (Accepted (lineCount t))))))
-    by-long true k a b = refl
-    by-long false k a b = by-torn k a b
+unfolding noRoom
+any-room limit t f room = ap outcomeNumber (short-any limit t f room)
 
 -- A NUMBER HANDED IN
 
@@ -235,3 +223,21 @@ module _ (limit : ℕ) (t : List ℕ) (f : ℕ) where
 
   pub size-clamped : (n k : ℕ) → k ≡ min n 65535 → typeSize limit t f (record { 0 = k }) ≡ typeSize limit t f (record { 0 = n })
   size-clamped = clamped-is (λ (m : ℕ). typeSize limit t f (record { 0 = m })) _ size-stray
+
+module _ (limit : ℕ) (t : List ℕ) (f : ℕ) (least greatest : List ℕ) where
+  pub range-stray : (m : ℕ) → 65535 ≤ m
+      → sizeRange limit t f least greatest (record { 0 = m })
+      ≡ byTables least greatest (Tr.NotAccepted (shortRead limit t))
+      (overFile Tr.NotAccepted (λ (x : List ℕ). Tr.Index) t (readFile limit t f NotLent))
+  unfolding sizeRange typeRangeIn
+  range-stray m l =
+      ap (byTables least greatest (Tr.NotAccepted (shortRead limit t)))
+      (over-same Tr.NotAccepted (λ (x : List ℕ). typeRangeIn x (startsOf x) (countsOf least) (countsOf greatest) (record { 0 = m })) (λ (x : List ℕ). Tr.Index) t (readFile limit t f NotLent)
+      (λ n e.
+      let x = decoded t n in
+      ap (λ (b : Bool). cond b (unlessSpan (faultySpan (startsOf x) (countsOf least) (countsOf greatest)) (rangeIn x (startsOf x) (countsOf least) (countsOf greatest) (record { 0 = m }))) Tr.Index)
+      (no-type x m (few limit t f NotLent n e) l)))
+
+  pub range-clamped : (n k : ℕ) → k ≡ min n 65535
+      → sizeRange limit t f least greatest (record { 0 = k }) ≡ sizeRange limit t f least greatest (record { 0 = n })
+  range-clamped = clamped-is (λ (m : ℕ). sizeRange limit t f least greatest (record { 0 = m })) _ range-stray

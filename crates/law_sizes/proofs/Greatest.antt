@@ -26,11 +26,11 @@ alignment-back Sixteen = refl
 same-bytes : (a b : Alignment) → bytes a ≡ bytes b → a ≡ b
 same-bytes a b e = sym (alignment-back a) ∙ ap alignmentOf e ∙ alignment-back b
 
-greater-left : (b a : Alignment) → bytes b ≤ bytes (greater b a)
+pub greater-left : (b a : Alignment) → bytes b ≤ bytes (greater b a)
 greater-left b a =
     by-test (λ (x : Alignment). bytes b ≤ bytes x) (ltb (bytes b) (bytes a)) (λ q. omega (arith, ltb-true (bytes b) (bytes a) q)) (λ q. omega arith)
 
-greater-right : (b a : Alignment) → bytes a ≤ bytes (greater b a)
+pub greater-right : (b a : Alignment) → bytes a ≤ bytes (greater b a)
 greater-right b a =
     by-test (λ (x : Alignment). bytes a ≤ bytes x) (ltb (bytes b) (bytes a)) (λ q. omega arith) (λ q. ltb-false (bytes b) (bytes a) q)
 

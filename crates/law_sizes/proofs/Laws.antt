@@ -39,7 +39,7 @@ use Rattle.law_sizes.proofs.Fixed.{fixed}
 use Rattle.law_sizes.proofs.Meant.{strided, strided-is, meant}
 
 -- a test whose truth is refuted
-untrue : (b : Bool) → (b ≡ true → ⊥) → b ≡ false
+pub untrue : (b : Bool) → (b ≡ true → ⊥) → b ≡ false
 untrue true h = absurd (h refl)
 untrue false h = refl
 
@@ -156,16 +156,16 @@ module _ (fr : List ℕ) (good : Good fr) where
 
   -- NO LOWER FAULT: where a type rests on one with a fault of its own, it has no size, and the fault that it is given
   -- is at that type or a lower one
-  abbrev Low : TypeNumber → Measure → Type 0
+  abbrev pub Low : TypeNumber → Measure → Type 0
   Low j (Fills a z) = ⊥
   Low j (Faulty k m) = m .0 ≤ j .0
 
-  array-low : (j n : TypeNumber) (m : Measure) (count stride : ℕ) → Low j m → Low j (arrayOf n m count stride)
+  pub array-low : (j n : TypeNumber) (m : Measure) (count stride : ℕ) → Low j m → Low j (arrayOf n m count stride)
   unfolding arrayOf
   array-low j n (Fills a z) count stride h = absurd h
   array-low j n (Faulty k p) count stride h = h
 
-  lower-yet : (j p : TypeNumber) (m : Measure) → ((l : SizeFault) (q : TypeNumber) → m ≡ Faulty l q → p .0 ≤ q .0)
+  pub lower-yet : (j p : TypeNumber) (m : Measure) → ((l : SizeFault) (q : TypeNumber) → m ≡ Faulty l q → p .0 ≤ q .0)
       → Low j m → p .0 ≤ j .0
   lower-yet j p (Fills a z) h l = absurd l
   lower-yet j p (Faulty k q) h l = omega (arith, h k q refl)
@@ -177,7 +177,7 @@ module _ (fr : List ℕ) (good : Good fr) where
   members-low j n first count span i f l (Folded.filled all) h = absurd (rw (all i l) at h)
   members-low j n first count span i f l (Folded.broken k p b o) h = rw b (lower-yet j p (f (member fr first i .ty)) (λ r q e. o .low i r q l e) h)
 
-  low : (n j : TypeNumber) (l : SizeFault) → RestsOn fr n j → Fault fr j l → Low j (measureIn fr (startsOf fr) n)
+  pub low : (n j : TypeNumber) (l : SizeFault) → RestsOn fr n j → Fault fr j l → Low j (measureIn fr (startsOf fr) n)
   low n j l (RestsOn.itself m) h = rw (fault-is n l h) (omega arith)
   low n j l (RestsOn.element m b i count stride e r) h =
       rw (of-array n b count stride e (measureIn fr (startsOf fr) b) refl) (array-low j n (measureIn fr (startsOf fr) b) count stride (low b j l r h))
@@ -196,7 +196,7 @@ module _ (fr : List ℕ) (good : Good fr) where
       let h : RestsOn fr n m × Fault fr m k = rw e at (meant fr good n) in
       record { rests = h .0; fault = h .1; lowest = λ j l r f. let g : Low j (Faulty k m) = rw e at (low n j l r f) in g }
 
-  same-number : (m q : TypeNumber) → m .0 ≤ q .0 → q .0 ≤ m .0 → m ≡ q
+  pub same-number : (m q : TypeNumber) → m .0 ≤ q .0 → q .0 ≤ m .0 → m ≡ q
   same-number m q a b = let e : m .0 ≡ q .0 = omega (arith, a, b) in ap (λ (x : ℕ). record { 0 = x }) e
 
   is-lowest : (n m : TypeNumber) (k : SizeFault) → LowestFault fr n m k → (x : Measure)

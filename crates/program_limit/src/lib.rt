@@ -1,9 +1,11 @@
-// The words that a program is started with: a limit of frames in decimal, and `wgsl` for the second pass.
+// The words that a program is started with: a limit of frames in decimal, `wgsl` for the second pass, and counts.
 use answers::MAX_LIMIT;
 use libc::STDERR_FILENO;
 use text_limit::Asked;
 use text_limit::Word;
 use text_limit::asked_by;
+use text_limit::counts::CountWord;
+use text_limit::counts::counts_of;
 use text_limit::word_of;
 
 // Argument i, absent where there are fewer. The system hands over no argument longer than this buffer.
@@ -35,24 +37,74 @@ pub fn asked() -> Asked {
     Asked::NotTaken
 }
 
-// The limit that holds, of a program that takes no other word: 1,024 where none is handed in. Other arguments, and more than
-// one, are told on standard error, with what is taken.
-pub fn asked_limit() -> Word {
-    if os::arg_count() <= 2 {
-        match word_at(1) {
-            Word::Absent => {
-                return Word::Limit(MAX_LIMIT);
-            }
-            Word::Limit(limit) => {
-                return Word::Limit(limit);
-            }
-            Word::Wgsl => {}
-            Word::Neither => {}
+// What the listing program is asked for: sizes, or ranges between counts, with the limit that holds; or its words are
+// not taken.
+pub enum Listing {
+    Sizes(u32),
+    Ranges(u32),
+    NotTaken,
+}
+
+// Argument i as two counts.
+fn counts_at(i: usize) -> CountWord {
+    let mut word = [0u8; 131072];
+    let n = os::arg(i, &mut word);
+    if os::errno() != 0 {
+        return CountWord::Neither;
+    }
+    counts_of(&word[..n])
+}
+
+// The counts of override 0, 1 and so on, by the arguments from `first` on; false where one is no pair of counts, or
+// there are more than the tables hold.
+fn take_counts(first: usize, least: &mut [u32], greatest: &mut [u32]) -> bool {
+    let n = os::arg_count();
+    let mut i = first;
+    let mut k = 0;
+    while i < n {
+        if least.len() <= k {
+            return false;
         }
+        if greatest.len() <= k {
+            return false;
+        }
+        match counts_at(i) {
+            CountWord::Between {
+                least: low,
+                greatest: high,
+            } => {
+                least[k] = low;
+                greatest[k] = high;
+            }
+            CountWord::Neither => {
+                return false;
+            }
+        }
+        i += 1;
+        k += 1;
+    }
+    true
+}
+
+// What the words ask for: the limit, which is 1,024 where the first word is no number; then least and greatest count
+// of each override, as 3-8, into the tables, which stay where there are none. Other words are told on standard error,
+// with what is taken.
+pub fn asked_listing(least: &mut [u32], greatest: &mut [u32]) -> Listing {
+    let mut limit = MAX_LIMIT;
+    let mut first = 1;
+    if let Word::Limit(given) = word_at(1) {
+        limit = given;
+        first = 2;
+    }
+    if os::arg_count() <= first {
+        return Listing::Sizes(limit);
+    }
+    if take_counts(first, least, greatest) {
+        return Listing::Ranges(limit);
     }
     io::write_all(
         STDERR_FILENO,
-        b"The argument is the limit of frames, a number in decimal (1 to 1024, any other counting as 1024).\n",
+        b"The arguments are the limit of frames, a number in decimal (1 to 1024, any other counting as 1024), which may be left out, and the least and greatest count of each override in order, as 3-8.\n",
     );
-    Word::Neither
+    Listing::NotTaken
 }

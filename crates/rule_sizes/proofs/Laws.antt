@@ -28,13 +28,6 @@ pub look-earlier : (fr : List ℕ) (s : Starts) (n b : TypeNumber) → b .0 < n 
 unfolding measures measureIn
 look-earlier fr s n b h = sym (in-order-at (next fr s) (Faulty Unmeasured b) (n .0) (b .0) h)
 
--- no other type is looked at
-pub look-late : (fr : List ℕ) (s : Starts) (n b : TypeNumber) → n .0 ≤ b .0
-    → Faulty Unmeasured b ≡ look (measures fr s (n .0)) b
-unfolding measures
-look-late fr s n b h =
-    sym (List·getD-eq-default (inOrder (next fr s) (n .0)) (Faulty Unmeasured b) {n = b .0} (rw (in-order-length (next fr s) (n .0)) h))
-
 -- A TABLE
 
 -- a measure's frame reads as the measure
@@ -61,12 +54,11 @@ unfolding putFrame
 put-none s k f h = rw (le-ltb k (frameCount s) h)
 
 -- a table with one measure more
-pub known-put : (fr : List ℕ) (s : Starts) (t : List ℕ) (n : TypeNumber) (m : Measure) → Known fr s t
-    → m ≡ measureIn fr s n
-    → Known fr s (putFrame t (n .0) (measureFrame m))
-known-put fr s t n m k e j = go (decNat j (n .0)) (decLt (n .0) (frameCount t))
+pub known-put : (f : TypeNumber → Measure) (t : List ℕ) (n : TypeNumber) (m : Measure) → Known f t → m ≡ f n
+    → Known f (putFrame t (n .0) (measureFrame m))
+known-put f t n m k e j = go (decNat j (n .0)) (decLt (n .0) (frameCount t))
   where
-    go : Dec (j ≡ n .0) → Dec (n .0 < frameCount t) → Held fr s j (frameAt (putFrame t (n .0) (measureFrame m)) j)
+    go : Dec (j ≡ n .0) → Dec (n .0 < frameCount t) → Held f j (frameAt (putFrame t (n .0) (measureFrame m)) j)
     go (yes q) (yes l) h = rw (q, put-same t (n .0) (measureFrame m) l) (measure-back m ∙ e)
     go (yes q) (no l) h =
         rw (put-none t (n .0) (measureFrame m) (omega arith)) (k j (rw (put-none t (n .0) (measureFrame m) (omega arith)) at h))
@@ -89,5 +81,5 @@ never : {A : Type 0} → false ≡ true → A
 never z = let q : _≡_ {A = ℕ} 0 1 = cc in absurd (omega arith)
 
 -- a table of zeros
-pub known-none : (fr : List ℕ) (s : Starts) (n : ℕ) → Known fr s (replicate n 0)
-known-none fr s n j h = never (rw (zero-at n j) at h)
+pub known-none : (f : TypeNumber → Measure) (n : ℕ) → Known f (replicate n 0)
+known-none f n j h = never (rw (zero-at n j) at h)

@@ -7,6 +7,7 @@ use mathlib.Core.List.{List, _++_}
 use lib.Dec.{eqb, leb}
 use lib.ListN.{length, drop}
 use Rattle.answers.specs.Limit.{maxFrames}
+use Rattle.ir.specs.declared.TypeNumber.{TypeNumber}
 use Rattle.frames.specs.declared.Frame.{Frame}
 use Rattle.frames.specs.Bytes.{half, word, frameAt}
 use Rattle.archive.specs.declared.Starts.{Starts}
@@ -16,7 +17,7 @@ use Rattle.rule_sizes.specs.declared.SizeFault.the-variants.{Unmeasured,
 use Rattle.rule_sizes.specs.declared.Measure.{Measure}
 use Rattle.rule_sizes.specs.declared.Measure.the-variants.{Fills, Faulty}
 use Rattle.rule_sizes.specs.Wgsl.{bytes, alignmentOf}
-use Rattle.rule_sizes.specs.Sizes.{measureIn, faultNumber, measured, sizeFrames}
+use Rattle.rule_sizes.specs.Sizes.{faultNumber, measured, framesOf}
 
 -- the number of a measure: 0 where there is a size
 abbrev pub measureNumber : Measure → ℕ
@@ -33,17 +34,17 @@ measureFrame (Faulty k p) = measured 12 (faultNumber k) (p .0) 0 0
 unfoldable pub measureOf : Frame → Measure
 measureOf f = cond (eqb (f .b1) 0) (Fills (alignmentOf (f .b4)) (word f 8)) (Faulty (faultOf (f .b1)) (record { 0 = half f 2 }))
 
--- what a frame of a table holds of type n: its measure, or nothing yet
-abbrev pub Held : List ℕ → Starts → ℕ → Frame → Type 0
-Held fr s n f = eqb (f .b0) 12 ≡ true → measureOf f ≡ measureIn fr s (record { 0 = n })
+-- what a frame of a table holds of type n: what it fills by `measure`, or nothing yet
+abbrev pub Held : (TypeNumber → Measure) → ℕ → Frame → Type 0
+Held measure n f = eqb (f .b0) 12 ≡ true → measureOf f ≡ measure (record { 0 = n })
 
 -- a table of measures
-abbrev pub Known : List ℕ → Starts → List ℕ → Type 0
-Known fr s t = (n : ℕ) → Held fr s n (frameAt t n)
+abbrev pub Known : (TypeNumber → Measure) → List ℕ → Type 0
+Known measure t = (n : ℕ) → Held measure n (frameAt t n)
 
--- a buffer with what every type fills at its front, a frame each; as it was where it has no room for them, or there are
--- more than 1,024
-unfoldable pub sizesWritten : List ℕ → Starts → List ℕ → List ℕ
-sizesWritten fr s o =
+-- a buffer with a frame for every type at its front; as it was where it has no room for them, or there are more than
+-- 1,024
+unfoldable pub framesWritten : (ℕ → Frame) → Starts → List ℕ → List ℕ
+framesWritten frame s o =
     cond (leb (typeCount s) maxFrames && leb (16 * typeCount s) (length o))
-    (sizeFrames fr s (typeCount s) ++ drop (16 * typeCount s) o) o
+    (framesOf frame (typeCount s) ++ drop (16 * typeCount s) o) o

@@ -206,7 +206,15 @@ abbrev pub sizeSaidFrame : SaidOne Size → Frame
 sizeSaidFrame (asked s) = measured 12 0 0 (s .align) (s .size)
 sizeSaidFrame (instead r) = refusedFrame r
 
+-- frames one after the other, the first n
+unfoldable pub framesOf : (ℕ → Frame) → ℕ → List ℕ
+framesOf frame zero = []
+framesOf frame (suc n) = framesOf frame n ++ bytesOf (frame n)
+
+-- what type n fills
+abbrev pub sizeFrame : List ℕ → Starts → ℕ → Frame
+sizeFrame fr s n = sizeSaidFrame (measureSaid (measureIn fr s (record { 0 = n })))
+
 -- EVERY TYPE of a file, a frame each, in order: the first n
-unfoldable pub sizeFrames : List ℕ → Starts → ℕ → List ℕ
-sizeFrames fr s zero = []
-sizeFrames fr s (suc n) = sizeFrames fr s n ++ bytesOf (sizeSaidFrame (measureSaid (measureIn fr s (record { 0 = n }))))
+abbrev pub sizeFrames : List ℕ → Starts → ℕ → List ℕ
+sizeFrames fr s n = framesOf (sizeFrame fr s) n

@@ -1,4 +1,6 @@
-// The words that the programs take: a limit of frames in decimal digits, and `wgsl` for the second pass.
+// The words that the programs take: a limit of frames in decimal digits, `wgsl` for the second pass, and two counts.
+pub mod counts;
+
 use answers::MAX_LIMIT;
 use text_decode::most;
 ghost use mathlib.Core.Path.{_≡_};
@@ -22,7 +24,7 @@ pub enum Asked {
     NotTaken,
 }
 
-fn is_digit(b: u8) -> bool
+pub fn is_digit(b: u8) -> bool
     ensures { λ r. ⌜ r ≡ (leb 48 b && leb b 57) ⌝ }
 {
     48 <= b && b <= 57

@@ -1,2 +1,3 @@
 pub mod Small
+pub mod Marks
 pub mod Written

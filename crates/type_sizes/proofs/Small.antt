@@ -26,7 +26,7 @@ vector-small Bi a = omega (arith, bytes-small a)
 vector-small Tri a = omega (arith, bytes-small a)
 vector-small Quad a = omega (arith, bytes-small a)
 
-round-small : (a : Alignment) (n : ℕ) → roundUp a n ≤ n + 15
+pub round-small : (a : Alignment) (n : ℕ) → roundUp a n ≤ n + 15
 round-small Two n = omega arith
 round-small Four n = omega arith
 round-small Eight n = omega arith

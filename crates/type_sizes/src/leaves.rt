@@ -8,6 +8,7 @@ use rule_sizes::Measure;
 use rule_sizes::OptionAlignment;
 use rule_sizes::SizeFault;
 ghost use mathlib.Core.Path.{_≡_};
+ghost use Prim.Native.Nat.{_≤_};
 ghost use Rattle.rule_sizes.specs.Wgsl.{bytes, alignmentOf, roundUp, integerAlign, floatAlign, numberAlign, alignCount, vectorAlign, vectorBytes, matrixBytes};
 ghost use Rattle.rule_sizes.specs.Sizes.{scalarMeasure, vectorMeasure, matrixMeasure, leafOf};
 
@@ -37,15 +38,15 @@ pub fn alignment_of(b: u8) -> Alignment
 }
 
 // WGSL's roundUp.
-pub fn round_up(a: Alignment, n: u32) -> u64
+pub fn round_up(a: Alignment, n: u64) -> u64
+    requires { ⌜ n ≤ 9223372036854775807 ⌝ }
     ensures { λ r. ⌜ r ≡ roundUp a n ⌝ }
 {
-    let m = n as u64;
     match a {
-        Alignment::Two => (m + 1) / 2 * 2,
-        Alignment::Four => (m + 3) / 4 * 4,
-        Alignment::Eight => (m + 7) / 8 * 8,
-        Alignment::Sixteen => (m + 15) / 16 * 16,
+        Alignment::Two => (n + 1) / 2 * 2,
+        Alignment::Four => (n + 3) / 4 * 4,
+        Alignment::Eight => (n + 7) / 8 * 8,
+        Alignment::Sixteen => (n + 15) / 16 * 16,
     }
 }
 
@@ -107,7 +108,7 @@ fn vector_bytes(z: VectorSize, a: Alignment) -> u32
 fn matrix_bytes(c: VectorSize, r: VectorSize, a: Alignment) -> u32
     ensures { λ v. ⌜ v ≡ matrixBytes c r a ⌝ }
 {
-    let stride = round_up(vector_align(r, a), vector_bytes(r, a));
+    let stride = round_up(vector_align(r, a), vector_bytes(r, a) as u64);
     (c.number() as u32) * (stride as u32)
 }
 

@@ -1,7 +1,9 @@
-// The bytes that a type fills, found from the types it names (document 02, request 5). A type names only earlier
-// ones, so its number falls; what was found is kept in a table, so a part is measured once.
-pub mod leaves;
-pub mod steps;
+// The bytes that a type fills, found from the types it names (document 02, requests 5 and 6). A type names only earlier
+// ones, so its number falls; what was found is kept in a table, so a part is measured once. Types that are marked go by
+// counts; with none marked it is request 5's measure.
+mod leaves;
+pub mod pending;
+mod steps;
 pub mod table;
 
 use answers::MAX_FRAMES;
@@ -18,45 +20,71 @@ use ir::TypeInner;
 use ir::TypeNumber;
 use leaves::leaf;
 use leaves::unmeasured;
+use pending::count_at;
+use pending::is_marked;
+use pending::pending_marks;
+use rule_ranges::Range;
 use rule_sizes::Alignment;
 use rule_sizes::Measure;
 use rule_sizes::Parts;
 use rule_sizes::TypeSize;
 use steps::array_of;
+use steps::fresh_struct;
 use steps::joined;
+use steps::offset_by;
 use steps::struct_of;
 use table::measure_frame;
 use table::measure_of;
+use table::range_frame;
 use table::said_frame;
 ghost use mathlib.Core.Path.{_≡_};
-ghost use Rattle.rule_sizes.specs.Sizes.{partsOf, sizedArray, ofInner, ofForm, look, measures, measureIn, typeSizeIn};
-ghost use Rattle.rule_sizes.specs.ForProofs.{Known, sizesWritten};
+ghost use Prim.Native.Nat.{_≤_};
+ghost use Rattle.rule_sizes.specs.Sizes.{sizedArray, ofInner, measureIn, typeSizeIn, sizeFrame};
+ghost use Rattle.rule_sizes.specs.ForProofs.{framesWritten};
+ghost use Rattle.rule_ranges.specs.Pending.{lookHolds};
+ghost use Rattle.rule_ranges.specs.Counts.{countedArray, countedInner, formBy};
+ghost use Rattle.rule_ranges.specs.Ranges.{countsOf, rangeOf, rangeFrame};
+ghost use Rattle.rule_ranges.specs.ForProofs.{measureMarked, earlier, KnownMarked, partsBy, endOf};
 
 // What a type fills that type n names.
-fn part(frames: &[u8], s: Starts, table: &mut [u8], n: TypeNumber, b: TypeNumber) -> Measure
-    requires { ⌜ Known (now frames) s (now table) ⌝ }
-    ensures { λ r. ⌜ (r ≡ look (measures (now (frames .entry)) s (n .0)) b)
-        × Known (now (frames .entry)) s (now (table .exit)) ⌝ }
+fn part(
+    frames: &[u8],
+    s: Starts,
+    marks: &[bool],
+    counts: &[u32],
+    table: &mut [u8],
+    n: TypeNumber,
+    b: TypeNumber,
+) -> Measure
+    requires { ⌜ KnownMarked (now frames) s (now marks) (now counts) (now table) ⌝ }
+    ensures { λ r. ⌜ (r ≡ earlier (now (frames .entry)) s (now (marks .entry)) (now (counts .entry)) n b)
+        × KnownMarked (now (frames .entry)) s (now (marks .entry)) (now (counts .entry)) (now (table .exit)) ⌝ }
 {
     if b.0 < n.0 {
-        measured(frames, s, table, b)
+        measured(frames, s, marks, counts, table, b)
     } else {
         unmeasured(b)
     }
 }
 
-// The members of struct n, from member `first` on.
+// The members of struct n, from member `first` on; afresh, or at the file's offsets.
 fn parts(
     frames: &[u8],
     s: Starts,
+    marks: &[bool],
+    counts: &[u32],
     table: &mut [u8],
     n: TypeNumber,
     first: MemberNumber,
     count: u16,
+    afresh: bool,
 ) -> Parts
-    requires { ⌜ Known (now frames) s (now table) ⌝ }
-    ensures { λ r. ⌜ (r ≡ partsOf (now (frames .entry)) s (look (measures (now (frames .entry)) s (n .0))) first count)
-        × Known (now (frames .entry)) s (now (table .exit)) ⌝ }
+    requires { ⌜ KnownMarked (now frames) s (now marks) (now counts) (now table) ⌝ }
+    ensures { λ r. ⌜ (r
+        ≡ partsBy afresh (now (frames .entry)) s
+        (earlier (now (frames .entry)) s (now (marks .entry)) (now (counts .entry)) n) first count)
+        × (KnownMarked (now (frames .entry)) s (now (marks .entry)) (now (counts .entry)) (now (table .exit))
+        × (endOf r ≤ 9223372036854775807)) ⌝ }
 {
     let mut so_far = Parts::Laid {
         align: Alignment::Two,
@@ -67,33 +95,62 @@ fn parts(
     while i < count {
         let m = member_at(frames, s, first, i as u32);
         let t = m.ty;
-        let e = part(frames, s, table, n, t);
-        so_far = joined(so_far, m.offset, e);
+        let e = part(frames, s, marks, counts, table, n, t);
+        let at = offset_by(afresh, so_far, m.offset, e);
+        so_far = joined(so_far, at, e);
         i += 1;
     }
     so_far
 }
 
-fn by_form(frames: &[u8], s: Starts, table: &mut [u8], n: TypeNumber, form: TypeForm) -> Measure
-    requires { ⌜ Known (now frames) s (now table) ⌝ }
-    ensures { λ r. ⌜ (r ≡ ofForm (now (frames .entry)) s (look (measures (now (frames .entry)) s (n .0))) n form)
-        × Known (now (frames .entry)) s (now (table .exit)) ⌝ }
+fn by_form(
+    frames: &[u8],
+    s: Starts,
+    marks: &[bool],
+    counts: &[u32],
+    table: &mut [u8],
+    n: TypeNumber,
+    form: TypeForm,
+) -> Measure
+    requires { ⌜ KnownMarked (now frames) s (now marks) (now counts) (now table) ⌝ }
+    ensures { λ r. ⌜ (r
+        ≡ formBy (now (frames .entry)) s (lookHolds (now (marks .entry))) (countsOf (now (counts .entry)))
+        (earlier (now (frames .entry)) s (now (marks .entry)) (now (counts .entry)) n) n form)
+        × KnownMarked (now (frames .entry)) s (now (marks .entry)) (now (counts .entry)) (now (table .exit)) ⌝ }
 {
     match form {
-        TypeForm::Known(t) => by_inner(frames, s, table, n, t),
+        TypeForm::Known(t) => {
+            if is_marked(marks, n) {
+                counted_inner(frames, s, marks, counts, table, n, t)
+            } else {
+                by_inner(frames, s, marks, counts, table, n, t)
+            }
+        }
         TypeForm::Unknown => unmeasured(n),
     }
 }
 
-fn by_inner(frames: &[u8], s: Starts, table: &mut [u8], n: TypeNumber, t: TypeInner) -> Measure
-    requires { ⌜ Known (now frames) s (now table) ⌝ }
-    ensures { λ r. ⌜ (r ≡ ofInner (now (frames .entry)) s (look (measures (now (frames .entry)) s (n .0))) n t)
-        × Known (now (frames .entry)) s (now (table .exit)) ⌝ }
+fn by_inner(
+    frames: &[u8],
+    s: Starts,
+    marks: &[bool],
+    counts: &[u32],
+    table: &mut [u8],
+    n: TypeNumber,
+    t: TypeInner,
+) -> Measure
+    requires { ⌜ KnownMarked (now frames) s (now marks) (now counts) (now table) ⌝ }
+    ensures { λ r. ⌜ (r
+        ≡ ofInner (now (frames .entry)) s
+        (earlier (now (frames .entry)) s (now (marks .entry)) (now (counts .entry)) n) n t)
+        × KnownMarked (now (frames .entry)) s (now (marks .entry)) (now (counts .entry)) (now (table .exit)) ⌝ }
 {
     match t {
-        TypeInner::Array { base, size, stride } => by_size(frames, s, table, n, base, size, stride),
+        TypeInner::Array { base, size, stride } => {
+            by_size(frames, s, marks, counts, table, n, base, size, stride)
+        }
         TypeInner::Struct { first, count, span } => {
-            let p = parts(frames, s, table, n, first, count);
+            let p = parts(frames, s, marks, counts, table, n, first, count, false);
             struct_of(n, p, count, span)
         }
         _ => leaf(n, t),
@@ -103,19 +160,22 @@ fn by_inner(frames: &[u8], s: Starts, table: &mut [u8], n: TypeNumber, t: TypeIn
 fn by_size(
     frames: &[u8],
     s: Starts,
+    marks: &[bool],
+    counts: &[u32],
     table: &mut [u8],
     n: TypeNumber,
     base: TypeNumber,
     size: ArraySize,
     stride: u32,
 ) -> Measure
-    requires { ⌜ Known (now frames) s (now table) ⌝ }
-    ensures { λ r. ⌜ (r ≡ sizedArray n (look (measures (now (frames .entry)) s (n .0))) base size stride)
-        × Known (now (frames .entry)) s (now (table .exit)) ⌝ }
+    requires { ⌜ KnownMarked (now frames) s (now marks) (now counts) (now table) ⌝ }
+    ensures { λ r. ⌜ (r
+        ≡ sizedArray n (earlier (now (frames .entry)) s (now (marks .entry)) (now (counts .entry)) n) base size stride)
+        × KnownMarked (now (frames .entry)) s (now (marks .entry)) (now (counts .entry)) (now (table .exit)) ⌝ }
 {
     match size {
         ArraySize::Constant(c) => {
-            let e = part(frames, s, table, n, base);
+            let e = part(frames, s, marks, counts, table, n, base);
             array_of(n, e, c, stride)
         }
         ArraySize::Pending(_) => unmeasured(n),
@@ -123,33 +183,120 @@ fn by_size(
     }
 }
 
+// A type that is a pending array or holds one: a struct is laid out afresh.
+fn counted_inner(
+    frames: &[u8],
+    s: Starts,
+    marks: &[bool],
+    counts: &[u32],
+    table: &mut [u8],
+    n: TypeNumber,
+    t: TypeInner,
+) -> Measure
+    requires { ⌜ KnownMarked (now frames) s (now marks) (now counts) (now table) ⌝ }
+    ensures { λ r. ⌜ (r
+        ≡ countedInner (now (frames .entry)) s (lookHolds (now (marks .entry))) (countsOf (now (counts .entry)))
+        (earlier (now (frames .entry)) s (now (marks .entry)) (now (counts .entry)) n) n t)
+        × KnownMarked (now (frames .entry)) s (now (marks .entry)) (now (counts .entry)) (now (table .exit)) ⌝ }
+{
+    match t {
+        TypeInner::Array { base, size, stride } => {
+            counted_array(frames, s, marks, counts, table, n, base, size, stride)
+        }
+        TypeInner::Struct {
+            first,
+            count,
+            span: _,
+        } => {
+            let p = parts(frames, s, marks, counts, table, n, first, count, true);
+            fresh_struct(n, p)
+        }
+        _ => unmeasured(n),
+    }
+}
+
+// A pending array by its count; an array over a pending one, or over what holds one, is outside the list.
+fn counted_array(
+    frames: &[u8],
+    s: Starts,
+    marks: &[bool],
+    counts: &[u32],
+    table: &mut [u8],
+    n: TypeNumber,
+    base: TypeNumber,
+    size: ArraySize,
+    stride: u32,
+) -> Measure
+    requires { ⌜ KnownMarked (now frames) s (now marks) (now counts) (now table) ⌝ }
+    ensures { λ r. ⌜ (r
+        ≡ countedArray (lookHolds (now (marks .entry))) (countsOf (now (counts .entry)))
+        (earlier (now (frames .entry)) s (now (marks .entry)) (now (counts .entry)) n) n base size stride)
+        × KnownMarked (now (frames .entry)) s (now (marks .entry)) (now (counts .entry)) (now (table .exit)) ⌝ }
+{
+    match size {
+        ArraySize::Constant(_) => unmeasured(n),
+        ArraySize::Pending(o) => {
+            if is_marked(marks, base) {
+                unmeasured(n)
+            } else {
+                let e = part(frames, s, marks, counts, table, n, base);
+                let c = count_at(counts, o.0 as usize);
+                array_of(n, e, c, stride)
+            }
+        }
+        ArraySize::Dynamic => unmeasured(n),
+    }
+}
+
 // What type n fills: as the table has it, or found from the types it names.
-fn measured(frames: &[u8], s: Starts, table: &mut [u8], n: TypeNumber) -> Measure
-    requires { ⌜ Known (now frames) s (now table) ⌝ }
-    ensures { λ r. ⌜ (r ≡ measureIn (now (frames .entry)) s n)
-        × Known (now (frames .entry)) s (now (table .exit)) ⌝ }
+fn measured(
+    frames: &[u8],
+    s: Starts,
+    marks: &[bool],
+    counts: &[u32],
+    table: &mut [u8],
+    n: TypeNumber,
+) -> Measure
+    requires { ⌜ KnownMarked (now frames) s (now marks) (now counts) (now table) ⌝ }
+    ensures { λ r. ⌜ (r ≡ measureMarked (now (frames .entry)) s (now (marks .entry)) (now (counts .entry)) n)
+        × KnownMarked (now (frames .entry)) s (now (marks .entry)) (now (counts .entry)) (now (table .exit)) ⌝ }
 {
     let held = frame_at(table, n.0 as usize);
     if held.b0 == 12 {
         return measure_of(held);
     }
-    let m = by_form(frames, s, table, n, type_at(frames, s, n));
+    let m = by_form(frames, s, marks, counts, table, n, type_at(frames, s, n));
     put_frame(table, n.0 as usize, measure_frame(m));
     m
+}
+
+// What type n fills, where the types that are marked go by these counts.
+pub fn measure_marked(
+    frames: &[u8],
+    s: Starts,
+    marks: &[bool],
+    counts: &[u32],
+    n: TypeNumber,
+) -> Measure
+    ensures { λ r. ⌜ r ≡ measureMarked (now (frames .entry)) s (now (marks .entry)) (now (counts .entry)) n ⌝ }
+{
+    let mut table = [0u8; 16384];
+    measured(frames, s, marks, counts, &mut table, n)
 }
 
 // Alignment and size of type n, or the lowest faulty type.
 pub fn measure(frames: &[u8], s: Starts, n: TypeNumber) -> Measure
     ensures { λ r. ⌜ r ≡ measureIn (now (frames .entry)) s n ⌝ }
 {
-    let mut table = [0u8; 16384];
-    measured(frames, s, &mut table, n)
+    let marks = [false; 0];
+    let counts = [0u32; 0];
+    measure_marked(frames, s, &marks, &counts, n)
 }
 
 // What every type fills, a frame each, at the front of a buffer, whose bytes past them stay; a buffer without room for all
 // of them stays as it was, and so does every buffer where there are more than 1,024.
 pub fn measure_all(frames: &[u8], s: Starts, out: &mut [u8])
-    ensures { λ _. ⌜ now (out .exit) ≡ sizesWritten (now (frames .entry)) s (now (out .entry)) ⌝ }
+    ensures { λ _. ⌜ now (out .exit) ≡ framesWritten (sizeFrame (now (frames .entry)) s) s (now (out .entry)) ⌝ }
 {
     let n = s.members;
     if MAX_FRAMES < n {
@@ -158,10 +305,12 @@ pub fn measure_all(frames: &[u8], s: Starts, out: &mut [u8])
     if out.len() / 16 < n {
         return;
     }
+    let marks = [false; 0];
+    let counts = [0u32; 0];
     let mut table = [0u8; 16384];
     let mut k = 0;
     while k < n {
-        let m = measured(frames, s, &mut table, TypeNumber(k as u16));
+        let m = measured(frames, s, &marks, &counts, &mut table, TypeNumber(k as u16));
         put_frame(out, k, said_frame(m));
         k += 1;
     }
@@ -175,5 +324,71 @@ pub fn type_size(frames: &[u8], s: Starts, n: TypeNumber) -> TypeSize
         TypeSize::Measured(measure(frames, s, n))
     } else {
         TypeSize::Index
+    }
+}
+
+// The range of what a type fills: by its measures at the least and at the greatest counts.
+pub fn range_of(least: Measure, greatest: Measure) -> Range
+    ensures { λ r. ⌜ r ≡ rangeOf least greatest ⌝ }
+{
+    match greatest {
+        Measure::Faulty { fault, place } => Range::Faulty { fault, place },
+        Measure::Fills { align, size } => match least {
+            Measure::Faulty { fault, place } => Range::Faulty { fault, place },
+            Measure::Fills {
+                align: _,
+                size: low,
+            } => Range::Spans {
+                align,
+                least: low,
+                greatest: size,
+            },
+        },
+    }
+}
+
+// The range of type n, where the types that are marked go by counts.
+pub fn range_marked(
+    frames: &[u8],
+    s: Starts,
+    marks: &[bool],
+    least: &[u32],
+    greatest: &[u32],
+    n: TypeNumber,
+) -> Range
+    ensures { λ r. ⌜ r
+        ≡ rangeOf (measureMarked (now (frames .entry)) s (now (marks .entry)) (now (least .entry)) n)
+        (measureMarked (now (frames .entry)) s (now (marks .entry)) (now (greatest .entry)) n) ⌝ }
+{
+    let low = measure_marked(frames, s, marks, least, n);
+    let high = measure_marked(frames, s, marks, greatest, n);
+    range_of(low, high)
+}
+
+// The range of every type, a frame each, at the front of a buffer; as `measure_all` leaves it.
+pub fn range_all(frames: &[u8], s: Starts, least: &[u32], greatest: &[u32], out: &mut [u8])
+    ensures { λ _. ⌜ now (out .exit)
+        ≡ framesWritten
+        (rangeFrame (now (frames .entry)) s (countsOf (now (least .entry))) (countsOf (now (greatest .entry)))) s
+        (now (out .entry)) ⌝ }
+{
+    let n = s.members;
+    if MAX_FRAMES < n {
+        return;
+    }
+    let room = out.len() / 16;
+    if room < n {
+        return;
+    }
+    let marks = pending_marks(frames, s);
+    let mut lows = [0u8; 16384];
+    let mut highs = [0u8; 16384];
+    let mut k = 0;
+    while k < n {
+        let t = TypeNumber(k as u16);
+        let small = measured(frames, s, &marks, least, &mut lows, t);
+        let large = measured(frames, s, &marks, greatest, &mut highs, t);
+        put_frame(out, k, range_frame(range_of(small, large)));
+        k += 1;
     }
 }

@@ -1,16 +1,19 @@
 // One array, and one struct member by member, by what their parts fill.
 use super::leaves::alignment_bytes;
+use super::leaves::round_up;
 use ir::TypeNumber;
 use rule_sizes::Alignment;
 use rule_sizes::Measure;
 use rule_sizes::Parts;
 use rule_sizes::SizeFault;
 ghost use mathlib.Core.Path.{_≡_};
-ghost use Prim.Native.Nat.{_+_, _*_};
+ghost use Prim.Native.Nat.{_+_, _*_, _≤_};
 ghost use Rattle.rule_sizes.specs.Wgsl.{isMultiple, greater};
 ghost use Rattle.rule_sizes.specs.Sizes.{arrayOf, lower, joined, spanned, structOf};
+ghost use Rattle.rule_ranges.specs.Counts.{freshOffset, freshStruct};
+ghost use Rattle.rule_ranges.specs.ForProofs.{offsetBy, endOf};
 
-pub fn is_multiple(a: Alignment, n: u32) -> bool
+pub fn is_multiple(a: Alignment, n: u64) -> bool
     ensures { λ r. ⌜ r ≡ isMultiple a n ⌝ }
 {
     match a {
@@ -38,10 +41,11 @@ fn product(count: u32, stride: u32) -> u64
     (count as u64) * (stride as u64)
 }
 
-fn total(offset: u32, size: u32) -> u64
-    ensures { λ r. ⌜ r ≡ offset + size ⌝ }
+fn total(offset: u64, size: u32) -> u64
+    requires { ⌜ offset ≤ 9223372036854775807 ⌝ }
+    ensures { λ r. ⌜ (r ≡ offset + size) × (r ≤ offset + 4294967295) ⌝ }
 {
-    (offset as u64) + (size as u64)
+    offset + (size as u64)
 }
 
 fn wide(n: u32) -> u64
@@ -57,7 +61,7 @@ pub fn array_of(n: TypeNumber, e: Measure, count: u32, stride: u32) -> Measure
     match e {
         Measure::Faulty { fault, place } => Measure::Faulty { fault, place },
         Measure::Fills { align, size } => {
-            if is_multiple(align, stride) & (size <= stride) {
+            if is_multiple(align, wide(stride)) & (size <= stride) {
                 let p = product(count, stride);
                 if p < 4294967296 {
                     Measure::Fills {
@@ -82,7 +86,7 @@ pub fn array_of(n: TypeNumber, e: Measure, count: u32, stride: u32) -> Measure
 
 // The fault of the lower type.
 fn lower(k: SizeFault, p: TypeNumber, j: SizeFault, q: TypeNumber) -> Parts
-    ensures { λ r. ⌜ r ≡ lower k p j q ⌝ }
+    ensures { λ r. ⌜ (r ≡ lower k p j q) × (endOf r ≡ 0) ⌝ }
 {
     if p.0 <= q.0 {
         Parts::Broken { fault: k, place: p }
@@ -91,9 +95,40 @@ fn lower(k: SizeFault, p: TypeNumber, j: SizeFault, q: TypeNumber) -> Parts
     }
 }
 
+// The next member's offset: WGSL's where the struct is laid out afresh, else the file's.
+pub fn offset_by(afresh: bool, sofar: Parts, offset: u32, part: Measure) -> u64
+    requires { ⌜ endOf sofar ≤ 9223372036854775807 ⌝ }
+    ensures { λ r. ⌜ (r ≡ offsetBy afresh sofar offset part) × (r ≤ endOf sofar + 4294967295) ⌝ }
+{
+    if afresh {
+        fresh_offset(sofar, part)
+    } else {
+        wide(offset)
+    }
+}
+
+// WGSL's: the end before the member, rounded up to its alignment.
+fn fresh_offset(sofar: Parts, part: Measure) -> u64
+    requires { ⌜ endOf sofar ≤ 9223372036854775807 ⌝ }
+    ensures { λ r. ⌜ (r ≡ freshOffset sofar part) × (r ≤ endOf sofar + 15) ⌝ }
+{
+    match sofar {
+        Parts::Broken { fault: _, place: _ } => 0,
+        Parts::Laid {
+            align: _,
+            end,
+            placed: _,
+        } => match part {
+            Measure::Faulty { fault: _, place: _ } => 0,
+            Measure::Fills { align, size: _ } => round_up(align, end),
+        },
+    }
+}
+
 // One member more, at an offset.
-pub fn joined(sofar: Parts, offset: u32, part: Measure) -> Parts
-    ensures { λ r. ⌜ r ≡ joined sofar offset part ⌝ }
+pub fn joined(sofar: Parts, offset: u64, part: Measure) -> Parts
+    requires { ⌜ offset ≤ 9223372036854775807 ⌝ }
+    ensures { λ r. ⌜ (r ≡ joined sofar offset part) × (endOf r ≤ offset + 4294967295) ⌝ }
 {
     match sofar {
         Parts::Broken { fault, place } => match part {
@@ -106,11 +141,10 @@ pub fn joined(sofar: Parts, offset: u32, part: Measure) -> Parts
                 let top = greater(align, a);
                 let e = total(offset, size);
                 let ok = is_multiple(a, offset);
-                let at = wide(offset);
                 Parts::Laid {
                     align: top,
                     end: e,
-                    placed: placed & (ok & (end <= at)),
+                    placed: placed & (ok & (end <= offset)),
                 }
             }
         },
@@ -125,7 +159,7 @@ fn spanned(n: TypeNumber, parts: Parts, span: u32) -> Measure
         Parts::Broken { fault, place } => Measure::Faulty { fault, place },
         Parts::Laid { align, end, placed } => {
             let at = wide(span);
-            let ok = is_multiple(align, span);
+            let ok = is_multiple(align, at);
             if placed & ((end <= at) & ok) {
                 Measure::Fills { align, size: span }
             } else {
@@ -149,5 +183,33 @@ pub fn struct_of(n: TypeNumber, parts: Parts, count: u16, span: u32) -> Measure
         }
     } else {
         spanned(n, parts, span)
+    }
+}
+
+// Struct n laid out afresh.
+pub fn fresh_struct(n: TypeNumber, parts: Parts) -> Measure
+    requires { ⌜ endOf parts ≤ 9223372036854775807 ⌝ }
+    ensures { λ r. ⌜ r ≡ freshStruct n parts ⌝ }
+{
+    match parts {
+        Parts::Broken { fault, place } => Measure::Faulty { fault, place },
+        Parts::Laid {
+            align,
+            end,
+            placed: _,
+        } => {
+            let size = round_up(align, end);
+            if size < 4294967296 {
+                Measure::Fills {
+                    align,
+                    size: size as u32,
+                }
+            } else {
+                Measure::Faulty {
+                    fault: SizeFault::Huge,
+                    place: n,
+                }
+            }
+        }
     }
 }

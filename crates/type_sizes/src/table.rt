@@ -3,11 +3,16 @@ use super::leaves::alignment_bytes;
 use super::leaves::alignment_of;
 use frames::Frame;
 use ir::TypeNumber;
+use rule_ranges::Range;
 use rule_sizes::Measure;
 use rule_sizes::SizeFault;
 ghost use mathlib.Core.Path.{_≡_};
+ghost use Rattle.answers.specs.Numbers.{at};
+ghost use Rattle.frames.specs.Out.{refusedFrame};
 ghost use Rattle.rule_sizes.specs.Sizes.{faultNumber, measured, measureSaid, sizeSaidFrame};
 ghost use Rattle.rule_sizes.specs.ForProofs.{measureNumber, faultOf, measureFrame, measureOf};
+ghost use Rattle.rule_ranges.specs.Ranges.{rangeSaid, ranged, rangeSaidFrame};
+ghost use Rattle.rule_ranges.specs.ForProofs.{rangeNumber};
 
 pub fn fault_number(k: SizeFault) -> u8
     ensures { λ r. ⌜ r ≡ faultNumber k ⌝ }
@@ -81,6 +86,64 @@ pub fn said_frame(m: Measure) -> Frame
         Measure::Fills { align, size } => measured_frame(12, 0, 0, alignment_bytes(align), size),
         Measure::Faulty { fault, place } => measured_frame(10, fault_number(fault), place.0, 0, 0),
     }
+}
+
+fn ranged_frame(align: u8, least: u32, greatest: u32) -> Frame
+    ensures { λ r. ⌜ r ≡ ranged align least greatest ⌝ }
+{
+    Frame {
+        b0: 13,
+        b1: 0,
+        b2: 0,
+        b3: 0,
+        b4: align,
+        b5: 0,
+        b6: 0,
+        b7: 0,
+        b8: (least % 256) as u8,
+        b9: (least / 256 % 256) as u8,
+        b10: (least / 256 / 256 % 256) as u8,
+        b11: (least / 256 / 256 / 256) as u8,
+        b12: (greatest % 256) as u8,
+        b13: (greatest / 256 % 256) as u8,
+        b14: (greatest / 256 / 256 % 256) as u8,
+        b15: (greatest / 256 / 256 / 256) as u8,
+    }
+}
+
+// The number of a range: 0 where there are sizes.
+pub fn range_number(g: Range) -> u32
+    ensures { λ r. ⌜ r ≡ rangeNumber g ⌝ }
+{
+    match g {
+        Range::Spans {
+            align: _,
+            least: _,
+            greatest: _,
+        } => 0,
+        Range::Faulty { fault, place: _ } => fault_number(fault) as u32,
+    }
+}
+
+// A range as it is handed back.
+pub fn range_frame(g: Range) -> Frame
+    ensures { λ r. ⌜ r ≡ rangeSaidFrame (rangeSaid g) ⌝ }
+{
+    match g {
+        Range::Spans {
+            align,
+            least,
+            greatest,
+        } => { ranged_frame(alignment_bytes(align), least, greatest) }
+        Range::Faulty { fault, place } => measured_frame(10, fault_number(fault), place.0, 0, 0),
+    }
+}
+
+// Number 45, by its override.
+pub fn span_frame(place: u16) -> Frame
+    ensures { λ r. ⌜ r ≡ refusedFrame (at 45 place) ⌝ }
+{
+    measured_frame(10, 45, place, 0, 0)
 }
 
 pub fn measure_of(f: Frame) -> Measure

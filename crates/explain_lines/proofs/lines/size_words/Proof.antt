@@ -9,22 +9,31 @@ use Rattle.explain_lines.proofs.lines.size_words.Tie as tie
 returns : tie.Need-returns
 unfolding sizeWords filled
 returns c =
-    simp (
-      eq-eqb _ _ (c .before .before .before .before .if1 .taken),
-      c .num2 .ensures,
-      c .before .third .ensures,
-      c .before .before .num .ensures,
-    )
+    simp (eq-eqb _ _ (c .if1 .taken), c .before .before .num2 .ensures, c .before .before .before .third .ensures, c .before .before .before .before .num .ensures)
 
 returns-2 : tie.Need-returns-2
 unfolding sizeWords filled
 returns-2 c =
     simp (
-      ne-eqb _ _ (c .before .before .before .before .before .if1 .left),
-      c .num4 .ensures,
+      ne-eqb _ _ (c .before .before .before .before .if1 .left),
+      eq-eqb _ _ (c .before .before .if2 .taken),
+      c .num3 .ensures,
+      c .before .last .ensures,
+      c .before .before .before .before .before .before .num2 .ensures,
+      c .before .before .before .before .before .before .before .third .ensures,
+      c .before .before .before .before .before .before .before .before .num .ensures,
+    )
+
+returns-3 : tie.Need-returns-3
+unfolding sizeWords filled
+returns-3 c =
+    simp (
+      ne-eqb _ _ (c .before .before .before .before .before .before .before .if1 .left),
+      ne-eqb _ _ (c .before .before .before .before .before .if2 .left),
+      c .num5 .ensures,
       c .before .named .ensures,
       c .before .before .pick .ensures,
-      c .before .before .before .num3 .ensures,
+      c .before .before .before .num4 .ensures,
     )
 
 pub size-words-spec : {M : Type 1} → statement M
@@ -36,10 +45,13 @@ size-words-spec =
     (λ c κs. search needs)
     (λ c κs. search needs)
     returns
+    (λ c κs. search needs)
+    (λ c κs. search needs)
+    returns-2
     (λ c. search needs)
     (λ c κs. search needs)
     (λ c κs. search needs)
     (λ c κs. search needs)
     (λ c. search needs)
     (λ c κs. search needs)
-    returns-2)
+    returns-3)

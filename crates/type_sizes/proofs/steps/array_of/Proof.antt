@@ -13,8 +13,8 @@ returns-2 : tie.Need-returns-2
 unfolding arrayOf
 returns-2 c =
     rw (
-      c .before .before .before .before .before .e2 .given .1,
-      rw (c .before .before .before .is-multiple .ensures) at (c .before .before .if1 .taken),
+      c .before .before .before .before .before .before .e2 .given .1,
+      rw (c .before .before .before .is-multiple .ensures, c .before .before .before .before .wide .ensures) at (c .before .before .if1 .taken),
       lt-ltb _ _ (rw (c .before .product .ensures) at (c .if2 .taken)),
       c .before .product .ensures,
     )
@@ -23,14 +23,14 @@ returns-3 : tie.Need-returns-3
 unfolding arrayOf
 returns-3 c =
     rw (
-      c .before .before .before .before .before .e2 .given .1,
-      rw (c .before .before .before .is-multiple .ensures) at (c .before .before .if1 .taken),
+      c .before .before .before .before .before .before .e2 .given .1,
+      rw (c .before .before .before .is-multiple .ensures, c .before .before .before .before .wide .ensures) at (c .before .before .if1 .taken),
       le-ltb _ _ (rw (c .before .product .ensures) at (c .if2 .left)),
     )
 
 returns-4 : tie.Need-returns-4
 unfolding arrayOf
-returns-4 c = rw (c .before .before .before .e2 .given .1, rw (c .before .is-multiple .ensures) at (c .if1 .left))
+returns-4 c = rw (c .before .before .before .before .e2 .given .1, rw (c .before .is-multiple .ensures, c .before .before .wide .ensures) at (c .if1 .left))
 
 pub array-of-spec : {M : Type 1} → statement M
 array-of-spec =
@@ -38,6 +38,7 @@ array-of-spec =
     (tie.spec
     (λ c. search needs)
     (λ c. search needs)
+    (λ c κs. search needs)
     (λ c κs. search needs)
     (λ c κs. search needs)
     (λ c. search needs)

@@ -1,0 +1,10 @@
+pub mod Shapes
+pub mod Same
+pub mod Grow
+pub mod Ranges
+pub mod Moves
+pub mod Steps
+pub mod Laid
+pub mod Meant
+pub mod Laws
+pub mod Free

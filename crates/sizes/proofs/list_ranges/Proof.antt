@@ -1,0 +1,27 @@
+-- `list_ranges` is safe and ends: what it lends to be written is a part of its buffer. Assumes nothing.
+use mathlib.Core.Path.{sym}
+use lib.Seq.{length-take-le}
+use borrow.Author.Needs.{needs}
+use Rattle.file_read.proofs.Printed.{bytes-within}
+use Rattle.sizes.proofs.list_ranges.Statement.{statement}
+use Rattle.sizes.proofs.list_ranges.Tie as tie
+
+within : tie.Need-array-share-prefix-lines
+within c = let t = c .before .before .before .before .ranges-text in bytes-within _ _ _ _ _ (t .ensures .0) (t .ensures .1 .1) (c .before .m .given .1)
+
+pub list-ranges-spec : {M : Type 1} → statement M
+list-ranges-spec =
+    tie.close
+    (tie.spec
+    (λ c. search needs)
+    (λ c κs. search needs)
+    (λ c. search needs)
+    within
+    (λ c. sym (length-take-le _ _ (within (c .before))))
+    (λ c κs. search needs)
+    (λ c. search needs)
+    (λ c κs. search needs)
+    (λ c. search needs)
+    (λ c. search needs)
+    (λ c. search needs)
+    (λ c. search needs))
