@@ -1,11 +1,12 @@
-//! The job of `file_rows::type_rows`, written plainly in safe Rust, twice: `by_enums` decodes frames to enums, as naga has
-//! them, and keeps its answers as enums; `on_bytes` reads and writes frames in place. What the speed of the reader is held against.
-//!
-//! `plain CASES STDOUT` holds both to the stored answers (crates/replay_answers).
-
-#![allow(dead_code)]
+//! The job of `file_rows::type_rows`, written plainly in safe Rust, twice: `by_enums` decodes frames to enums, as naga
+//! has them, and keeps its answers as enums; `on_bytes` reads and writes frames in place. What the speed of the reader
+//! is held against (compare.rs). stored.rs holds both to the stored answers.
 
 pub type Frame = [u8; 16];
+
+/// By which rules Binary rows are typed: the source's, or WGSL's.
+#[derive(Clone, Copy, PartialEq, Eq)]
+pub enum Pass { First, Second }
 
 /// A refused file: its number and place.
 pub type Refused = (u8, u16);
@@ -34,9 +35,21 @@ pub mod reading {
         16 * value(line[2 * at]) + value(line[2 * at + 1])
     }
 
-    fn read_text(text: &[u8], frames: &mut [u8], room: usize) -> Result<usize, Refused> {
-        if text.len() > 33792 {
-            return Err((1, 1024));
+    /// How many answer frames the rows of a text ask for.
+    fn wanted(text: &[u8]) -> usize {
+        let mut wanted = 0;
+        for line in text.chunks(33) {
+            if byte(line, 0) == 4 {
+                wanted += if byte(line, 1) == 5 { 2 } else { 1 };
+            }
+        }
+        wanted
+    }
+
+    fn read_text(text: &[u8], limit: u32, frames: &mut [u8], room: Option<usize>) -> Result<usize, Refused> {
+        let limit = if (1..=1024).contains(&limit) { limit } else { 1024 };
+        if text.len() > 33 * limit as usize {
+            return Err((1, limit as u16));
         }
         for (k, line) in text.chunks(33).enumerate() {
             if line.len() != 33 || line[32] != b'\n' || !line[..32].iter().all(|&c| is_digit(c)) {
@@ -44,13 +57,7 @@ pub mod reading {
             }
         }
         let n = text.len() / 33;
-        let mut wanted = 0;
-        for line in text.chunks(33) {
-            if byte(line, 0) == 4 {
-                wanted += if byte(line, 1) == 5 { 2 } else { 1 };
-            }
-        }
-        if frames.len() < 16 * n || room < 16 * wanted {
+        if frames.len() < 16 * n || room.is_some_and(|room| room < 16 * wanted(text)) {
             return Err((3, 0));
         }
         for (line, frame) in text.chunks(33).zip(frames.chunks_exact_mut(16)) {
@@ -120,6 +127,14 @@ pub mod reading {
         matches!(b, 1 | 2 | 4 | 8)
     }
 
+    fn is_convert(flag: u8, width: u8) -> bool {
+        match flag {
+            0 => width == 0,
+            1 => is_width(width),
+            _ => false,
+        }
+    }
+
     fn is_scalar(f: &Frame) -> bool {
         f[4] < 6 && is_width(f[5])
     }
@@ -160,7 +175,7 @@ pub mod reading {
             16 => f[6] < 4 && (f[6] == 0 || half(f, 2) == 0) && half(f, 4) == 0 && zero(f, 7),
             18 => f[6] < 18 && zero(f, 7),
             21 => f[6] < 4 && (f[6] >= 2 || half(f, 2) == 0) && half(f, 4) == 0 && zero(f, 7),
-            23 => f[6] < 6 && f[7] < 2 && (if f[7] == 1 { is_width(f[8]) } else { f[8] == 0 }) && half(f, 4) == 0 && zero(f, 9),
+            23 => f[6] < 6 && is_convert(f[7], f[8]) && half(f, 4) == 0 && zero(f, 9),
             27..=31 => zero(f, 2),
             33 => is_wide(f[6]) && is_wide(f[7]) && f[8] < 3 && half(f, 4) == 0 && zero(f, 9),
             0 | 22 | 35..=255 => true,
@@ -280,9 +295,9 @@ pub mod reading {
         if lowest == usize::MAX { Ok(()) } else { Err((6, lowest as u16)) }
     }
 
-    /// Checks 1 to 6 with an answer buffer of `room` bytes; how many frames an accepted file has.
-    pub fn read(text: &[u8], frames: &mut [u8], room: usize) -> Result<usize, Refused> {
-        let n = read_text(text, frames, room)?;
+    /// Checks 1 to 6, with an answer buffer of `room` bytes if one is lent; how many frames an accepted file has.
+    pub fn read(text: &[u8], limit: u32, frames: &mut [u8], room: Option<usize>) -> Result<usize, Refused> {
+        let n = read_text(text, limit, frames, room)?;
         let frames = frames[..16 * n].as_chunks::<16>().0;
         check_order(frames)?;
         if let Some(k) = frames.iter().position(|f| !fits(f)) {
@@ -318,6 +333,18 @@ pub mod by_enums {
         const F32: Self = Self { kind: ScalarKind::Float, width: 4 };
         const BOOL: Self = Self { kind: ScalarKind::Bool, width: 1 };
 
+        fn is_integer(self) -> bool {
+            matches!(self.kind, ScalarKind::Sint | ScalarKind::Uint)
+        }
+
+        fn is_float(self) -> bool {
+            self.kind == ScalarKind::Float
+        }
+
+        fn is_numeric(self) -> bool {
+            self.is_integer() || self.is_float()
+        }
+
         /// The scalar of a storage format, by its number.
         fn of_format(format: u8) -> Self {
             let kind = match format {
@@ -331,7 +358,8 @@ pub mod by_enums {
 
     #[derive(Clone, Copy, PartialEq, Eq)]
     pub enum AddressSpace {
-        Function, Private, WorkGroup, Uniform, Storage { access: u8 }, Handle, Immediate, TaskPayload, RayPayload, IncomingRayPayload,
+        Function, Private, WorkGroup, Uniform, Storage { access: u8 }, Handle, Immediate, TaskPayload, RayPayload,
+        IncomingRayPayload,
     }
 
     #[derive(Clone, Copy, PartialEq, Eq)]
@@ -380,14 +408,15 @@ pub mod by_enums {
         FunctionArgumentNotFound(u32),
         MissingSpecialType,
         Newer { row: u16 },
+        Mismatch,
     }
 
     pub type Answer = Result<TypeResolution, Refusal>;
 
     #[derive(Clone, Copy)]
     pub enum BinaryOperator {
-        Add, Subtract, Multiply, Divide, Modulo, Equal, NotEqual, Less, LessEqual, Greater, GreaterEqual, And, ExclusiveOr, InclusiveOr,
-        LogicalAnd, LogicalOr, ShiftLeft, ShiftRight,
+        Add, Subtract, Multiply, Divide, Modulo, Equal, NotEqual, Less, LessEqual, Greater, GreaterEqual, And,
+        ExclusiveOr, InclusiveOr, LogicalAnd, LogicalOr, ShiftLeft, ShiftRight,
     }
 
     #[derive(Clone, Copy)]
@@ -516,7 +545,9 @@ pub mod by_enums {
             5 => TypeInner::Atomic(scalar(f)),
             6 => TypeInner::Pointer { base: half(f, 2), space: space(f[6], f[7]) },
             7 => TypeInner::ValuePointer {
-                size: if f[2] == 0 { None } else { Some(vector_size(f[2])) }, scalar: scalar(f), space: space(f[6], f[7]),
+                size: if f[2] == 0 { None } else { Some(vector_size(f[2])) },
+                scalar: scalar(f),
+                space: space(f[6], f[7]),
             },
             8 => TypeInner::Array { base: half(f, 2), size: array_size(f), stride: word(f, 12) },
             9 => TypeInner::Struct { first: half(f, 2), count: half(f, 4), span: word(f, 12) },
@@ -616,7 +647,11 @@ pub mod by_enums {
                 argument: n,
             },
             22 => Expression::Math,
-            23 => Expression::As { expr: n, kind: scalar_kind(f[6]), convert: if f[7] == 1 { Some(f[8]) } else { None } },
+            23 => Expression::As {
+                expr: n,
+                kind: scalar_kind(f[6]),
+                convert: if f[7] == 1 { Some(f[8]) } else { None },
+            },
             24 => Expression::CallResult(n),
             25 => Expression::AtomicResult { ty: n },
             26 => Expression::WorkGroupUniformLoadResult { ty: n },
@@ -634,7 +669,110 @@ pub mod by_enums {
         })
     }
 
-    pub struct Context<'a> {
+    /// The scalar of two equal scalars or vectors.
+    fn shared(left: TypeInner, right: TypeInner) -> Option<Scalar> {
+        match left {
+            TypeInner::Scalar(scalar) | TypeInner::Vector { scalar, .. } if left == right => Some(scalar),
+            _ => None,
+        }
+    }
+
+    /// BOOL, for each component of a scalar or a vector.
+    fn bools(t: TypeInner) -> Option<TypeInner> {
+        match t {
+            TypeInner::Scalar(_) => Some(TypeInner::Scalar(Scalar::BOOL)),
+            TypeInner::Vector { size, .. } => Some(TypeInner::Vector { size, scalar: Scalar::BOOL }),
+            _ => None,
+        }
+    }
+
+    /// WGSL's sum, difference, product, quotient or remainder of scalars and vectors.
+    fn arithmetic(left: TypeInner, right: TypeInner) -> Option<TypeInner> {
+        match (left, right) {
+            (TypeInner::Scalar(a), TypeInner::Scalar(b)) if a == b && a.is_numeric() => Some(left),
+            (TypeInner::Vector { scalar, .. }, TypeInner::Vector { .. }) if left == right && scalar.is_numeric() => {
+                Some(left)
+            }
+            (TypeInner::Vector { scalar: a, .. }, TypeInner::Scalar(b)) if a == b && a.is_numeric() => Some(left),
+            (TypeInner::Scalar(a), TypeInner::Vector { scalar: b, .. }) if a == b && a.is_numeric() => Some(right),
+            _ => None,
+        }
+    }
+
+    /// WGSL's product.
+    fn product(left: TypeInner, right: TypeInner) -> Option<TypeInner> {
+        match (left, right) {
+            (TypeInner::Matrix { scalar: a, .. }, TypeInner::Scalar(b)) if a == b && a.is_float() => Some(left),
+            (TypeInner::Scalar(a), TypeInner::Matrix { scalar: b, .. }) if a == b && a.is_float() => Some(right),
+            (TypeInner::Matrix { columns, rows, scalar: a }, TypeInner::Vector { size, scalar: b })
+                if a == b && a.is_float() && columns == size =>
+            {
+                Some(TypeInner::Vector { size: rows, scalar: a })
+            }
+            (TypeInner::Vector { size, scalar: a }, TypeInner::Matrix { columns, rows, scalar: b })
+                if a == b && a.is_float() && size == rows =>
+            {
+                Some(TypeInner::Vector { size: columns, scalar: a })
+            }
+            (
+                TypeInner::Matrix { columns: inner, rows, scalar: a },
+                TypeInner::Matrix { columns, rows: other, scalar: b },
+            ) if a == b && a.is_float() && inner == other => Some(TypeInner::Matrix { columns, rows, scalar: a }),
+            _ => arithmetic(left, right),
+        }
+    }
+
+    /// WGSL's type of a shift.
+    fn shift(left: TypeInner, right: TypeInner) -> Option<TypeInner> {
+        match (left, right) {
+            (TypeInner::Scalar(a), TypeInner::Scalar(Scalar::U32)) if a.is_integer() => Some(left),
+            (TypeInner::Vector { size, scalar }, TypeInner::Vector { size: other, scalar: Scalar::U32 })
+                if scalar.is_integer() && size == other =>
+            {
+                Some(left)
+            }
+            _ => None,
+        }
+    }
+
+    /// WGSL's type of a Binary row; none where it has no such expression.
+    fn wgsl(op: BinaryOperator, left: TypeInner, right: TypeInner) -> Option<TypeInner> {
+        match op {
+            BinaryOperator::Add | BinaryOperator::Subtract => match left {
+                TypeInner::Matrix { scalar, .. } if left == right && scalar.is_float() => Some(left),
+                _ => arithmetic(left, right),
+            },
+            BinaryOperator::Multiply => product(left, right),
+            BinaryOperator::Divide | BinaryOperator::Modulo => arithmetic(left, right),
+            BinaryOperator::Equal | BinaryOperator::NotEqual => match shared(left, right) {
+                Some(s) if s.is_numeric() || s == Scalar::BOOL => bools(left),
+                _ => None,
+            },
+            BinaryOperator::Less
+            | BinaryOperator::LessEqual
+            | BinaryOperator::Greater
+            | BinaryOperator::GreaterEqual => match shared(left, right) {
+                Some(s) if s.is_numeric() => bools(left),
+                _ => None,
+            },
+            BinaryOperator::And | BinaryOperator::InclusiveOr => match shared(left, right) {
+                Some(s) if s.is_integer() || s == Scalar::BOOL => Some(left),
+                _ => None,
+            },
+            BinaryOperator::ExclusiveOr => match shared(left, right) {
+                Some(s) if s.is_integer() => Some(left),
+                _ => None,
+            },
+            BinaryOperator::LogicalAnd | BinaryOperator::LogicalOr => match (left, right) {
+                (TypeInner::Scalar(Scalar::BOOL), TypeInner::Scalar(Scalar::BOOL)) => Some(left),
+                _ => None,
+            },
+            BinaryOperator::ShiftLeft | BinaryOperator::ShiftRight => shift(left, right),
+        }
+    }
+
+    struct Context<'a> {
+        pass: Pass,
         parts: Parts<'a>,
         types: Vec<Option<TypeInner>>,
     }
@@ -676,7 +814,9 @@ pub mod by_enums {
                 TypeInner::Matrix { columns, rows, scalar } => {
                     bounded(columns as u32, TypeInner::Vector { size: rows, scalar })
                 }
-                TypeInner::Array { base, .. } | TypeInner::BindingArray { base, .. } => Ok(TypeResolution::Handle(base)),
+                TypeInner::Array { base, .. } | TypeInner::BindingArray { base, .. } => {
+                    Ok(TypeResolution::Handle(base))
+                }
                 TypeInner::Struct { first, count, .. } => match index {
                     None => Err(Refusal::InvalidAccess { expr: base, indexed }),
                     Some(i) if i >= count as u32 => Err(Refusal::OutOfBoundsIndex { expr: base, index: i }),
@@ -718,7 +858,7 @@ pub mod by_enums {
             }
         }
 
-        fn image<'t>(&'t self, here: u16, past: &'t [Answer], image: u16) -> Result<(ImageDimension, ImageClass), Refusal> {
+        fn image(&self, here: u16, past: &[Answer], image: u16) -> Result<(ImageDimension, ImageClass), Refusal> {
             match *self.inner(here, self.past(past, image)?)? {
                 TypeInner::Image { dim, class, .. } => Ok((dim, class)),
                 _ => Err(Refusal::InvalidImage(image)),
@@ -738,11 +878,22 @@ pub mod by_enums {
             }
         }
 
-        fn bools(&self, here: u16, past: &[Answer], n: u16) -> Answer {
-            match *self.inner(here, self.past(past, n)?)? {
-                TypeInner::Scalar(_) => value(TypeInner::Scalar(Scalar::BOOL)),
-                TypeInner::Vector { size, .. } => value(TypeInner::Vector { size, scalar: Scalar::BOOL }),
-                _ => Err(Refusal::IncompatibleOperands),
+        fn compared(&self, here: u16, past: &[Answer], n: u16) -> Answer {
+            match bools(*self.inner(here, self.past(past, n)?)?) {
+                Some(t) => value(t),
+                None => Err(Refusal::IncompatibleOperands),
+            }
+        }
+
+        /// A Binary row in the second pass.
+        fn wgsl_binary(&self, here: u16, past: &[Answer], op: BinaryOperator, left: u16, right: u16) -> Answer {
+            let a = self.past(past, left)?;
+            let b = self.past(past, right)?;
+            let t = self.inner(here, a)?;
+            let u = self.inner(here, b)?;
+            match wgsl(op, *t, *u) {
+                Some(t) => value(t),
+                None => Err(Refusal::Mismatch),
             }
         }
 
@@ -846,6 +997,9 @@ pub mod by_enums {
                 },
                 Expression::ImageQuery { .. } => value(TypeInner::Scalar(Scalar::U32)),
                 Expression::Unary { expr } => Ok(*self.past(past, expr)?),
+                Expression::Binary { op, left, right } if self.pass == Pass::Second => {
+                    self.wgsl_binary(here, past, op, left, right)
+                }
                 Expression::Binary { op, left, right } => match op {
                     BinaryOperator::Add
                     | BinaryOperator::Subtract
@@ -862,7 +1016,7 @@ pub mod by_enums {
                     | BinaryOperator::Less
                     | BinaryOperator::LessEqual
                     | BinaryOperator::Greater
-                    | BinaryOperator::GreaterEqual => self.bools(here, past, left),
+                    | BinaryOperator::GreaterEqual => self.compared(here, past, left),
                     BinaryOperator::LogicalAnd | BinaryOperator::LogicalOr => {
                         match *self.inner(here, self.past(past, left)?)? {
                             TypeInner::Scalar(Scalar::BOOL) => value(TypeInner::Scalar(Scalar::BOOL)),
@@ -874,7 +1028,7 @@ pub mod by_enums {
                 Expression::Derivative { expr } => Ok(*self.past(past, expr)?),
                 Expression::Relational { fun, argument } => match fun {
                     RelationalFunction::All | RelationalFunction::Any => value(TypeInner::Scalar(Scalar::BOOL)),
-                    RelationalFunction::IsNan | RelationalFunction::IsInf => self.bools(here, past, argument),
+                    RelationalFunction::IsNan | RelationalFunction::IsInf => self.compared(here, past, argument),
                 },
                 Expression::Math => Err(Refusal::Newer { row: here }),
                 Expression::As { expr, kind, convert } => match *self.inner(here, self.past(past, expr)?)? {
@@ -1001,7 +1155,8 @@ pub mod by_enums {
                             _ => return Err(Fault::Part(i as u32)),
                         };
                     }
-                    if total == size as u32 { Ok(()) } else { Err(Fault::Count { expected: size as u32, given: total }) }
+                    let expected = size as u32;
+                    if total == expected { Ok(()) } else { Err(Fault::Count { expected, given: total }) }
                 }
                 Some(TypeInner::Matrix { columns, rows, scalar }) => {
                     let column = TypeInner::Vector { size: rows, scalar };
@@ -1178,6 +1333,7 @@ pub mod by_enums {
                     Refusal::FunctionArgumentNotFound(index) => (19, 0, index, false),
                     Refusal::MissingSpecialType => (20, 0, 0, false),
                     Refusal::Newer { row } => (22, row, 0, false),
+                    Refusal::Mismatch => (41, 0, 0, false),
                 };
                 f[0] = 10;
                 f[1] = number;
@@ -1207,11 +1363,11 @@ pub mod by_enums {
         f
     }
 
-    /// Writes every answer and verdict of an accepted file; how many frames they are.
-    pub fn answer(frames: &[u8], answers: &mut [u8]) -> usize {
+    /// Writes every answer and verdict of an accepted file.
+    fn answer(frames: &[u8], pass: Pass, answers: &mut [u8]) {
         let parts = parts(frames.as_chunks::<16>().0);
         let types = parts.types.iter().map(type_of).collect();
-        let context = Context { parts, types };
+        let context = Context { pass, parts, types };
         let out = answers.as_chunks_mut::<16>().0;
         let mut past: Vec<Answer> = Vec::with_capacity(context.parts.rows.len());
         let mut at = 0;
@@ -1230,12 +1386,18 @@ pub mod by_enums {
             }
             past.push(a);
         }
-        at
     }
 
-    pub fn type_rows(text: &[u8], frames: &mut [u8], answers: &mut [u8]) -> Result<usize, Refused> {
-        let n = reading::read(text, frames, answers.len())?;
-        answer(&frames[..16 * n], answers);
+    /// Types every row and judges every compose; how many frames an accepted file has.
+    pub fn type_rows(
+        text: &[u8],
+        limit: u32,
+        pass: Pass,
+        frames: &mut [u8],
+        answers: &mut [u8],
+    ) -> Result<usize, Refused> {
+        let n = reading::read(text, limit, frames, Some(answers.len()))?;
+        answer(&frames[..16 * n], pass, answers);
         Ok(n)
     }
 }
@@ -1262,6 +1424,11 @@ pub mod on_bytes {
         value(2, size, 0, kind, width, 0, 0)
     }
 
+    /// A scalar, vector or matrix by value.
+    fn as_value(f: &Frame) -> Frame {
+        value(f[1], f[2], f[3], f[4], f[5], 0, 0)
+    }
+
     fn pointer(base: u16, like: &Frame) -> Frame {
         let [a, b] = base.to_le_bytes();
         value(6, a, b, 0, 0, like[6], like[7])
@@ -1277,7 +1444,8 @@ pub mod on_bytes {
         [(2, 8), (2, 4), (2, 2), (1, 2), (0, 2), (1, 4), (0, 4), (1, 8), (0, 8), (3, 1), (4, 8), (5, 8)];
 
     struct Typing<'a> {
-        parts: Parts<'a>,
+        pass: Pass,
+        parts: &'a Parts<'a>,
         past: &'a [Frame],
         places: &'a [u16],
         here: u16,
@@ -1364,6 +1532,38 @@ pub mod on_bytes {
                 }
                 _ => Ok(*a),
             }
+        }
+
+        /// A Binary row in the second pass.
+        fn wgsl(&self, row: &Frame) -> Result<Frame, Frame> {
+            let a = self.past(half(row, 2))?;
+            let b = self.past(half(row, 4))?;
+            let f = self.form(a)?;
+            let g = self.form(b)?;
+            let like = f[1..6] == g[1..6];
+            let of_one = f[4..6] == g[4..6];
+            let integer = f[4] < 2;
+            let float = f[4] == 2;
+            let numeric = f[4] < 3;
+            let bool = (f[4], f[5]) == (3, 1);
+            Ok(match (row[6], f[1], g[1]) {
+                (0..=4, 1, 1) | (0..=4, 2, 2) if like && numeric => as_value(f),
+                (0..=4, 2, 1) if of_one && numeric => as_value(f),
+                (0..=4, 1, 2) if of_one && numeric => as_value(g),
+                (0 | 1, 3, 3) if like && float => as_value(f),
+                (2, 3, 1) if of_one && float => as_value(f),
+                (2, 1, 3) if of_one && float => as_value(g),
+                (2, 3, 2) if of_one && float && f[2] == g[2] => vector(f[3], f[4], f[5]),
+                (2, 2, 3) if of_one && float && f[2] == g[3] => vector(g[2], g[4], g[5]),
+                (2, 3, 3) if of_one && float && f[2] == g[3] => value(3, g[2], f[3], f[4], f[5], 0, 0),
+                (5 | 6, 1, 1) | (5 | 6, 2, 2) if like && (numeric || bool) => value(f[1], f[2], 0, 3, 1, 0, 0),
+                (7..=10, 1, 1) | (7..=10, 2, 2) if like && numeric => value(f[1], f[2], 0, 3, 1, 0, 0),
+                (11 | 13, 1, 1) | (11 | 13, 2, 2) if like && (integer || bool) => as_value(f),
+                (12, 1, 1) | (12, 2, 2) if like && integer => as_value(f),
+                (14 | 15, 1, 1) if like && bool => as_value(f),
+                (16 | 17, 1, 1) | (16 | 17, 2, 2) if integer && f[2] == g[2] && (g[4], g[5]) == (1, 4) => as_value(f),
+                _ => return Err(refused(41, 0, 0, 0)),
+            })
         }
 
         fn special(&self, kind: usize) -> Result<Frame, Frame> {
@@ -1455,6 +1655,7 @@ pub mod on_bytes {
                 }
                 16 | 27 => Ok(scalar(1, 4)),
                 17 | 19 | 20 | 34 => Ok(*self.past(n)?),
+                18 if self.pass == Pass::Second => self.wgsl(row),
                 18 => self.binary(row),
                 21 if row[6] > 1 => self.bools(self.looked(n)?),
                 21 | 29 => Ok(scalar(3, 1)),
@@ -1494,8 +1695,8 @@ pub mod on_bytes {
             a[0] == 8 && self.parts.types[half(a, 2) as usize][1] == 9
         }
 
-        fn canonical(&self, a: &'a Frame) -> Option<Frame> {
-            let f = self.form(a).ok()?;
+        /// The canonical form of a form; none where an unknown kind is looked into.
+        fn canonical(&self, f: &Frame) -> Option<Frame> {
             let mut out = *f;
             out[0] = 9;
             if f[1] == 6 {
@@ -1507,27 +1708,17 @@ pub mod on_bytes {
             Some(out)
         }
 
+        /// Whether an answer is of type `base`; none where an unknown kind is looked into.
         fn same(&self, base: u16, a: &'a Frame) -> Option<bool> {
             if a[0] == 8 && half(a, 2) == base {
                 return Some(true);
             }
-            let f = &self.parts.types[base as usize];
-            if f[1] == 9 || self.is_struct(a) {
+            if self.parts.types[base as usize][1] == 9 || self.is_struct(a) {
                 return Some(false);
             }
-            let left = {
-                let f = self.look(base).ok()?;
-                let mut out = *f;
-                out[0] = 9;
-                if f[1] == 6 {
-                    let g = self.look(half(f, 2)).ok()?;
-                    if g[1] == 1 || g[1] == 2 {
-                        out = value(7, g[2], 0, g[4], g[5], f[6], f[7]);
-                    }
-                }
-                out
-            };
-            Some(left == self.canonical(a)?)
+            let f = self.look(base).ok()?;
+            let g = self.form(a).ok()?;
+            Some(self.canonical(f)? == self.canonical(g)?)
         }
 
         /// The verdict's number, and its two numbers.
@@ -1582,23 +1773,16 @@ pub mod on_bytes {
         }
     }
 
-    /// Writes every answer and verdict of an accepted file; how many frames they are.
-    pub fn answer(frames: &[u8], answers: &mut [u8]) -> usize {
-        let frames = frames.as_chunks::<16>().0;
-        let rows = parts(frames).rows;
+    /// Writes every answer and verdict of an accepted file.
+    fn answer(frames: &[u8], pass: Pass, answers: &mut [u8]) {
+        let parts = parts(frames.as_chunks::<16>().0);
         let out = answers.as_chunks_mut::<16>().0;
         let mut places = [0u16; 1024];
         let mut at = 0;
-        let p = parts(frames);
-        for (k, row) in rows.iter().enumerate() {
+        for (k, row) in parts.rows.iter().enumerate() {
             let here = k as u16;
             let (past, rest) = out.split_at_mut(at);
-            let typing = Typing {
-                parts: Parts { types: p.types, members: p.members, items: p.items, rows: p.rows, components: p.components },
-                past,
-                places: &places[..k],
-                here,
-            };
+            let typing = Typing { pass, parts: &parts, past, places: &places[..k], here };
             rest[0] = match typing.resolve(row) {
                 Ok(f) | Err(f) => f,
             };
@@ -1614,103 +1798,18 @@ pub mod on_bytes {
             places[k] = at as u16;
             at = next;
         }
-        at
     }
 
-    pub fn type_rows(text: &[u8], frames: &mut [u8], answers: &mut [u8]) -> Result<usize, Refused> {
-        let n = reading::read(text, frames, answers.len())?;
-        answer(&frames[..16 * n], answers);
+    /// Types every row and judges every compose; how many frames an accepted file has.
+    pub fn type_rows(
+        text: &[u8],
+        limit: u32,
+        pass: Pass,
+        frames: &mut [u8],
+        answers: &mut [u8],
+    ) -> Result<usize, Refused> {
+        let n = reading::read(text, limit, frames, Some(answers.len()))?;
+        answer(&frames[..16 * n], pass, answers);
         Ok(n)
     }
-}
-
-/// A case of the stored ones: its first line, its text, and what typing it must print.
-pub struct Case {
-    pub name: String,
-    pub text: Vec<u8>,
-    pub printed: Vec<u8>,
-}
-
-/// The stored cases and what must be printed of each.
-pub fn cases(cases: &[u8], stdout: &[u8]) -> Vec<Case> {
-    let length = |b: &[u8]| std::str::from_utf8(b).unwrap().parse::<usize>().unwrap();
-    let (mut at, mut out, mut found) = (0, 0, vec![]);
-    while at < cases.len() {
-        let line = &cases[at..at + 59];
-        let (n, m) = (length(&line[47..52]), length(&line[53..58]));
-        let text = cases[at + 59..at + 59 + n].to_vec();
-        at += 59 + n + m + 1;
-        assert_eq!(&stdout[out..out + 59], line);
-        out += 59;
-        let end = match at < cases.len() {
-            true => {
-                let next = &cases[at..at + 59];
-                out + stdout[out..].windows(59).position(|w| w == next).unwrap()
-            }
-            false => stdout.len(),
-        };
-        let mut printed = &stdout[out..end];
-        for _ in 0..m / 66 {
-            let cut = printed[..printed.len() - 1].iter().rposition(|&b| b == b'\n').map_or(0, |i| i + 1);
-            printed = &printed[..cut];
-        }
-        out = end;
-        found.push(Case { name: String::from_utf8_lossy(&line[..40]).trim().to_string(), text, printed: printed.to_vec() });
-    }
-    found
-}
-
-/// What typing a file prints, by what it gives and writes.
-pub fn printed(outcome: Result<usize, Refused>, answers: &[u8], wrote: usize) -> Vec<u8> {
-    let mut lines = vec![];
-    let mut line = |f: &[u8]| {
-        for b in f {
-            lines.extend_from_slice(format!("{b:02x}").as_bytes());
-        }
-        lines.push(b'\n');
-    };
-    match outcome {
-        Err((number, place)) => {
-            let mut f = [0; 16];
-            (f[0], f[1]) = (10, number);
-            f[2..4].copy_from_slice(&place.to_le_bytes());
-            line(&f);
-        }
-        Ok(_) => answers[..16 * wrote].chunks(16).for_each(line),
-    }
-    lines
-}
-
-/// How many answer frames the rows of a file ask for.
-pub fn wanted(frames: &[u8]) -> usize {
-    frames.chunks(16).map(|f| (f[0] == 4) as usize + (f[0] == 4 && f[1] == 5) as usize).sum()
-}
-
-pub type TypeRows = fn(&[u8], &mut [u8], &mut [u8]) -> Result<usize, Refused>;
-
-/// How many cases differ.
-pub fn differ(all: &[Case], type_rows: TypeRows) -> usize {
-    let mut bad = 0;
-    for c in all {
-        let (mut frames, mut answers) = (vec![0; 16384], vec![0; 32768]);
-        let outcome = type_rows(&c.text, &mut frames, &mut answers);
-        let wrote = outcome.map_or(0, |n| wanted(&frames[..16 * n]));
-        if printed(outcome, &answers, wrote) != c.printed {
-            println!("differs: {}", c.name);
-            bad += 1;
-        }
-        assert!(answers[16 * wrote..].iter().all(|&b| b == 0));
-    }
-    bad
-}
-
-#[cfg(not(feature = "compare"))]
-fn main() {
-    let mut args = std::env::args().skip(1);
-    let (a, b) = (args.next().unwrap(), args.next().unwrap());
-    let all = cases(&std::fs::read(a).unwrap(), &std::fs::read(b).unwrap());
-    let types: usize = all.iter().map(|c| c.text.len() / 33).sum();
-    println!("{} cases, {types} frames", all.len());
-    println!("by enums: {} differ", differ(&all, by_enums::type_rows));
-    println!("on bytes: {} differ", differ(&all, on_bytes::type_rows));
 }

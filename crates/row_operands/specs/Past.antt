@@ -72,6 +72,24 @@ lookedBy fr s here (An.Newer r) = Lo.Ended (Un.Newer r)
 unfoldable pub lookedIn : List ℕ → Starts → List ℕ → List ℕ → RowNumber → RowNumber → Looked
 lookedIn fr s answers places here n = lookedBy fr s here (answerIn answers places n)
 
+-- what a look goes by of the places where families begin: up to where types stand, and from where to where overrides
+abbrev pub lookStarts : ℕ → ℕ → ℕ → Starts
+lookStarts types overrides globals =
+    record {
+      members = types;
+      constants = 0;
+      overrides = overrides;
+      globals = globals;
+      arguments = 0;
+      locals = 0;
+      functions = 0;
+      intersections = 0;
+      «vertex_returns» = 0;
+      rows = 0;
+      components = 0;
+      end = 0;
+    }
+
 -- TWO OPERANDS: left is read, then right, then left is looked into, then right; the answer f follows from both answers and both forms
 
 abbrev pub OfBoth : Type 0

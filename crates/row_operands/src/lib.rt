@@ -2,6 +2,7 @@
 // lines 120 to 128); answers made of parts.
 pub mod both;
 pub mod past;
+pub mod plain;
 pub mod values;
 
 use answers::Unresolved;

@@ -19,7 +19,7 @@ ghost use mathlib.Core.Path.{_≡_};
 ghost use Rattle.frames.specs.ForProofs.{answerOf};
 ghost use Rattle.rule.specs.Things.{soundForm};
 ghost use Rattle.rule_rows.specs.Answered.{toResult};
-ghost use Rattle.row_operands.specs.Past.{answerIn, endedBy, lookedAt, seenBy, lookedBy, lookedIn};
+ghost use Rattle.row_operands.specs.Past.{answerIn, endedBy, lookedAt, seenBy, lookedBy, lookedIn, lookStarts};
 
 // The answer of row n, at the frame of the answer buffer that `places` has for it; of a row that is not typed yet the fixed refusal.
 pub fn past(answers: &[u8], places: &[u16], n: RowNumber) -> Answer
@@ -86,6 +86,45 @@ fn look_by(frames: &[u8], s: Starts, here: RowNumber, f: Frame) -> Looked
     }
 }
 
+// A look goes by three of the places where families begin. They are handed over as numbers: a struct of twelve would be
+// copied for every look.
+fn look_in(
+    frames: &[u8],
+    types: usize,
+    overrides: usize,
+    globals: usize,
+    answers: &[u8],
+    places: &[u16],
+    here: RowNumber,
+    n: RowNumber,
+) -> Looked
+    ensures { λ r. ⌜ r
+        ≡ lookedIn (now (frames .entry)) (lookStarts types overrides globals) (now (answers .entry)) (now (places .entry))
+        here n ⌝ }
+{
+    let s = Starts {
+        members: types,
+        constants: 0,
+        overrides,
+        globals,
+        arguments: 0,
+        locals: 0,
+        functions: 0,
+        intersections: 0,
+        vertex_returns: 0,
+        rows: 0,
+        components: 0,
+        end: 0,
+    };
+    let i = n.0 as usize;
+    if i < places.len() {
+        let at = places[i] as usize;
+        look_by(frames, s, here, frame_at(answers, at))
+    } else {
+        Looked::Ended(Unresolved::Refused(Refusal::MissingSpecialType))
+    }
+}
+
 // Reads operand n and looks into its type: the source's `past(n)?.inner_with(types)`.
 pub fn look_into(
     frames: &[u8],
@@ -97,11 +136,36 @@ pub fn look_into(
 ) -> Looked
     ensures { λ r. ⌜ r ≡ lookedIn (now (frames .entry)) s (now (answers .entry)) (now (places .entry)) here n ⌝ }
 {
-    let i = n.0 as usize;
-    if i < places.len() {
-        let at = places[i] as usize;
-        look_by(frames, s, here, frame_at(answers, at))
-    } else {
-        Looked::Ended(Unresolved::Refused(Refusal::MissingSpecialType))
-    }
+    look_in(
+        frames,
+        s.members,
+        s.overrides,
+        s.globals,
+        answers,
+        places,
+        here,
+        n,
+    )
+}
+
+// The same for a component. Where its look ends says nothing of a verdict's place, so its own row will do for it.
+pub fn look_component(
+    frames: &[u8],
+    s: Starts,
+    answers: &[u8],
+    places: &[u16],
+    n: RowNumber,
+) -> Looked
+    ensures { λ r. ⌜ r ≡ lookedIn (now (frames .entry)) s (now (answers .entry)) (now (places .entry)) n n ⌝ }
+{
+    look_in(
+        frames,
+        s.members,
+        s.overrides,
+        s.globals,
+        answers,
+        places,
+        n,
+        n,
+    )
 }

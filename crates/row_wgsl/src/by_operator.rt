@@ -22,10 +22,11 @@ ghost use Rattle.rule.specs.Answers.{refused, told};
 ghost use Rattle.rule_rows.specs.Answered.{toResult};
 ghost use Rattle.rule_rows.specs.Operators.{orMismatch};
 ghost use Rattle.rule_rows.specs.WgslTables.{plain};
-ghost use Rattle.rule_rows.specs.Wgsl.{when, arithmeticOf, equalityOf, orderingOf, andOrOf, xorOf, shiftOf, logicalsOf};
+ghost use Rattle.rule_rows.specs.Wgsl.{when};
 ghost use Rattle.rule_rows.specs.Wgsl.{matrixTimesOf, timesMatrixOf, matricesTimesOf, matricesSumOf, plainResult, matricesResult, ifMultiply, shapesResult};
+ghost use Rattle.row_wgsl.specs.ForProofs.{testOf, sizeOf, scalarOf};
 
-fn mismatch() -> Answer
+pub fn mismatch() -> Answer
     ensures { λ r. ⌜ toResult r ≡ told (refused Refusal.Mismatch) ⌝ }
 {
     Answer::Refused(Refusal::Mismatch)
@@ -55,84 +56,75 @@ fn matrix_when(test: bool, columns: VectorSize, rows: VectorSize, scalar: Scalar
     }
 }
 
-// Add, Subtract, Multiply, Divide, Modulo.
-fn arithmetic(n: OptionVectorSize, s: Scalar, m: OptionVectorSize, r: Scalar) -> Answer
-    ensures { λ o. ⌜ toResult o ≡ told (orMismatch (arithmeticOf n s m r)) ⌝ }
+// Whether an operator takes two scalars or vectors.
+fn plain_test(
+    op: BinaryOperator,
+    n: OptionVectorSize,
+    s: Scalar,
+    m: OptionVectorSize,
+    r: Scalar,
+) -> bool
+    ensures { λ o. ⌜ o ≡ testOf op n s m r ⌝ }
 {
     let kind = s.kind;
-    plain_when(
-        is_numeric(kind) & (s.equals(r) & like_or_mixed(n, m)),
-        mixed(n, m),
-        s,
-    )
+    match op {
+        BinaryOperator::Add
+        | BinaryOperator::Subtract
+        | BinaryOperator::Multiply
+        | BinaryOperator::Divide
+        | BinaryOperator::Modulo => is_numeric(kind) & (s.equals(r) & like_or_mixed(n, m)),
+        BinaryOperator::Equal | BinaryOperator::NotEqual => {
+            (is_numeric(kind) | s.equals(Scalar::BOOL)) & (s.equals(r) & equal_counts(n, m))
+        }
+        BinaryOperator::Less
+        | BinaryOperator::LessEqual
+        | BinaryOperator::Greater
+        | BinaryOperator::GreaterEqual => is_numeric(kind) & (s.equals(r) & equal_counts(n, m)),
+        BinaryOperator::And | BinaryOperator::InclusiveOr => {
+            (is_integer(kind) | s.equals(Scalar::BOOL)) & (s.equals(r) & equal_counts(n, m))
+        }
+        BinaryOperator::ExclusiveOr => is_integer(kind) & (s.equals(r) & equal_counts(n, m)),
+        BinaryOperator::LogicalAnd | BinaryOperator::LogicalOr => {
+            (s.equals(Scalar::BOOL) & r.equals(Scalar::BOOL))
+                & (equal_counts(n, OptionVectorSize::None)
+                    & equal_counts(m, OptionVectorSize::None))
+        }
+        BinaryOperator::ShiftLeft | BinaryOperator::ShiftRight => {
+            is_integer(kind) & (r.equals(Scalar::U32) & equal_counts(n, m))
+        }
+    }
 }
 
-// Equal, NotEqual.
-fn equality(n: OptionVectorSize, s: Scalar, m: OptionVectorSize, r: Scalar) -> Answer
-    ensures { λ o. ⌜ toResult o ≡ told (orMismatch (equalityOf n s m r)) ⌝ }
+// The components of the result: arithmetic takes a scalar and a vector too, logical operators take no vectors.
+fn plain_size(op: BinaryOperator, n: OptionVectorSize, m: OptionVectorSize) -> OptionVectorSize
+    ensures { λ o. ⌜ o ≡ sizeOf op n m ⌝ }
 {
-    let kind = s.kind;
-    plain_when(
-        (is_numeric(kind) | s.equals(Scalar::BOOL)) & (s.equals(r) & equal_counts(n, m)),
-        n,
-        Scalar::BOOL,
-    )
+    match op {
+        BinaryOperator::Add
+        | BinaryOperator::Subtract
+        | BinaryOperator::Multiply
+        | BinaryOperator::Divide
+        | BinaryOperator::Modulo => mixed(n, m),
+        BinaryOperator::LogicalAnd | BinaryOperator::LogicalOr => OptionVectorSize::None,
+        _ => n,
+    }
 }
 
-// Less, LessEqual, Greater, GreaterEqual.
-fn ordering(n: OptionVectorSize, s: Scalar, m: OptionVectorSize, r: Scalar) -> Answer
-    ensures { λ o. ⌜ toResult o ≡ told (orMismatch (orderingOf n s m r)) ⌝ }
+// The scalar of the result: comparisons and logical operators give bools.
+fn plain_scalar(op: BinaryOperator, s: Scalar) -> Scalar
+    ensures { λ o. ⌜ o ≡ scalarOf op s ⌝ }
 {
-    let kind = s.kind;
-    plain_when(
-        is_numeric(kind) & (s.equals(r) & equal_counts(n, m)),
-        n,
-        Scalar::BOOL,
-    )
-}
-
-// And, InclusiveOr: of bits, and of bools.
-fn and_or(n: OptionVectorSize, s: Scalar, m: OptionVectorSize, r: Scalar) -> Answer
-    ensures { λ o. ⌜ toResult o ≡ told (orMismatch (andOrOf n s m r)) ⌝ }
-{
-    let kind = s.kind;
-    plain_when(
-        (is_integer(kind) | s.equals(Scalar::BOOL)) & (s.equals(r) & equal_counts(n, m)),
-        n,
-        s,
-    )
-}
-
-// ExclusiveOr: of bits alone.
-fn xor(n: OptionVectorSize, s: Scalar, m: OptionVectorSize, r: Scalar) -> Answer
-    ensures { λ o. ⌜ toResult o ≡ told (orMismatch (xorOf n s m r)) ⌝ }
-{
-    let kind = s.kind;
-    plain_when(is_integer(kind) & (s.equals(r) & equal_counts(n, m)), n, s)
-}
-
-// ShiftLeft, ShiftRight.
-fn shift(n: OptionVectorSize, s: Scalar, m: OptionVectorSize, r: Scalar) -> Answer
-    ensures { λ o. ⌜ toResult o ≡ told (orMismatch (shiftOf n s m r)) ⌝ }
-{
-    let kind = s.kind;
-    plain_when(
-        is_integer(kind) & (r.equals(Scalar::U32) & equal_counts(n, m)),
-        n,
-        s,
-    )
-}
-
-// LogicalAnd, LogicalOr.
-fn logicals(n: OptionVectorSize, s: Scalar, m: OptionVectorSize, r: Scalar) -> Answer
-    ensures { λ o. ⌜ toResult o ≡ told (orMismatch (logicalsOf n s m r)) ⌝ }
-{
-    plain_when(
-        (s.equals(Scalar::BOOL) & r.equals(Scalar::BOOL))
-            & (equal_counts(n, OptionVectorSize::None) & equal_counts(m, OptionVectorSize::None)),
-        OptionVectorSize::None,
-        Scalar::BOOL,
-    )
+    match op {
+        BinaryOperator::Equal
+        | BinaryOperator::NotEqual
+        | BinaryOperator::Less
+        | BinaryOperator::LessEqual
+        | BinaryOperator::Greater
+        | BinaryOperator::GreaterEqual
+        | BinaryOperator::LogicalAnd
+        | BinaryOperator::LogicalOr => Scalar::BOOL,
+        _ => s,
+    }
 }
 
 // Two scalars or vectors.
@@ -145,22 +137,11 @@ fn plain_result(
 ) -> Answer
     ensures { λ o. ⌜ toResult o ≡ told (orMismatch (plainResult op n s m r)) ⌝ }
 {
-    match op {
-        BinaryOperator::Add
-        | BinaryOperator::Subtract
-        | BinaryOperator::Multiply
-        | BinaryOperator::Divide
-        | BinaryOperator::Modulo => arithmetic(n, s, m, r),
-        BinaryOperator::Equal | BinaryOperator::NotEqual => equality(n, s, m, r),
-        BinaryOperator::Less
-        | BinaryOperator::LessEqual
-        | BinaryOperator::Greater
-        | BinaryOperator::GreaterEqual => ordering(n, s, m, r),
-        BinaryOperator::And | BinaryOperator::InclusiveOr => and_or(n, s, m, r),
-        BinaryOperator::ExclusiveOr => xor(n, s, m, r),
-        BinaryOperator::LogicalAnd | BinaryOperator::LogicalOr => logicals(n, s, m, r),
-        BinaryOperator::ShiftLeft | BinaryOperator::ShiftRight => shift(n, s, m, r),
-    }
+    plain_when(
+        plain_test(op, n, s, m, r),
+        plain_size(op, n, m),
+        plain_scalar(op, s),
+    )
 }
 
 // A matrix times a scalar or a vector.

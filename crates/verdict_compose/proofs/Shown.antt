@@ -1,16 +1,16 @@
 -- What the frame of a component's answer shows of its type is what its comparison gives: a type's own number, or a value whose bytes are that type's. By the
 -- cases of the answer's family and of the kind. Assumes nothing.
-use Prim.Native.Nat.{ℕ, _+_, _*_}
-use mathlib.Core.Path.{_≡_, refl, sym, ap, _∙_}
+use Prim.Native.Nat.{ℕ, _+_, _*_, _/_, _%_}
+use native.Mathlib.Omega.{arith}
+use mathlib.Core.Path.{_≡_, refl, sym, ap, subst, _∙_}
 use mathlib.Core.Bool.{Bool, true, false, cond, _&&_, _||_}
-use mathlib.Core.List.{List}
+use mathlib.Core.List.{List, [], _∷_}
 use mathlib.Core.Option.{Option, none, some}
-use lib.Dec.{ltb, eqb}
-use lib.ListN.{length, getD}
-use borrow.Author.Tests.{eqb-true}
+use lib.Dec.{eqb}
+use borrow.Author.Needs.{needs}
+use borrow.Author.Tests.{eqb-true, eq-eqb}
 use Rattle.scan.proofs.Laws.{and-first, and-second}
 use Rattle.ir.specs.declared.TypeNumber.{TypeNumber}
-use Rattle.ir.specs.declared.RowNumber.{RowNumber}
 use Rattle.ir.specs.declared.ScalarKind.{ScalarKind}
 use Rattle.ir.specs.declared.Scalar.{Scalar}
 use Rattle.ir.specs.declared.Width.{Width}
@@ -18,66 +18,37 @@ use Rattle.ir.specs.declared.TypeInner.{TypeInner}
 use Rattle.ir.specs.declared.TypeInner.the-variants as Ti
 use Rattle.ir.specs.declared.TypeForm.{TypeForm}
 use Rattle.ir.specs.declared.TypeForm.the-variants as Tf
-use Rattle.ir.specs.Numbers.{typeKindOf, spaceOf, scalarKindOf, widthOf, vectorSizeOf}
-use Rattle.answers.specs.declared.Answer.the-variants as An
-use Rattle.answers.specs.declared.Refusal.the-variants.{MissingSpecialType}
+use Rattle.ir.specs.declared.VectorSize.{VectorSize}
+use Rattle.ir.specs.Numbers.{typeKindOf, spaceOf, scalarKindOf, scalarKindNumber, widthOf, widthNumber, vectorSizeOf, vectorSizeNumber}
+use Rattle.ir.specs.Scalars.{equalScalars}
+use Rattle.ir.proofs.Numbered.{scalarKind-back, width-back}
+use Rattle.ir.proofs.Others.{Others, kindsBut, of-each}
 use Rattle.frames.specs.declared.Frame.{Frame}
 use Rattle.frames.specs.Bytes.{byte, half, zeroFrame, frameAt}
 use Rattle.frames.specs.Fields.{read, scalar}
 use Rattle.frames.specs.Forms.{typeAs, typeOf}
-use Rattle.frames.specs.ForProofs.{unresolvedOf, answerOf}
+use Rattle.frames.specs.Out.{typeFrame}
+use Rattle.frames.specs.ForProofs.{answerOf, valueOf}
 use Rattle.archive.specs.declared.Starts.{Starts}
 use Rattle.archive.specs.Names.{isType}
 use Rattle.archive.specs.Access.{typeIn}
 use Rattle.rule.specs.declared.Fault.the-variants as Fa
 use Rattle.rule.specs.Answers.{TypeAnswer, number, value, resolved}
 use Rattle.rule.specs.Things.{inRange, valueFault, isStructInner, isStruct}
-use Rattle.rule_types.specs.Canonical.{valuePointer, orOwn, formFound, throughBase, canonicalFormIn, identical}
+use Rattle.rule_types.specs.Canonical.{valuePointer, orOwn, formFound, throughBase, canonicalFormIn, identical, equalTypes}
 use Rattle.rule_types.specs.ForProofs.{orSelf, canonicalOf, byAnswers, likeness}
-use Rattle.rule_types.proofs.Equality.{equal-types, identical-self}
+use Rattle.rule_types.proofs.Equality.{equal-types, identical-self, identical-frames}
 use Rattle.rule_types.proofs.Seen.{never}
-use Rattle.row_operands.specs.Past.{answerIn}
 use Rattle.rule_compose.specs.declared.OptionVerdict.the-variants as Ov
 use Rattle.rule_compose.specs.ForProofs.{partVerdict, answerVerdict}
-use Rattle.verdict_compose.specs.Shown.{pastFrame, typeFrameIn, isPlain, sameForm, samePointer, valueShown, typeShown}
+use Rattle.row_operands.specs.Plain.{typeFrameIn, typedFrame, plainOf}
+use Rattle.row_operands.specs.Plain as Pl
+use Rattle.row_operands.proofs.ByFrame.{type-frame, scalar-form, vector-form, matrix-form, cooperative-form}
+use Rattle.verdict_compose.specs.Shown.{isPlain, sameForm, samePointer, valueShown, typeShown}
 
 -- the scalar in bytes 4 and 5
 abbrev scalarShown : Frame → Scalar
 scalarShown f = read scalar f
-
--- a row's answer is that of its frame
-pub past-frame : (an pl : List ℕ) (n : RowNumber) → answerIn an pl n ≡ answerOf (pastFrame an pl n)
-unfolding answerIn answerOf unresolvedOf
-past-frame an pl n = go (ltb (n .0) (length pl))
-  where
-    go : (b : Bool)
-        → cond b (answerOf (frameAt an (getD pl (n .0) 0))) (An.Refused MissingSpecialType) ≡ answerOf (cond b (frameAt an (getD pl (n .0) 0)) zeroFrame)
-    go true = refl
-    go false = refl
-
--- a type is that of its frame
-pub type-frame : (fr : List ℕ) (s : Starts) (n : TypeNumber) → typeIn fr s n ≡ typeOf (typeFrameIn fr s n)
-unfolding typeIn typeOf
-type-frame fr s n = go (isType s n)
-  where
-    go : (b : Bool) → cond b (typeOf (frameAt fr (n .0))) Tf.Unknown ≡ typeOf (cond b (frameAt fr (n .0)) zeroFrame)
-    go true = refl
-    go false = refl
-
--- SCALARS, VECTORS AND MATRICES
-
-pub scalar-form : (f : Frame) → byte f 1 ≡ 1 → typeOf f ≡ Tf.Known (Ti.Scalar (scalarShown f))
-unfolding typeOf
-scalar-form f e = ap (λ (k : ℕ). typeAs (typeKindOf k) f) e
-
-pub vector-form : (f : Frame) → byte f 1 ≡ 2 → typeOf f ≡ Tf.Known (Ti.Vector (vectorSizeOf (byte f 2)) (scalarShown f))
-unfolding typeOf
-vector-form f e = ap (λ (k : ℕ). typeAs (typeKindOf k) f) e
-
-pub matrix-form : (f : Frame) → byte f 1 ≡ 3
-    → typeOf f ≡ Tf.Known (Ti.Matrix (vectorSizeOf (byte f 2)) (vectorSizeOf (byte f 3)) (scalarShown f))
-unfolding typeOf
-matrix-form f e = ap (λ (k : ℕ). typeAs (typeKindOf k) f) e
 
 pub pointer-form : (f : Frame) → byte f 1 ≡ 6 → typeOf f ≡ Tf.Known (Ti.Pointer (record { 0 = half f 2 }) (spaceOf (byte f 6) (byte f 7)))
 unfolding typeOf
@@ -98,6 +69,27 @@ plain-form f h = go (eqb (byte f 1) 1) (eqb (byte f 1) 2) (eqb (byte f 1) 3) ref
 
 abbrev made : ScalarKind → Width → Scalar
 made k w = record { kind = k; width = w }
+
+-- a value's frame is of family 9, and no number's
+value-number : {X : Type 0} (t : TypeInner) → 8 ≡ byte (typeFrame 9 t) 0 → X
+value-number (Ti.Scalar k) e = absurd (omega (arith, e))
+value-number (Ti.Vector z k) e = absurd (omega (arith, e))
+value-number (Ti.Matrix c r k) e = absurd (omega (arith, e))
+value-number (Ti.CooperativeMatrix c r k o) e = absurd (omega (arith, e))
+value-number (Ti.Atomic k) e = absurd (omega (arith, e))
+value-number (Ti.Pointer b p) e = absurd (omega (arith, e))
+value-number (Ti.ValuePointer z k p) e = absurd (omega (arith, e))
+value-number (Ti.Array b z n) e = absurd (omega (arith, e))
+value-number (Ti.Struct m n z) e = absurd (omega (arith, e))
+value-number (Ti.Image d a c) e = absurd (omega (arith, e))
+value-number (Ti.Sampler q) e = absurd (omega (arith, e))
+value-number (Ti.AccelerationStructure q) e = absurd (omega (arith, e))
+value-number (Ti.RayQuery q) e = absurd (omega (arith, e))
+value-number (Ti.BindingArray b z) e = absurd (omega (arith, e))
+
+zero-shown : (t : TypeInner) → plainOf zeroFrame ≡ Tf.Known t → ⊥
+unfolding plainOf
+zero-shown t e = never (cc)
 
 module _ (fr : List ℕ) (s : Starts) where
   -- a pointer's base that is a type is in range
@@ -250,3 +242,159 @@ module _ (fr : List ℕ) (s : Starts) where
       go false true p q h =
           let w = valued-shown n f (typeFrameIn fr s n) (type-frame fr s n) h in rw (p, q, w .form) (ap (partVerdict i) (w .alike))
       go false false p q h = never (cc)
+
+  -- WHAT BOTH FRAMES SHOW: the forms of an element's or a member's type and of a component's are their canonical ones,
+  -- and no struct's
+
+  record Own (t : TypeInner) : Type 0 where
+    pub sound : valueFault s t ≡ Fa.Sound
+    pub unnamed : isStructInner t ≡ false
+    pub own : orSelf t (canonicalFormIn fr s t) ≡ Tf.Known t
+
+  own-kind : (f : Frame) (t : TypeInner) → plainOf f ≡ Tf.Known t → Own t
+  unfolding plainOf
+  own-kind f t e = go (eqb (byte f 1) 1) (eqb (byte f 1) 2) (eqb (byte f 1) 3) (eqb (byte f 1) 4) refl refl refl refl e
+    where
+      of-form : (u : TypeInner) → typeOf f ≡ Tf.Known u → typeOf f ≡ Tf.Known t → Own u → Own t
+      of-form u p q w = subst Own (let h : Tf.Known u ≡ Tf.Known t = sym p ∙ q in cc) w
+
+      go : (x y z v : Bool) → eqb (byte f 1) 1 ≡ x → eqb (byte f 1) 2 ≡ y → eqb (byte f 1) 3 ≡ z → eqb (byte f 1) 4 ≡ v
+          → cond (x || (y || (z || v))) (typeOf f) Tf.Unknown ≡ Tf.Known t → Own t
+      go true y z v p q r o h = of-form _ (scalar-form f (eqb-true _ _ p)) h (record { sound = refl; unnamed = refl; own = refl })
+      go false true z v p q r o h = of-form _ (vector-form f (eqb-true _ _ q)) h (record { sound = refl; unnamed = refl; own = refl })
+      go false false true v p q r o h = of-form _ (matrix-form f (eqb-true _ _ r)) h (record { sound = refl; unnamed = refl; own = refl })
+      go false false false true p q r o h = of-form _ (cooperative-form f (eqb-true _ _ o)) h (record { sound = refl; unnamed = refl; own = refl })
+      go false false false false p q r o h = never (cc)
+
+  shown-form : (f : Frame) (t : TypeInner) → plainOf f ≡ Tf.Known t → typeOf f ≡ Tf.Known t
+  unfolding plainOf
+  shown-form f t e = go (Pl.isPlain f) e
+    where
+      go : (b : Bool) → cond b (typeOf f) Tf.Unknown ≡ Tf.Known t → typeOf f ≡ Tf.Known t
+      go true q = q
+      go false q = never (cc)
+
+  -- two numbers: where they are one, the forms are the same
+  like-numbers : (n m : TypeNumber) (t u : TypeInner) → typeIn fr s n ≡ Tf.Known t → typeIn fr s m ≡ Tf.Known u → Own t → Own u
+      → likeness fr s (number n) (number m) ≡ some (equalTypes t u)
+  like-numbers n m t u p q v w = go (identical (number n) (number m)) refl
+    where
+      go : (i : Bool) → identical (number n) (number m) ≡ i
+          → byAnswers i (isStruct fr s (number n) || isStruct fr s (number m)) (canonicalOf fr s (number n)) (canonicalOf fr s (number m))
+          ≡ some (equalTypes t u)
+      go true e =
+          let a : n .0 % 256 + n .0 / 256 * 256 ≡ m .0 % 256 + m .0 / 256 * 256 =
+          ap (λ (f : Frame). half f 2) (identical-frames (number n) (number m) .0 e) in
+          let b : n .0 ≡ m .0 = omega (arith, a) in
+          let c : Tf.Known t ≡ Tf.Known u = sym p ∙ ap (λ (k : ℕ). typeIn fr s (record { 0 = k })) b ∙ q in
+          let d : t ≡ u = cc in
+          ap some (sym (equal-types t u .1 d))
+      go false e = rw (p, q, v .unnamed, w .unnamed, v .own, w .own)
+
+  -- a number and a value, which are never one answer
+  like-values : (n : TypeNumber) (t u : TypeInner) → typeIn fr s n ≡ Tf.Known t → Own t → Own u
+      → likeness fr s (number n) (value u) ≡ some (equalTypes t u)
+  like-values n t u p v w = go (identical (number n) (value u)) refl
+    where
+      go : (i : Bool) → identical (number n) (value u) ≡ i
+          → byAnswers i (isStruct fr s (number n) || isStruct fr s (value u)) (canonicalOf fr s (number n)) (canonicalOf fr s (value u))
+          ≡ some (equalTypes t u)
+      go true e = value-number u (ap (λ (f : Frame). byte f 0) (identical-frames (number n) (value u) .0 e))
+      go false e = rw (p, v .unnamed, w .sound, v .own, w .own)
+
+  pub both-shown : (n : TypeNumber) (i : ℕ) (f : Frame) (t u : TypeInner) → plainOf (typeFrameIn fr s n) ≡ Tf.Known t
+      → plainOf (typedFrame fr s f) ≡ Tf.Known u
+      → answerVerdict i (λ x. partVerdict i (likeness fr s (number n) (resolved x))) (answerOf f) ≡ partVerdict i (some (equalTypes t u))
+  unfolding answerOf
+  both-shown n i f t u e h = go (eqb (byte f 0) 8) (eqb (byte f 0) 9) refl refl h
+    where
+      g : typeIn fr s n ≡ Tf.Known t
+      g = type-frame fr s n ∙ shown-form (typeFrameIn fr s n) t e
+
+      v : Own t
+      v = own-kind (typeFrameIn fr s n) t e
+
+      go : (a b : Bool) → eqb (byte f 0) 8 ≡ a → eqb (byte f 0) 9 ≡ b
+          → plainOf (cond a (typeFrameIn fr s (record { 0 = half f 2 })) (cond b f zeroFrame)) ≡ Tf.Known u
+          → answerVerdict i (λ x. partVerdict i (likeness fr s (number n) (resolved x))) (answerOf f) ≡ partVerdict i (some (equalTypes t u))
+      go true b p q k =
+          let m : TypeNumber = record { 0 = half f 2 } in
+          rw p
+          (ap (partVerdict i)
+          (like-numbers n m t u g (type-frame fr s m ∙ shown-form (typeFrameIn fr s m) u k) v (own-kind (typeFrameIn fr s m) u k)))
+      go false true p q k = rw (p, q, shown-form f u k) (ap (partVerdict i) (like-values n t u g v (own-kind f u k)))
+      go false false p q k = absurd (zero-shown u k)
+
+-- A COMPONENT OF A VECTOR
+
+abbrev shows : ℕ → Bool
+shows k = eqb k 1 || (eqb k 2 || (eqb k 3 || eqb k 4))
+
+pub plain-scalar : (f : Frame) → byte f 1 ≡ 1 → plainOf f ≡ Tf.Known (Ti.Scalar (scalarShown f))
+unfolding plainOf
+plain-scalar f e = ap (λ (k : ℕ). cond (shows k) (typeOf f) Tf.Unknown) e ∙ scalar-form f e
+
+pub plain-vector : (f : Frame) → byte f 1 ≡ 2 → plainOf f ≡ Tf.Known (Ti.Vector (vectorSizeOf (byte f 2)) (scalarShown f))
+unfolding plainOf
+plain-vector f e = ap (λ (k : ℕ). cond (shows k) (typeOf f) Tf.Unknown) e ∙ vector-form f e
+
+-- a scalar whose bytes a frame has is the one that it reads as
+pub bytes-same : (f : Frame) (k : Scalar) → (eqb (byte f 4) (scalarKindNumber (k .kind)) && eqb (byte f 5) (widthNumber (k .width))) ≡ true
+    → true ≡ equalScalars (scalarShown f) k
+bytes-same f k h =
+    let p : byte f 4 ≡ scalarKindNumber (k .kind) = eqb-true _ _ (and-first _ _ h) in
+    let q : byte f 5 ≡ widthNumber (k .width) = eqb-true _ _ (and-second (eqb (byte f 4) (scalarKindNumber (k .kind))) _ h) in
+    let kinds : scalarKindOf (byte f 4) ≡ k .kind = ap scalarKindOf p ∙ scalarKind-back (k .kind) in
+    let widths : widthOf (byte f 5) ≡ k .width = ap widthOf q ∙ width-back (k .width) in
+    sym
+    (ap (λ (x : ScalarKind). eqb (scalarKindNumber x) (scalarKindNumber (k .kind)) && eqb (widthNumber (widthOf (byte f 5))) (widthNumber (k .width))) kinds
+    ∙ ap (λ (x : Width). eqb (scalarKindNumber (k .kind)) (scalarKindNumber (k .kind)) && eqb (widthNumber x) (widthNumber (k .width))) widths
+    ∙ rw (eq-eqb (scalarKindNumber (k .kind)) (scalarKindNumber (k .kind)) refl, eq-eqb (widthNumber (k .width)) (widthNumber (k .width)) refl))
+
+-- EQUAL TYPES, field by field
+
+same-two : (x y : Bool) → (x && y) ≡ (x && (y && true))
+same-two true true = refl
+same-two true false = refl
+same-two false y = refl
+
+same-three : (z x y : Bool) → (z && (x && y)) ≡ (z && (x && (y && true)))
+same-three true x y = same-two x y
+same-three false x y = refl
+
+same-four : (w z x y : Bool) → (w && (z && (x && y))) ≡ (w && (z && (x && (y && true))))
+same-four true z x y = same-three z x y
+same-four false z x y = refl
+
+pub scalars-same : (j k : Scalar) → equalScalars j k ≡ equalTypes (Ti.Scalar j) (Ti.Scalar k)
+unfolding equalTypes
+scalars-same j k = same-two (eqb (scalarKindNumber (j .kind)) (scalarKindNumber (k .kind))) (eqb (widthNumber (j .width)) (widthNumber (k .width)))
+
+pub vectors-same : (y z : VectorSize) (j k : Scalar)
+    → (eqb (vectorSizeNumber y) (vectorSizeNumber z) && equalScalars j k) ≡ equalTypes (Ti.Vector y j) (Ti.Vector z k)
+unfolding equalTypes
+vectors-same y z j k =
+    same-three (eqb (vectorSizeNumber y) (vectorSizeNumber z)) (eqb (scalarKindNumber (j .kind)) (scalarKindNumber (k .kind)))
+    (eqb (widthNumber (j .width)) (widthNumber (k .width)))
+
+pub matrices-same : (x y c r : VectorSize) (j k : Scalar)
+    → (eqb (vectorSizeNumber x) (vectorSizeNumber c) && (eqb (vectorSizeNumber y) (vectorSizeNumber r) && equalScalars j k))
+    ≡ equalTypes (Ti.Matrix x y j) (Ti.Matrix c r k)
+unfolding equalTypes
+matrices-same x y c r j k =
+    same-four (eqb (vectorSizeNumber x) (vectorSizeNumber c)) (eqb (vectorSizeNumber y) (vectorSizeNumber r))
+    (eqb (scalarKindNumber (j .kind)) (scalarKindNumber (k .kind))) (eqb (widthNumber (j .width)) (widthNumber (k .width)))
+
+-- types of another kind
+
+pub no-scalar : (k : Scalar) → Others (kindsBut (0 ∷ [])) (λ t. false ≡ equalTypes t (Ti.Scalar k))
+unfolding equalTypes
+no-scalar k = of-each (search needs)
+
+pub no-vector : (z : VectorSize) (k : Scalar) → Others (kindsBut (1 ∷ [])) (λ t. false ≡ equalTypes t (Ti.Vector z k))
+unfolding equalTypes
+no-vector z k = of-each (search needs)
+
+pub no-matrix : (c r : VectorSize) (k : Scalar) → Others (kindsBut (2 ∷ [])) (λ t. false ≡ equalTypes t (Ti.Matrix c r k))
+unfolding equalTypes
+no-matrix c r k = of-each (search needs)

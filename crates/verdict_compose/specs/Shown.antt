@@ -2,22 +2,15 @@
 use Prim.Native.Nat.{ℕ}
 use mathlib.Core.Bool.{Bool, false, cond, _&&_, _||_}
 use mathlib.Core.List.{List}
-use lib.Dec.{ltb, eqb}
-use lib.ListN.{length, getD}
+use lib.Dec.{eqb}
 use Rattle.ir.specs.declared.TypeNumber.{TypeNumber}
-use Rattle.ir.specs.declared.RowNumber.{RowNumber}
 use Rattle.frames.specs.declared.Frame.{Frame}
-use Rattle.frames.specs.Bytes.{byte, half, zeroFrame, frameAt}
+use Rattle.frames.specs.Bytes.{byte, half}
 use Rattle.archive.specs.declared.Starts.{Starts}
-use Rattle.archive.specs.Names.{isType}
-
--- the frame of row n's answer; zeros, which read as the fixed refusal, of a row that is not typed yet
-abbrev pub pastFrame : List ℕ → List ℕ → RowNumber → Frame
-pastFrame answers places n = cond (ltb (n .0) (length places)) (frameAt answers (getD places (n .0) 0)) zeroFrame
-
--- the frame of type n; zeros, of unknown kind, where there is none
-abbrev pub typeFrameIn : List ℕ → Starts → TypeNumber → Frame
-typeFrameIn fr s n = cond (isType s n) (frameAt fr (n .0)) zeroFrame
+use Rattle.row_operands.specs.Plain.{typeFrameIn}
+use Rattle.rule_compose.specs.declared.Part.{Part}
+use Rattle.rule_compose.specs.declared.Part.the-variants as Pa
+use Rattle.rule_compose.specs.ForProofs.{memberType}
 
 -- a frame is of a scalar, a vector or a matrix
 abbrev pub isPlain : Frame → Bool
@@ -45,3 +38,9 @@ valueShown fr s f g = cond (eqb (byte f 1) 6) (samePointer fr s f g) (sameForm f
 -- an answer's frame shows that it is the same as type n: its number, or a value with that type's bytes
 abbrev pub typeShown : List ℕ → Starts → TypeNumber → Frame → Bool
 typeShown fr s n f = cond (eqb (byte f 0) 8) (eqb (half f 2) (n .0)) (cond (eqb (byte f 0) 9) (valueShown fr s f (typeFrameIn fr s n)) false)
+
+-- the type that is asked of component i; of a column type 0, which no verdict comes to
+abbrev pub askedType : List ℕ → Starts → Part → ℕ → TypeNumber
+askedType fr s (Pa.Column rows k) i = record { 0 = 0 }
+askedType fr s (Pa.Element base) i = base
+askedType fr s (Pa.Member first n) i = memberType fr s first n i

@@ -1,38 +1,12 @@
-// What the frame of a component's answer shows of its type before any look: that it is the type of an element or a member. Where it does not show it, the
-// answer is compared. Without this test a file of composes takes about 1.6 of the time of a plain loop (docs/DECISIONS.md, "Forms").
+// What the frame of a component's answer shows of its type before any look: that it is the type of an element or a
+// member. Where it does not show it, the forms or the answers are compared. Without this test a file of composes that
+// share their components takes more than twice the instructions (docs/SPEED.md).
 use archive::Starts;
-use archive_access::families::is_type;
 use frames::Frame;
-use frames::frame_at;
-use frames::no_frame;
-use ir::RowNumber;
 use ir::TypeNumber;
+use row_operands::plain::type_frame;
 ghost use mathlib.Core.Path.{_≡_};
-ghost use Rattle.verdict_compose.specs.Shown.{pastFrame, typeFrameIn, isPlain, sameForm, samePointer, valueShown, typeShown};
-
-// The frame of row n's answer; zeros, which read as the fixed refusal, of a row that is not typed yet.
-pub fn past_frame(answers: &[u8], places: &[u16], n: RowNumber) -> Frame
-    ensures { λ r. ⌜ r ≡ pastFrame (now (answers .entry)) (now (places .entry)) n ⌝ }
-{
-    let i = n.0 as usize;
-    if i < places.len() {
-        let at = places[i] as usize;
-        frame_at(answers, at)
-    } else {
-        no_frame()
-    }
-}
-
-// The frame of type n; zeros, of unknown kind, where there is none.
-fn type_frame(frames: &[u8], s: Starts, n: TypeNumber) -> Frame
-    ensures { λ r. ⌜ r ≡ typeFrameIn (now (frames .entry)) s n ⌝ }
-{
-    if is_type(s, n) {
-        frame_at(frames, n.0 as usize)
-    } else {
-        no_frame()
-    }
-}
+ghost use Rattle.verdict_compose.specs.Shown.{isPlain, sameForm, samePointer, valueShown, typeShown};
 
 // A frame is of a scalar, a vector or a matrix.
 fn is_plain(f: Frame) -> bool

@@ -3,17 +3,22 @@ use answers::Unresolved;
 use answers::Verdict;
 use archive::Starts;
 use archive_access::families::component_at;
+use frames::Frame;
 use ir::ComponentNumber;
 use ir::RowNumber;
 use ir::Scalar;
 use ir::TypeInner;
 use ir::VectorSize;
 use row_operands::Looked;
-use row_operands::past::look_into;
+use row_operands::past::look_component;
+use row_operands::plain::past_frame;
+use row_operands::plain::typed_frame;
 use rule_compose::Added;
 ghost use mathlib.Core.Path.{_≡_};
 ghost use mathlib.Core.Bool.{cond};
 ghost use mathlib.Core.Option.{none, some};
+ghost use Rattle.ir.specs.Scalars.{equalScalars};
+ghost use Rattle.frames.specs.Fields.{read, scalar};
 ghost use Rattle.rule_compose.specs.Verdict.{vectorParts, adds};
 ghost use Rattle.rule_compose.specs.Judged.{toJudged};
 ghost use Rattle.rule_compose.specs.ForProofs.{judgedBy, partsIn, countAdded, endAdded, addedBy};
@@ -53,7 +58,39 @@ fn end_added(i: u32, end: Unresolved) -> Added
     }
 }
 
-// What component i, which is row n, adds to a vector. Where a look ends says nothing of the verdict's place, so any row will do for it.
+// What component i, which is row n, adds to a vector, by a look into its type.
+fn look_added(
+    frames: &[u8],
+    s: Starts,
+    answers: &[u8],
+    places: &[u16],
+    scalar: Scalar,
+    i: u32,
+    n: RowNumber,
+) -> Added
+    ensures { λ r. ⌜ r ≡ addedBy (now (frames .entry)) s (now (answers .entry)) (now (places .entry)) scalar i n ⌝ }
+{
+    match look_component(frames, s, answers, places, n) {
+        Looked::Seen(t) => count_added(i, scalar, t),
+        Looked::Ended(end) => end_added(i, end),
+    }
+}
+
+// Whether the scalar of a frame is k: its two bytes are k's, or read as k.
+fn scalar_is(f: Frame, k: Scalar) -> bool
+    ensures { λ r. ⌜ r ≡ equalScalars (read scalar f) k ⌝ }
+{
+    let kind = k.kind;
+    let width = k.width;
+    if (f.b4 == kind.number()) & (f.b5 == width.number()) {
+        true
+    } else {
+        let own = f.scalar();
+        own.equals(k)
+    }
+}
+
+// What component i, which is row n, adds to a vector: by the frame of its type where that is a scalar or a vector.
 fn added_by(
     frames: &[u8],
     s: Starts,
@@ -65,9 +102,15 @@ fn added_by(
 ) -> Added
     ensures { λ r. ⌜ r ≡ addedBy (now (frames .entry)) s (now (answers .entry)) (now (places .entry)) scalar i n ⌝ }
 {
-    match look_into(frames, s, answers, places, n, n) {
-        Looked::Seen(t) => count_added(i, scalar, t),
-        Looked::Ended(end) => end_added(i, end),
+    let f = typed_frame(frames, s, past_frame(answers, places, n));
+    let kind = f.b1;
+    match kind {
+        1 => adds_scalar(i, scalar_is(f, scalar), 1),
+        2 => {
+            let size = VectorSize::from_number(f.b2);
+            adds_scalar(i, scalar_is(f, scalar), size.number() as u32)
+        }
+        _ => look_added(frames, s, answers, places, scalar, i, n),
     }
 }
 

@@ -1,7 +1,7 @@
--- `multiply`: the left is seen, or shows no form. Assumes nothing.
-use mathlib.Core.Path.{sym, _∙_}
-use Rattle.rule_rows.specs.Operators.{product}
-use Rattle.row_operands.proofs.TwoOperands.{left-unseen}
+-- `multiply`: the frames of both answers show forms, or both are looked into. Assumes nothing.
+use mathlib.Core.Path.{_∙_}
+use Rattle.row_operands.proofs.ByFrame.{shown-seen}
+use Rattle.row_multiply.proofs.Seen.{times-seen}
 use Rattle.row_multiply.proofs.reads.multiply.Statement.{statement}
 use Rattle.row_multiply.proofs.reads.multiply.Tie as tie
 
@@ -10,13 +10,27 @@ multiply-spec =
     tie.close
     (tie.spec
     (λ c κs. tt)
+    (λ c κs. tt)
+    (λ c κs. tt)
+    (λ c κs. tt)
     (λ c. c .match .keys1)
-    (λ c κs. sym (c .before .before .before .look-into .ensures) ∙ c .before .x .given .1)
+    (λ c κs. tt)
+    (λ c κs. tt)
+    (λ c. c .match2 .keys1)
+    (λ c κs. tt)
+    (λ c κs. tt)
+    (λ c. c .match2 .keys2)
+    (λ c κs. tt)
     (λ c. c .match .keys2)
     (λ c κs. tt)
-    (λ c. c .look-right .ensures)
     (λ c.
-    let g = c .before .before .before .before .before .before .before .args in
-    c .left-end .ensures
-    ∙ left-unseen product (g .frames .now) (g .s) (g .here) (g .answers .now) (g .places .now) (g .left) (g .right)
-    (sym (c .before .before .before .look-into .ensures) ∙ c .before .enum-told .given .1)))
+    let g = c .before .before .before .before .before .before .before .before .before .before .before .before .before .before .before .before .before .args in
+    c .times .ensures
+    ∙ times-seen (g .frames .now) (g .s) (g .here) (g .answers .now) (g .places .now) (g .left) (g .right)
+    (shown-seen (g .frames .now) (g .s) (g .here) (g .answers .now) (g .places .now) (g .left) (c .before .before .before .before .before .before .before .before .before .before .before .before .before .past-frame .ensures)
+    (c .before .before .before .before .before .before .before .before .before .before .before .typed-frame .ensures) (c .before .before .before .before .before .before .before .before .before .before .plain-form .ensures) (c .before .before .before .before .before .before .before .before .x .given .1))
+    (shown-seen (g .frames .now) (g .s) (g .here) (g .answers .now) (g .places .now) (g .right) (c .before .before .before .before .before .before .before .before .before .before .before .before .past-frame2 .ensures)
+    (c .before .before .before .before .before .before .typed-frame2 .ensures) (c .before .before .before .before .before .plain-form2 .ensures) (c .before .before .before .y .given .1))
+    (c .before .product .result) (c .before .product .ensures))
+    (λ c. c .look-both .ensures)
+    (λ c. c .look-both2 .ensures))

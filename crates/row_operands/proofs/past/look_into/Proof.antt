@@ -1,28 +1,14 @@
--- `look_into`: by the frame of the operand's answer, where the table has a place for it. Assumes nothing.
-use native.Mathlib.Omega.{arith}
-use borrow.Author.Needs.{needs}
-use borrow.Author.Tests.{lt-ltb, le-ltb}
-use Rattle.row_operands.specs.Past.{answerIn, lookedIn}
+-- `look_into`: a look goes by three of the places where families begin. Assumes nothing.
+use mathlib.Core.Path.{_∙_}
+use Rattle.row_operands.proofs.ByFrame.{few-look}
 use Rattle.row_operands.proofs.past.look_into.Statement.{statement}
 use Rattle.row_operands.proofs.past.look_into.Tie as tie
-
-returns : tie.Need-returns
-unfolding answerIn lookedIn
-returns c = rw (lt-ltb _ _ (c .before .before .before .if1 .taken), c .look-by .ensures, c .before .frame-at .ensures)
-
-returns-2 : tie.Need-returns-2
-unfolding answerIn lookedIn
-returns-2 c = rw (le-ltb _ _ (c .if1 .left))
 
 pub look-into-spec : {M : Type 1} → statement M
 look-into-spec =
     tie.close
     (tie.spec
-    (λ c. search needs)
-    (λ c. search needs)
-    (λ c. search needs)
-    (λ c. omega (arith, c .shared-slice-known4 .given (c .before .before .before .before .before .before .args .n .0)))
     (λ c κs. tt)
-    (λ c κs. tt)
-    returns
-    returns-2)
+    (λ c.
+    let g = c .before .before .before .before .args in
+    c .look-in .ensures ∙ few-look (g .frames .now) (g .s) (g .answers .now) (g .places .now) (g .here) (g .n)))

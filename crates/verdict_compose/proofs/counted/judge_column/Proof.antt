@@ -1,5 +1,5 @@
--- `judge_column`: the look sees a form, or ends. Assumes nothing.
-use mathlib.Core.Path.{sym, ap, _∙_}
+-- `judge_column`: the frame shows the form, or it is looked into. Assumes nothing.
+use mathlib.Core.Path.{ap, _∙_}
 use mathlib.Core.Bool.{Bool}
 use mathlib.Core.Option.{some}
 use Rattle.ir.specs.declared.TypeInner.the-variants as Ti
@@ -7,6 +7,7 @@ use Rattle.rule_types.specs.declared.OptionBool.the-variants as Ob
 use Rattle.rule_types.specs.Canonical.{equalTypes}
 use Rattle.rule_compose.specs.ForProofs.{partSaid}
 use Rattle.rule_compose.proofs.Runs.{column-is, part-said}
+use Rattle.row_operands.proofs.ByFrame.{shown-seen}
 use Rattle.verdict_compose.proofs.counted.judge_column.Statement.{statement}
 use Rattle.verdict_compose.proofs.counted.judge_column.Tie as tie
 
@@ -15,18 +16,19 @@ judge-column-spec =
     tie.close
     (tie.spec
     (λ c κs. tt)
+    (λ c κs. tt)
+    (λ c κs. tt)
     (λ c. c .match .keys1)
     (λ c κs. tt)
     (λ c κs. tt)
     (λ c. c .match .keys2)
     (λ c κs. tt)
     (λ c.
-    let g = c .before .before .before .before .before .before .before .before .before .args in
-    c .part-verdict .ensures ∙ ap (λ (b : Bool). partSaid (g .i) (Ob.Some b)) (c .before .equal-types .ensures) ∙ part-said (g .i) (some (equalTypes (c .before .before .before .t .given .0 .0) (Ti.Vector (g .rows) (g .scalar))))
+    let g = c .before .before .before .before .before .before .before .before .before .before .before .args in
+    c .part-verdict .ensures ∙ ap (λ (b : Bool). partSaid (g .i) (Ob.Some b)) (c .before .is-vector .ensures)
+    ∙ part-said (g .i) (some (equalTypes (c .before .before .before .t .given .0 .0) (Ti.Vector (g .rows) (g .scalar))))
     ∙ column-is (g .frames .now) (g .s) (g .n) (g .i) (g .answers .now) (g .places .now) (g .n)
-    (sym (c .before .before .before .before .before .look-into .ensures) ∙ c .before .before .before .t .given .1) (g .rows) (g .scalar))
-    (λ c.
-    let g = c .before .before .before .before .before .before .before .before .args in
-    c .end-verdict .ensures
-    ∙ column-is (g .frames .now) (g .s) (g .n) (g .i) (g .answers .now) (g .places .now) (g .n)
-    (sym (c .before .before .before .before .look-into .ensures) ∙ c .before .before .end .given .1) (g .rows) (g .scalar)))
+    (shown-seen (g .frames .now) (g .s) (g .n) (g .answers .now) (g .places .now) (g .n) (c .before .before .before .before .before .before .before .past-frame .ensures)
+    (c .before .before .before .before .before .before .typed-frame .ensures) (c .before .before .before .before .before .plain-form .ensures) (c .before .before .before .t .given .1))
+    (g .rows) (g .scalar))
+    (λ c. c .look-column .ensures))

@@ -1,17 +1,25 @@
--- `judge_part`: each arm knows what is asked. Assumes nothing.
+-- `judge_part`: each arm knows what is asked; an element and a member are asked by a type. Assumes nothing.
+use Prim.Native.Nat.{ℕ}
+use mathlib.Core.Path.{_≡_, refl, _∙_}
+use mathlib.Core.List.{List, [], _∷_}
+use types.Run.{OneOf, miss}
+use denote.Enum.Declared.{tagOf}
+use Rattle.ir.specs.declared.RowNumber.{RowNumber}
+use Rattle.archive.specs.declared.Starts.{Starts}
+use Rattle.rule_compose.specs.declared.Part.{Part}
+use Rattle.rule_compose.specs.declared.Part.the-variants as Pa
+use Rattle.rule_compose.proofs.Part.{the-type}
 use Rattle.rule_compose.specs.ForProofs.{partJudged}
+use Rattle.verdict_compose.specs.Shown.{askedType}
 use Rattle.verdict_compose.proofs.counted.judge_part.Statement.{statement}
 use Rattle.verdict_compose.proofs.counted.judge_part.Tie as tie
 
-returns : tie.Need-returns
-returns c = rw (c .before .before .asked .given .1) (c .judge-column .ensures)
-
-returns-2 : tie.Need-returns-2
-returns-2 c = rw (c .before .before .asked2 .given .1) (c .judge-type .ensures)
-
-returns-3 : tie.Need-returns-3
+by-type : (fr : List ℕ) (s : Starts) (an pl : List ℕ) (p : Part) (i : ℕ) (n : RowNumber) → OneOf (1 ∷ 2 ∷ []) (tagOf the-type p)
+    → partJudged fr s an pl (Pa.Element (askedType fr s p i)) i n ≡ partJudged fr s an pl p i n
 unfolding partJudged
-returns-3 c = rw (c .before .before .before .asked3 .given .1, c .judge-type2 .ensures, c .before .member-type .ensures)
+by-type fr s an pl (Pa.Column r k) i n h = absurd (miss (1 ∷ 2 ∷ []) 0 tt h)
+by-type fr s an pl (Pa.Element t) i n h = refl
+by-type fr s an pl (Pa.Member m k) i n h = refl
 
 pub judge-part-spec : {M : Type 1} → statement M
 judge-part-spec =
@@ -19,11 +27,10 @@ judge-part-spec =
     (tie.spec
     (λ c. c .match .keys1)
     (λ c κs. tt)
-    (λ c. c .match .keys2)
-    (λ c κs. tt)
-    (λ c. c .match .keys3)
     (λ c κs. tt)
     (λ c κs. tt)
-    returns
-    returns-2
-    returns-3)
+    (λ c. rw (c .before .before .asked .given .1) (c .judge-column .ensures))
+    (λ c.
+    let g = c .before .before .before .before .before .before .args in
+    rw (c .judge-type .ensures, c .before .asked-type .ensures)
+    (by-type (g .frames .now) (g .s) (g .answers .now) (g .places .now) (g .asked) (g .i) (g .n) (c .before .before .match .keys2))))

@@ -1,0 +1,32 @@
+-- `look_column`: the look sees a form, or ends. Assumes nothing.
+use mathlib.Core.Path.{sym, ap, _∙_}
+use mathlib.Core.Bool.{Bool}
+use mathlib.Core.Option.{some}
+use Rattle.ir.specs.declared.TypeInner.the-variants as Ti
+use Rattle.rule_types.specs.declared.OptionBool.the-variants as Ob
+use Rattle.rule_types.specs.Canonical.{equalTypes}
+use Rattle.rule_compose.specs.ForProofs.{partSaid}
+use Rattle.rule_compose.proofs.Runs.{column-is, part-said}
+use Rattle.verdict_compose.proofs.counted.look_column.Statement.{statement}
+use Rattle.verdict_compose.proofs.counted.look_column.Tie as tie
+
+pub look-column-spec : {M : Type 1} → statement M
+look-column-spec =
+    tie.close
+    (tie.spec
+    (λ c κs. tt)
+    (λ c. c .match .keys1)
+    (λ c κs. tt)
+    (λ c κs. tt)
+    (λ c. c .match .keys2)
+    (λ c κs. tt)
+    (λ c.
+    let g = c .before .before .before .before .before .before .before .before .before .args in
+    c .part-verdict .ensures ∙ ap (λ (b : Bool). partSaid (g .i) (Ob.Some b)) (c .before .is-vector .ensures) ∙ part-said (g .i) (some (equalTypes (c .before .before .before .t .given .0 .0) (Ti.Vector (g .rows) (g .scalar))))
+    ∙ column-is (g .frames .now) (g .s) (g .n) (g .i) (g .answers .now) (g .places .now) (g .n)
+    (sym (c .before .before .before .before .before .look-component .ensures) ∙ c .before .before .before .t .given .1) (g .rows) (g .scalar))
+    (λ c.
+    let g = c .before .before .before .before .before .before .before .before .args in
+    c .end-verdict .ensures
+    ∙ column-is (g .frames .now) (g .s) (g .n) (g .i) (g .answers .now) (g .places .now) (g .n)
+    (sym (c .before .before .before .before .look-component .ensures) ∙ c .before .before .end .given .1) (g .rows) (g .scalar)))
