@@ -1,12 +1,35 @@
 -- `resolve`: each arm is what its row's function ensures. Assumes nothing.
-use mathlib.Core.Path.{sym, ap, _∙_}
+use Prim.Native.Nat.{ℕ}
+use mathlib.Core.Path.{_≡_, refl, sym, ap, _∙_}
+use mathlib.Core.List.{List}
+use Rattle.ir.specs.declared.RowNumber.{RowNumber}
 use Rattle.ir.specs.declared.Expression.{Expression}
+use Rattle.answers.specs.declared.Answer.{Answer}
+use Rattle.archive.specs.declared.Starts.{Starts}
+use Rattle.rule.specs.Answers.{Typed, Result, told}
+use Rattle.rule.specs.Rule.{done}
+use Rattle.rule_rows.specs.declared.Pass.{Pass}
+use Rattle.rule_rows.specs.Steps.{sameAs}
 use Rattle.rule.specs.Things.{shown}
 use Rattle.rule_rows.specs.Answered.{toResult}
-use Rattle.row_operands.specs.Past.{ruledShown}
+use Rattle.row_operands.specs.Past.{answerIn, ruled, ruledShown}
 use Rattle.row_operands.proofs.Steps.{same-run, done-run}
 use Rattle.row_typifier.proofs.resolve.resolve.Statement.{statement}
 use Rattle.row_typifier.proofs.resolve.resolve.Tie as tie
+
+-- an arm: the expression is d, and of d the answer is x
+arm : (pass : Pass) (fr : List ℕ) (s : Starts) (an pl : List ℕ) (here : RowNumber) {x : Result Typed} {e d : Expression} → e ≡ d
+    → x ≡ ruledShown pass fr s an pl here (shown fr s d) → x ≡ ruledShown pass fr s an pl here (shown fr s e)
+arm pass fr s an pl here h q = q ∙ sym (ap (λ (e : Expression). ruledShown pass fr s an pl here (shown fr s e)) h)
+
+-- a rule that reads nothing
+ends : (fr : List ℕ) (s : Starts) (an pl : List ℕ) {x : Result Typed} {t : Typed} → x ≡ told t → x ≡ ruled fr s an pl (done t)
+ends fr s an pl q = q ∙ sym (done-run fr s an pl _)
+
+-- a rule that gives its operand's answer
+read : (fr : List ℕ) (s : Starts) (an pl : List ℕ) (n : RowNumber) {a : Answer} → a ≡ answerIn an pl n
+    → toResult a ≡ ruled fr s an pl (sameAs n)
+read fr s an pl n q = ap toResult q ∙ sym (same-run fr s an pl n)
 
 pub resolve-spec : {M : Type 1} → statement M
 resolve-spec =
@@ -79,274 +102,37 @@ resolve-spec =
     (λ c κs. tt)
     (λ c. c .match .keys34)
     (λ c κs. tt)
-    (λ c.
-    let g = c .before .before .before .before .before .before .before .args in
-    c .access .ensures
-    ∙ sym
-    (ap
-    (λ (e : Expression).
-    ruledShown (g .pass) (g .frames .now) (g .s) (g .answers .now) (g .places .now) (g .here) (shown (g .frames .now) (g .s) e))
-    (c .before .before .e .given .1)))
-    (λ c.
-    let g = c .before .before .before .before .before .before .before .args in
-    c .access-index .ensures
-    ∙ sym
-    (ap
-    (λ (e : Expression).
-    ruledShown (g .pass) (g .frames .now) (g .s) (g .answers .now) (g .places .now) (g .here) (shown (g .frames .now) (g .s) e))
-    (c .before .before .e2 .given .1)))
-    (λ c.
-    let g = c .before .before .before .before .before .before .before .args in
-    c .splat .ensures
-    ∙ sym
-    (ap
-    (λ (e : Expression).
-    ruledShown (g .pass) (g .frames .now) (g .s) (g .answers .now) (g .places .now) (g .here) (shown (g .frames .now) (g .s) e))
-    (c .before .before .e3 .given .1)))
-    (λ c.
-    let g = c .before .before .before .before .before .before .before .args in
-    c .swizzle .ensures
-    ∙ sym
-    (ap
-    (λ (e : Expression).
-    ruledShown (g .pass) (g .frames .now) (g .s) (g .answers .now) (g .places .now) (g .here) (shown (g .frames .now) (g .s) e))
-    (c .before .before .e4 .given .1)))
-    (λ c.
-    let g = c .before .before .before .before .before .before .before .args in
-    c .literal .ensures ∙ sym (done-run (g .frames .now) (g .s) (g .answers .now) (g .places .now) _)
-    ∙ sym
-    (ap
-    (λ (e : Expression).
-    ruledShown (g .pass) (g .frames .now) (g .s) (g .answers .now) (g .places .now) (g .here) (shown (g .frames .now) (g .s) e))
-    (c .before .before .e5 .given .1)))
-    (λ c.
-    let g = c .before .before .before .before .before .before .before .args in
-    c .declared .ensures ∙ sym (done-run (g .frames .now) (g .s) (g .answers .now) (g .places .now) _)
-    ∙ sym
-    (ap
-    (λ (e : Expression).
-    ruledShown (g .pass) (g .frames .now) (g .s) (g .answers .now) (g .places .now) (g .here) (shown (g .frames .now) (g .s) e))
-    (c .before .before .e6 .given .1)))
-    (λ c.
-    let g = c .before .before .before .before .before .before .before .args in
-    c .declared2 .ensures ∙ sym (done-run (g .frames .now) (g .s) (g .answers .now) (g .places .now) _)
-    ∙ sym
-    (ap
-    (λ (e : Expression).
-    ruledShown (g .pass) (g .frames .now) (g .s) (g .answers .now) (g .places .now) (g .here) (shown (g .frames .now) (g .s) e))
-    (c .before .before .e7 .given .1)))
-    (λ c.
-    let g = c .before .before .before .before .before .before .before .args in
-    c .numbered .ensures ∙ sym (done-run (g .frames .now) (g .s) (g .answers .now) (g .places .now) _)
-    ∙ sym
-    (ap
-    (λ (e : Expression).
-    ruledShown (g .pass) (g .frames .now) (g .s) (g .answers .now) (g .places .now) (g .here) (shown (g .frames .now) (g .s) e))
-    (c .before .before .e8 .given .1)))
-    (λ c.
-    let g = c .before .before .before .before .before .before .before .args in
-    c .numbered2 .ensures ∙ sym (done-run (g .frames .now) (g .s) (g .answers .now) (g .places .now) _)
-    ∙ sym
-    (ap
-    (λ (e : Expression).
-    ruledShown (g .pass) (g .frames .now) (g .s) (g .answers .now) (g .places .now) (g .here) (shown (g .frames .now) (g .s) e))
-    (c .before .before .e9 .given .1)))
-    (λ c.
-    let g = c .before .before .before .before .before .before .before .args in
-    c .function-argument .ensures ∙ sym (done-run (g .frames .now) (g .s) (g .answers .now) (g .places .now) _)
-    ∙ sym
-    (ap
-    (λ (e : Expression).
-    ruledShown (g .pass) (g .frames .now) (g .s) (g .answers .now) (g .places .now) (g .here) (shown (g .frames .now) (g .s) e))
-    (c .before .before .e10 .given .1)))
-    (λ c.
-    let g = c .before .before .before .before .before .before .before .args in
-    c .global-variable .ensures ∙ sym (done-run (g .frames .now) (g .s) (g .answers .now) (g .places .now) _)
-    ∙ sym
-    (ap
-    (λ (e : Expression).
-    ruledShown (g .pass) (g .frames .now) (g .s) (g .answers .now) (g .places .now) (g .here) (shown (g .frames .now) (g .s) e))
-    (c .before .before .e11 .given .1)))
-    (λ c.
-    let g = c .before .before .before .before .before .before .before .args in
-    c .local-variable .ensures ∙ sym (done-run (g .frames .now) (g .s) (g .answers .now) (g .places .now) _)
-    ∙ sym
-    (ap
-    (λ (e : Expression).
-    ruledShown (g .pass) (g .frames .now) (g .s) (g .answers .now) (g .places .now) (g .here) (shown (g .frames .now) (g .s) e))
-    (c .before .before .e12 .given .1)))
-    (λ c.
-    let g = c .before .before .before .before .before .before .before .args in
-    c .load .ensures
-    ∙ sym
-    (ap
-    (λ (e : Expression).
-    ruledShown (g .pass) (g .frames .now) (g .s) (g .answers .now) (g .places .now) (g .here) (shown (g .frames .now) (g .s) e))
-    (c .before .before .e13 .given .1)))
-    (λ c.
-    let g = c .before .before .before .before .before .before .before .args in
-    c .image-sample .ensures
-    ∙ sym
-    (ap
-    (λ (e : Expression).
-    ruledShown (g .pass) (g .frames .now) (g .s) (g .answers .now) (g .places .now) (g .here) (shown (g .frames .now) (g .s) e))
-    (c .before .before .e14 .given .1)))
-    (λ c.
-    let g = c .before .before .before .before .before .before .before .args in
-    c .sampled .ensures
-    ∙ sym
-    (ap
-    (λ (e : Expression).
-    ruledShown (g .pass) (g .frames .now) (g .s) (g .answers .now) (g .places .now) (g .here) (shown (g .frames .now) (g .s) e))
-    (c .before .before .e15 .given .1)))
-    (λ c.
-    let g = c .before .before .before .before .before .before .before .args in
-    c .image-query .ensures
-    ∙ sym
-    (ap
-    (λ (e : Expression).
-    ruledShown (g .pass) (g .frames .now) (g .s) (g .answers .now) (g .places .now) (g .here) (shown (g .frames .now) (g .s) e))
-    (c .before .before .e16 .given .1)))
-    (λ c.
-    let g = c .before .before .before .before .before .before .before .args in
-    ap toResult (c .past .ensures) ∙ sym (same-run (g .frames .now) (g .s) (g .answers .now) (g .places .now) _)
-    ∙ sym
-    (ap
-    (λ (e : Expression).
-    ruledShown (g .pass) (g .frames .now) (g .s) (g .answers .now) (g .places .now) (g .here) (shown (g .frames .now) (g .s) e))
-    (c .before .before .e17 .given .1)))
-    (λ c.
-    let g = c .before .before .before .before .before .before .before .args in
-    c .binary-by .ensures
-    ∙ sym
-    (ap
-    (λ (e : Expression).
-    ruledShown (g .pass) (g .frames .now) (g .s) (g .answers .now) (g .places .now) (g .here) (shown (g .frames .now) (g .s) e))
-    (c .before .before .e18 .given .1)))
-    (λ c.
-    let g = c .before .before .before .before .before .before .before .args in
-    c .numbered3 .ensures ∙ sym (done-run (g .frames .now) (g .s) (g .answers .now) (g .places .now) _)
-    ∙ sym
-    (ap
-    (λ (e : Expression).
-    ruledShown (g .pass) (g .frames .now) (g .s) (g .answers .now) (g .places .now) (g .here) (shown (g .frames .now) (g .s) e))
-    (c .before .before .e19 .given .1)))
-    (λ c.
-    let g = c .before .before .before .before .before .before .before .args in
-    c .numbered4 .ensures ∙ sym (done-run (g .frames .now) (g .s) (g .answers .now) (g .places .now) _)
-    ∙ sym
-    (ap
-    (λ (e : Expression).
-    ruledShown (g .pass) (g .frames .now) (g .s) (g .answers .now) (g .places .now) (g .here) (shown (g .frames .now) (g .s) e))
-    (c .before .before .e20 .given .1)))
-    (λ c.
-    let g = c .before .before .before .before .before .before .before .args in
-    c .numbered5 .ensures ∙ sym (done-run (g .frames .now) (g .s) (g .answers .now) (g .places .now) _)
-    ∙ sym
-    (ap
-    (λ (e : Expression).
-    ruledShown (g .pass) (g .frames .now) (g .s) (g .answers .now) (g .places .now) (g .here) (shown (g .frames .now) (g .s) e))
-    (c .before .before .e21 .given .1)))
-    (λ c.
-    let g = c .before .before .before .before .before .before .before .args in
-    ap toResult (c .past2 .ensures) ∙ sym (same-run (g .frames .now) (g .s) (g .answers .now) (g .places .now) _)
-    ∙ sym
-    (ap
-    (λ (e : Expression).
-    ruledShown (g .pass) (g .frames .now) (g .s) (g .answers .now) (g .places .now) (g .here) (shown (g .frames .now) (g .s) e))
-    (c .before .before .e22 .given .1)))
-    (λ c.
-    let g = c .before .before .before .before .before .before .before .args in
-    ap toResult (c .past3 .ensures) ∙ sym (same-run (g .frames .now) (g .s) (g .answers .now) (g .places .now) _)
-    ∙ sym
-    (ap
-    (λ (e : Expression).
-    ruledShown (g .pass) (g .frames .now) (g .s) (g .answers .now) (g .places .now) (g .here) (shown (g .frames .now) (g .s) e))
-    (c .before .before .e23 .given .1)))
-    (λ c.
-    let g = c .before .before .before .before .before .before .before .args in
-    c .relational .ensures
-    ∙ sym
-    (ap
-    (λ (e : Expression).
-    ruledShown (g .pass) (g .frames .now) (g .s) (g .answers .now) (g .places .now) (g .here) (shown (g .frames .now) (g .s) e))
-    (c .before .before .e24 .given .1)))
-    (λ c.
-    let g = c .before .before .before .before .before .args in
-    sym
-    (ap
-    (λ (e : Expression).
-    ruledShown (g .pass) (g .frames .now) (g .s) (g .answers .now) (g .places .now) (g .here) (shown (g .frames .now) (g .s) e))
-    (c .enum-told .given .1)))
-    (λ c.
-    let g = c .before .before .before .before .before .before .before .args in
-    c .cast .ensures
-    ∙ sym
-    (ap
-    (λ (e : Expression).
-    ruledShown (g .pass) (g .frames .now) (g .s) (g .answers .now) (g .places .now) (g .here) (shown (g .frames .now) (g .s) e))
-    (c .before .before .e25 .given .1)))
-    (λ c.
-    let g = c .before .before .before .before .before .before .before .args in
-    c .call-result .ensures ∙ sym (done-run (g .frames .now) (g .s) (g .answers .now) (g .places .now) _)
-    ∙ sym
-    (ap
-    (λ (e : Expression).
-    ruledShown (g .pass) (g .frames .now) (g .s) (g .answers .now) (g .places .now) (g .here) (shown (g .frames .now) (g .s) e))
-    (c .before .before .e26 .given .1)))
-    (λ c.
-    let g = c .before .before .before .before .before .before .args in
-    c .scalar-type .ensures ∙ sym (done-run (g .frames .now) (g .s) (g .answers .now) (g .places .now) _)
-    ∙ sym
-    (ap
-    (λ (e : Expression).
-    ruledShown (g .pass) (g .frames .now) (g .s) (g .answers .now) (g .places .now) (g .here) (shown (g .frames .now) (g .s) e))
-    (c .before .enum-told2 .given .1)))
-    (λ c.
-    let g = c .before .before .before .before .before .before .args in
-    c .scalar-type2 .ensures ∙ sym (done-run (g .frames .now) (g .s) (g .answers .now) (g .places .now) _)
-    ∙ sym
-    (ap
-    (λ (e : Expression).
-    ruledShown (g .pass) (g .frames .now) (g .s) (g .answers .now) (g .places .now) (g .here) (shown (g .frames .now) (g .s) e))
-    (c .before .enum-told3 .given .1)))
-    (λ c.
-    let g = c .before .before .before .before .before .before .args in
-    c .special .ensures ∙ sym (done-run (g .frames .now) (g .s) (g .answers .now) (g .places .now) _)
-    ∙ sym
-    (ap
-    (λ (e : Expression).
-    ruledShown (g .pass) (g .frames .now) (g .s) (g .answers .now) (g .places .now) (g .here) (shown (g .frames .now) (g .s) e))
-    (c .before .enum-told4 .given .1)))
-    (λ c.
-    let g = c .before .before .before .before .before .before .args in
-    c .special2 .ensures ∙ sym (done-run (g .frames .now) (g .s) (g .answers .now) (g .places .now) _)
-    ∙ sym
-    (ap
-    (λ (e : Expression).
-    ruledShown (g .pass) (g .frames .now) (g .s) (g .answers .now) (g .places .now) (g .here) (shown (g .frames .now) (g .s) e))
-    (c .before .enum-told5 .given .1)))
-    (λ c.
-    let g = c .before .before .before .before .before .before .args in
-    c .vector-type .ensures ∙ sym (done-run (g .frames .now) (g .s) (g .answers .now) (g .places .now) _)
-    ∙ sym
-    (ap
-    (λ (e : Expression).
-    ruledShown (g .pass) (g .frames .now) (g .s) (g .answers .now) (g .places .now) (g .here) (shown (g .frames .now) (g .s) e))
-    (c .before .enum-told6 .given .1)))
-    (λ c.
-    let g = c .before .before .before .before .before .before .before .args in
-    c .cooperative-load .ensures
-    ∙ sym
-    (ap
-    (λ (e : Expression).
-    ruledShown (g .pass) (g .frames .now) (g .s) (g .answers .now) (g .places .now) (g .here) (shown (g .frames .now) (g .s) e))
-    (c .before .before .e27 .given .1)))
-    (λ c.
-    let g = c .before .before .before .before .before .before .before .args in
-    ap toResult (c .past4 .ensures) ∙ sym (same-run (g .frames .now) (g .s) (g .answers .now) (g .places .now) _)
-    ∙ sym
-    (ap
-    (λ (e : Expression).
-    ruledShown (g .pass) (g .frames .now) (g .s) (g .answers .now) (g .places .now) (g .here) (shown (g .frames .now) (g .s) e))
-    (c .before .before .e28 .given .1))))
+    (λ c. arm _ _ _ _ _ _ (c .before .before .e .given .1) (c .access .ensures))
+    (λ c. arm _ _ _ _ _ _ (c .before .before .e2 .given .1) (c .access-index .ensures))
+    (λ c. arm _ _ _ _ _ _ (c .before .before .e3 .given .1) (c .splat .ensures))
+    (λ c. arm _ _ _ _ _ _ (c .before .before .e4 .given .1) (c .swizzle .ensures))
+    (λ c. arm _ _ _ _ _ _ (c .before .before .e5 .given .1) (ends _ _ _ _ (c .literal .ensures)))
+    (λ c. arm _ _ _ _ _ _ (c .before .before .e6 .given .1) (ends _ _ _ _ (c .declared .ensures)))
+    (λ c. arm _ _ _ _ _ _ (c .before .before .e7 .given .1) (ends _ _ _ _ (c .declared2 .ensures)))
+    (λ c. arm _ _ _ _ _ _ (c .before .before .e8 .given .1) (ends _ _ _ _ (c .numbered .ensures)))
+    (λ c. arm _ _ _ _ _ _ (c .before .before .e9 .given .1) (ends _ _ _ _ (c .numbered2 .ensures)))
+    (λ c. arm _ _ _ _ _ _ (c .before .before .e10 .given .1) (ends _ _ _ _ (c .function-argument .ensures)))
+    (λ c. arm _ _ _ _ _ _ (c .before .before .e11 .given .1) (ends _ _ _ _ (c .global-variable .ensures)))
+    (λ c. arm _ _ _ _ _ _ (c .before .before .e12 .given .1) (ends _ _ _ _ (c .local-variable .ensures)))
+    (λ c. arm _ _ _ _ _ _ (c .before .before .e13 .given .1) (c .load .ensures))
+    (λ c. arm _ _ _ _ _ _ (c .before .before .e14 .given .1) (c .image-sample .ensures))
+    (λ c. arm _ _ _ _ _ _ (c .before .before .e15 .given .1) (c .sampled .ensures))
+    (λ c. arm _ _ _ _ _ _ (c .before .before .e16 .given .1) (c .image-query .ensures))
+    (λ c. arm _ _ _ _ _ _ (c .before .before .e17 .given .1) (read _ _ _ _ _ (c .past .ensures)))
+    (λ c. arm _ _ _ _ _ _ (c .before .before .e18 .given .1) (c .binary-by .ensures))
+    (λ c. arm _ _ _ _ _ _ (c .before .before .e19 .given .1) (ends _ _ _ _ (c .numbered3 .ensures)))
+    (λ c. arm _ _ _ _ _ _ (c .before .before .e20 .given .1) (ends _ _ _ _ (c .numbered4 .ensures)))
+    (λ c. arm _ _ _ _ _ _ (c .before .before .e21 .given .1) (ends _ _ _ _ (c .numbered5 .ensures)))
+    (λ c. arm _ _ _ _ _ _ (c .before .before .e22 .given .1) (read _ _ _ _ _ (c .past2 .ensures)))
+    (λ c. arm _ _ _ _ _ _ (c .before .before .e23 .given .1) (read _ _ _ _ _ (c .past3 .ensures)))
+    (λ c. arm _ _ _ _ _ _ (c .before .before .e24 .given .1) (c .relational .ensures))
+    (λ c. arm _ _ _ _ _ _ (c .enum-told .given .1) refl)
+    (λ c. arm _ _ _ _ _ _ (c .before .before .e25 .given .1) (c .cast .ensures))
+    (λ c. arm _ _ _ _ _ _ (c .before .before .e26 .given .1) (ends _ _ _ _ (c .call-result .ensures)))
+    (λ c. arm _ _ _ _ _ _ (c .before .enum-told2 .given .1) (ends _ _ _ _ (c .scalar-type .ensures)))
+    (λ c. arm _ _ _ _ _ _ (c .before .enum-told3 .given .1) (ends _ _ _ _ (c .scalar-type2 .ensures)))
+    (λ c. arm _ _ _ _ _ _ (c .before .enum-told4 .given .1) (ends _ _ _ _ (c .special .ensures)))
+    (λ c. arm _ _ _ _ _ _ (c .before .enum-told5 .given .1) (ends _ _ _ _ (c .special2 .ensures)))
+    (λ c. arm _ _ _ _ _ _ (c .before .enum-told6 .given .1) (ends _ _ _ _ (c .vector-type .ensures)))
+    (λ c. arm _ _ _ _ _ _ (c .before .before .e27 .given .1) (c .cooperative-load .ensures))
+    (λ c. arm _ _ _ _ _ _ (c .before .before .e28 .given .1) (read _ _ _ _ _ (c .past4 .ensures))))
