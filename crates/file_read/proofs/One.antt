@@ -27,10 +27,11 @@ use Rattle.rule.specs.Claim.{inOrder, absent, among, answers, ours}
 use Rattle.rule_rows.specs.declared.Pass.{Pass}
 use Rattle.rule_rows.specs.Typed.{typing}
 use Rattle.rule_rows.specs.Answered.{toResult}
-use Rattle.row_operands.specs.Past.{answerIn, pastIn}
+use Rattle.rule_rows.specs.OverBuffer.{answerIn, pastIn}
 use Rattle.rule_compose.specs.Rows.{verdictRule, judged, verdictOf}
 use Rattle.rule_compose.specs.Judged.{toJudged}
-use Rattle.rule_compose.specs.ForProofs.{judgedBy, composeRule}
+use Rattle.rule_rows.specs.OverBuffer.{judgedBy}
+use Rattle.rule_compose.specs.ForProofs.{composeRule}
 use Rattle.rule.proofs.InOrder.{in-order-at}
 use Rattle.rule_answers.specs.Outputs.{rowAnswer, rowFrames, outputs, framesBytes, outputBytes}
 use Rattle.rule_answers.specs.ForProofs.{placesOf}

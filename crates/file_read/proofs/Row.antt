@@ -35,10 +35,11 @@ use Rattle.rule.specs.Rule.{Rule, run}
 use Rattle.rule.specs.Claim.{ours}
 use Rattle.rule_rows.specs.declared.Pass.{Pass}
 use Rattle.rule_rows.specs.Typed.{typed, typing}
-use Rattle.row_operands.specs.Past.{pastIn, ruled}
+use Rattle.rule_rows.specs.OverBuffer.{pastIn, ruled}
 use Rattle.rule_compose.specs.Rows.{ofShown, verdictRule, judged, verdictOf}
 use Rattle.rule_compose.specs.Judged.{toJudged}
-use Rattle.rule_compose.specs.ForProofs.{judgedBy, composeRule}
+use Rattle.rule_rows.specs.OverBuffer.{judgedBy}
+use Rattle.rule_compose.specs.ForProofs.{composeRule}
 use Rattle.law_rows.proofs.Good.{Good, good-when}
 use Rattle.law_rows.proofs.Range.{row-there}
 use Rattle.rule_answers.specs.Outputs.{rowAnswer, verdictFrames, rowFrames, outputs, framesBytes}

@@ -26,7 +26,7 @@ ghost use Rattle.rule_rows.specs.Access.{access, accessIndex, splat, swizzle};
 ghost use Rattle.rule_rows.specs.Variables.{load};
 ghost use Rattle.rule_rows.specs.Results.{cooperativeLoad};
 ghost use Rattle.rule_rows.specs.Answered.{toResult};
-ghost use Rattle.row_operands.specs.Past.{ruled};
+ghost use Rattle.rule_rows.specs.OverBuffer.{ruled};
 
 pub fn access(
     frames: &[u8],

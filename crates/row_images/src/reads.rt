@@ -15,7 +15,7 @@ ghost use mathlib.Core.Path.{_≡_};
 ghost use Rattle.rule_rows.specs.Steps.{byType};
 ghost use Rattle.rule_rows.specs.Images.{gathered, sampled, imageSample, imageSizeOf, imageQuery};
 ghost use Rattle.rule_rows.specs.Answered.{toResult};
-ghost use Rattle.row_operands.specs.Past.{ruled};
+ghost use Rattle.rule_rows.specs.OverBuffer.{ruled};
 
 fn gathered(
     frames: &[u8],

@@ -10,7 +10,8 @@ use Rattle.archive.specs.declared.Starts.{Starts}
 use Rattle.rule.specs.Answers.{TypeAnswer, resolved, told}
 use Rattle.rule_rows.specs.Operators.{product, multiply}
 use Rattle.row_operands.specs.declared.Looked.the-variants as Lo
-use Rattle.row_operands.specs.Past.{answerIn, ruled, lookedIn}
+use Rattle.rule_rows.specs.OverBuffer.{answerIn, ruled}
+use Rattle.row_operands.specs.Past.{lookedIn}
 use Rattle.row_operands.proofs.TwoOperands.{both-seen}
 use Rattle.row_multiply.specs.declared.Times.{Times}
 use Rattle.row_multiply.specs.declared.Times.the-variants as Tm

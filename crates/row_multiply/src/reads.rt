@@ -22,7 +22,8 @@ ghost use mathlib.Core.Path.{_≡_};
 ghost use Rattle.rule_rows.specs.Operators.{multiply};
 ghost use Rattle.rule_rows.specs.Answered.{toResult};
 ghost use Rattle.row_operands.specs.declared.Looked.the-variants.{Seen};
-ghost use Rattle.row_operands.specs.Past.{answerIn, ruled, lookedIn};
+ghost use Rattle.rule_rows.specs.OverBuffer.{answerIn, ruled};
+ghost use Rattle.row_operands.specs.Past.{lookedIn};
 ghost use Rattle.row_multiply.specs.Timed.{timesOf};
 
 // Where the type of one operand is the answer, it is read.

@@ -32,7 +32,8 @@ use Rattle.rule.specs.declared.Fault.the-variants as Fa
 use Rattle.rule.specs.Things.{soundForm, valueFault}
 use Rattle.rule_types.proofs.Seen.{never}
 use Rattle.row_operands.specs.declared.Looked.the-variants as Lo
-use Rattle.row_operands.specs.Past.{answerIn, lookedAt, seenBy, lookedBy, lookedIn, lookStarts}
+use Rattle.rule_rows.specs.OverBuffer.{answerIn}
+use Rattle.row_operands.specs.Past.{lookedAt, seenBy, lookedBy, lookedIn, lookStarts}
 use Rattle.row_operands.specs.Plain.{pastFrame, typeFrameIn, typedFrame, isPlain, plainOf}
 
 -- a row's answer is that of its frame

@@ -33,7 +33,8 @@ use Rattle.rule_rows.specs.Images.{sampledFrom, sampled}
 use Rattle.rule_rows.specs.Typed.{typed}
 use Rattle.rule_rows.specs.Answered.{toResult}
 use Rattle.rule_rows.specs.ForProofs.{sampledIn}
-use Rattle.row_operands.specs.Past.{answerIn, ruled, ruledShown, formed, endedBy, lookedAt, lookedBy, lookedIn, OfBoth, rightBy, leftBy, rightRead, leftRead}
+use Rattle.rule_rows.specs.OverBuffer.{answerIn, ruled}
+use Rattle.row_operands.specs.Past.{ruledShown, formed, endedBy, lookedAt, lookedBy, lookedIn, OfBoth, rightBy, leftBy, rightRead, leftRead}
 
 -- by what was found
 abbrev onForm : {X : Type 0} → TypeForm → (TypeInner → X) → X → X

@@ -17,7 +17,8 @@ use Rattle.rule.specs.Things.{formIn}
 use Rattle.rule_rows.specs.Steps.{byBoth}
 use Rattle.row_operands.specs.declared.Looked.{Looked}
 use Rattle.row_operands.specs.declared.Looked.the-variants as Lo
-use Rattle.row_operands.specs.Past.{answerIn, ruled, endedBy, lookedAt, lookedBy, lookedIn, OfBoth, rightBy, leftBy, leftRead, rightEnd, leftEnd}
+use Rattle.rule_rows.specs.OverBuffer.{answerIn, ruled}
+use Rattle.row_operands.specs.Past.{endedBy, lookedAt, lookedBy, lookedIn, OfBoth, rightBy, leftBy, leftRead, rightEnd, leftEnd}
 use Rattle.row_operands.proofs.Steps.{both-run}
 
 abbrev isSeen : Looked → ℕ

@@ -1,11 +1,8 @@
 -- Not part of any public statement: for proofs and code only. What the code of a row's rule goes by: earlier answers as they stand in the answer buffer, and
 -- the forms of its operands' types (document 01, "What must change shape": the `past` closure is a part of the answer buffer).
 use Prim.Native.Nat.{ℕ}
-use mathlib.Core.Bool.{cond}
 use mathlib.Core.List.{List}
 use mathlib.Core.Option.{Option, none, some}
-use lib.Dec.{ltb}
-use lib.ListN.{length, getD}
 use Rattle.ir.specs.declared.RowNumber.{RowNumber}
 use Rattle.ir.specs.declared.TypeInner.{TypeInner}
 use Rattle.ir.specs.declared.TypeForm.{TypeForm}
@@ -13,31 +10,16 @@ use Rattle.ir.specs.declared.TypeForm.the-variants as Tf
 use Rattle.answers.specs.declared.Answer.{Answer}
 use Rattle.answers.specs.declared.Answer.the-variants as An
 use Rattle.answers.specs.declared.Refusal.the-variants.{MissingSpecialType}
-use Rattle.frames.specs.Bytes.{frameAt}
-use Rattle.frames.specs.ForProofs.{answerOf}
 use Rattle.archive.specs.declared.Starts.{Starts}
 use Rattle.rule.specs.Answers.{TypeAnswer, resolved, Typed, refused, row, Result, told, newer}
-use Rattle.rule.specs.Things.{Form, memberTypes, soundForm, valueFault, formIn, Shown, seeIn}
-use Rattle.rule.specs.Rule.{Rule, Answers, run}
+use Rattle.rule.specs.Things.{Form, memberTypes, soundForm, valueFault, formIn, Shown}
 use Rattle.answers.specs.declared.Unresolved.{Unresolved}
 use Rattle.answers.specs.declared.Unresolved.the-variants as Un
 use Rattle.row_operands.specs.declared.Looked.{Looked}
 use Rattle.row_operands.specs.declared.Looked.the-variants as Lo
 use Rattle.rule_rows.specs.declared.Pass.{Pass}
 use Rattle.rule_rows.specs.Typed.{resolve}
-use Rattle.rule_rows.specs.Answered.{toResult}
-
--- row n's answer, at the frame that the table of places has for it; a row that is not typed yet is a fixed refusal, `absent` (rule/specs/Claim.antt)
-unfoldable pub answerIn : List ℕ → List ℕ → RowNumber → Answer
-answerIn answers places n = cond (ltb (n .0) (length places)) (answerOf (frameAt answers (getD places (n .0) 0))) (An.Refused MissingSpecialType)
-
--- the answers that a rule reads there
-abbrev pub pastIn : List ℕ → List ℕ → Answers
-pastIn answers places n = toResult (answerIn answers places n)
-
--- what our reader gives by a rule: over the frames of a file, where its families begin, and the answers so far with their places
-unfoldable pub ruled : List ℕ → Starts → List ℕ → List ℕ → Rule Typed → Result Typed
-ruled fr s answers places rule = run (seeIn fr s) (pastIn answers places) newer rule
+use Rattle.rule_rows.specs.OverBuffer.{answerIn, ruled}
 
 -- and by the rule of row `here`, whose kind shows this, or nothing
 abbrev pub ruledShown : Pass → List ℕ → Starts → List ℕ → List ℕ → RowNumber → Option Shown → Result Typed

@@ -5,7 +5,8 @@ use answers::Answer;
 use ir::RowNumber;
 ghost use mathlib.Core.Path.{_≡_};
 ghost use Rattle.rule_rows.specs.Answered.{toResult};
-ghost use Rattle.row_operands.specs.Past.{answerIn, rightEnd, leftEnd};
+ghost use Rattle.rule_rows.specs.OverBuffer.{answerIn};
+ghost use Rattle.row_operands.specs.Past.{rightEnd, leftEnd};
 
 // The left type is of unknown kind: the right's refusal, if it has one, comes first.
 fn right_end(answers: &[u8], places: &[u16], here: RowNumber, right: RowNumber) -> Answer

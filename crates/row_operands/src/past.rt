@@ -19,7 +19,8 @@ ghost use mathlib.Core.Path.{_≡_};
 ghost use Rattle.frames.specs.ForProofs.{answerOf};
 ghost use Rattle.rule.specs.Things.{soundForm};
 ghost use Rattle.rule_rows.specs.Answered.{toResult};
-ghost use Rattle.row_operands.specs.Past.{answerIn, endedBy, lookedAt, seenBy, lookedBy, lookedIn, lookStarts};
+ghost use Rattle.rule_rows.specs.OverBuffer.{answerIn};
+ghost use Rattle.row_operands.specs.Past.{endedBy, lookedAt, seenBy, lookedBy, lookedIn, lookStarts};
 
 // The answer of row n, at the frame of the answer buffer that `places` has for it; of a row that is not typed yet the fixed refusal.
 pub fn past(answers: &[u8], places: &[u16], n: RowNumber) -> Answer

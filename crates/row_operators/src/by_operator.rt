@@ -15,7 +15,7 @@ use rule_rows::Pass;
 ghost use mathlib.Core.Path.{_≡_};
 ghost use Rattle.rule_rows.specs.Operators.{binary, binaryBy, relational};
 ghost use Rattle.rule_rows.specs.Answered.{toResult};
-ghost use Rattle.row_operands.specs.Past.{ruled};
+ghost use Rattle.rule_rows.specs.OverBuffer.{ruled};
 
 // By the operator; all but Multiply read left only.
 pub fn binary(

@@ -14,7 +14,7 @@ ghost use mathlib.Core.Path.{_≡_};
 ghost use Rattle.rule_rows.specs.Steps.{byType};
 ghost use Rattle.rule_rows.specs.Operators.{boolsOf, logical, cast};
 ghost use Rattle.rule_rows.specs.Answered.{toResult};
-ghost use Rattle.row_operands.specs.Past.{ruled};
+ghost use Rattle.rule_rows.specs.OverBuffer.{ruled};
 
 // Equal, NotEqual, Less, LessEqual, Greater, GreaterEqual; IsNan and IsInf.
 pub fn bools(

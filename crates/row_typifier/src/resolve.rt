@@ -35,7 +35,8 @@ ghost use mathlib.Core.Path.{_≡_};
 ghost use Rattle.rule.specs.Things.{shown};
 ghost use Rattle.rule_rows.specs.Typed.{typed};
 ghost use Rattle.rule_rows.specs.Answered.{toResult};
-ghost use Rattle.row_operands.specs.Past.{ruled, ruledShown};
+ghost use Rattle.rule_rows.specs.OverBuffer.{ruled};
+ghost use Rattle.row_operands.specs.Past.{ruledShown};
 
 // The type of the row `here`, whose expression is e, by the rules of a pass, in the order of the source's arms. Math is newer.
 pub fn resolve(

@@ -20,7 +20,8 @@ ghost use mathlib.Core.Path.{_≡_};
 ghost use Rattle.rule_rows.specs.Operators.{wgslBinary};
 ghost use Rattle.rule_rows.specs.Answered.{toResult};
 ghost use Rattle.row_operands.specs.declared.Looked.the-variants.{Seen};
-ghost use Rattle.row_operands.specs.Past.{ruled, lookedIn};
+ghost use Rattle.rule_rows.specs.OverBuffer.{ruled};
+ghost use Rattle.row_operands.specs.Past.{lookedIn};
 ghost use Rattle.row_wgsl.specs.ForProofs.{NoLine};
 
 // The left form is known: looks into the right.

@@ -17,7 +17,7 @@ use Rattle.rule.specs.Claim.{among, answers, ours}
 use Rattle.rule_rows.specs.declared.Pass.{Pass}
 use Rattle.rule_rows.specs.Typed.{typing}
 use Rattle.rule_rows.proofs.Written.{answer-framed}
-use Rattle.row_operands.specs.Past.{pastIn}
+use Rattle.rule_rows.specs.OverBuffer.{pastIn}
 use Rattle.rule_compose.specs.Rows.{verdictOf}
 use Rattle.law_rows.proofs.Good.{Good}
 use Rattle.law_rows.proofs.Ranged.{InRange}

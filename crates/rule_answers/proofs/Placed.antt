@@ -18,7 +18,7 @@ use Rattle.frames.proofs.ReadBack.{answer-back}
 use Rattle.rule.specs.Answers.{Typed, Result, told}
 use Rattle.rule.specs.Claim.{absent, among}
 use Rattle.rule_rows.specs.Answered.{toResult}
-use Rattle.row_operands.specs.Past.{answerIn, pastIn}
+use Rattle.rule_rows.specs.OverBuffer.{answerIn, pastIn}
 use Rattle.rule_answers.specs.Outputs.{framesBytes}
 use Rattle.rule_answers.proofs.Bytes.{bytes-append, frame-after}
 

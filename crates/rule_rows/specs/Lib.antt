@@ -10,4 +10,5 @@ pub mod Operators
 pub mod Results
 pub mod Typed
 pub mod Answered
+pub mod OverBuffer
 pub mod ForProofs

@@ -39,8 +39,8 @@ use Rattle.rule_types.specs.Canonical.{valuePointer, orOwn, formFound, throughB
 use Rattle.rule_types.specs.ForProofs.{orSelf, canonicalOf, byAnswers, likeness}
 use Rattle.rule_types.proofs.Equality.{equal-types, identical-self, identical-frames}
 use Rattle.rule_types.proofs.Seen.{never}
-use Rattle.rule_compose.specs.declared.OptionVerdict.the-variants as Ov
-use Rattle.rule_compose.specs.ForProofs.{partVerdict, answerVerdict}
+use Rattle.verdict_compose.specs.declared.OptionVerdict.the-variants as Ov
+use Rattle.verdict_compose.specs.Decided.{partVerdict, answerVerdict}
 use Rattle.row_operands.specs.Plain.{typeFrameIn, typedFrame, plainOf}
 use Rattle.row_operands.specs.Plain as Pl
 use Rattle.row_operands.proofs.ByFrame.{type-frame, scalar-form, vector-form, matrix-form, cooperative-form}

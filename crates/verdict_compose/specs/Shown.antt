@@ -8,9 +8,9 @@ use Rattle.frames.specs.declared.Frame.{Frame}
 use Rattle.frames.specs.Bytes.{byte, half}
 use Rattle.archive.specs.declared.Starts.{Starts}
 use Rattle.row_operands.specs.Plain.{typeFrameIn}
-use Rattle.rule_compose.specs.declared.Part.{Part}
-use Rattle.rule_compose.specs.declared.Part.the-variants as Pa
-use Rattle.rule_compose.specs.ForProofs.{memberType}
+use Rattle.verdict_compose.specs.declared.Part.{Part}
+use Rattle.verdict_compose.specs.declared.Part.the-variants as Pa
+use Rattle.verdict_compose.specs.Decided.{memberType}
 
 -- a frame is of a scalar, a vector or a matrix
 abbrev pub isPlain : Frame → Bool

@@ -1,4 +1,5 @@
 // The verdict on a compose: the source's validate_compose (valid/compose.rs), by the rule that stands in crate rule_compose.
+use super::Part;
 use super::counted::counted_parts;
 use super::vector::vector_parts;
 use answers::Verdict;
@@ -9,12 +10,12 @@ use ir::ComponentNumber;
 use ir::TypeForm;
 use ir::TypeInner;
 use ir::TypeNumber;
-use rule_compose::Part;
 ghost use mathlib.Core.Path.{_≡_};
 ghost use Rattle.rule.specs.Things.{memberTypes};
 ghost use Rattle.rule_compose.specs.Verdict.{verdict, byForm, arrayParts};
 ghost use Rattle.rule_compose.specs.Judged.{toJudged};
-ghost use Rattle.rule_compose.specs.ForProofs.{judgedBy, partsIn};
+ghost use Rattle.rule_rows.specs.OverBuffer.{judgedBy};
+ghost use Rattle.rule_compose.specs.ForProofs.{partsIn};
 
 fn array_parts(
     frames: &[u8],

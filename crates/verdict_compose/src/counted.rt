@@ -1,4 +1,6 @@
 // The verdict on a matrix, an array or a struct: from as many components as it has parts, each as is asked of it.
+use super::OptionVerdict;
+use super::Part;
 use super::by_frame::type_shown;
 use answers::Unresolved;
 use answers::Verdict;
@@ -22,8 +24,6 @@ use row_operands::plain::past_frame;
 use row_operands::plain::plain_form;
 use row_operands::plain::type_frame;
 use row_operands::plain::typed_frame;
-use rule_compose::OptionVerdict;
-use rule_compose::Part;
 use rule_types::OptionBool;
 use type_comparison::compare::compare_types;
 use type_comparison::equality::equal_types;
@@ -34,9 +34,11 @@ ghost use Rattle.rule_types.specs.Canonical.{equalTypes};
 ghost use Rattle.rule_types.specs.ForProofs.{likeness};
 ghost use Rattle.rule_compose.specs.Verdict.{eachPart, counted};
 ghost use Rattle.rule_compose.specs.Judged.{toJudged};
-ghost use Rattle.rule_compose.specs.declared.Part.the-variants.{Column, Element};
+ghost use Rattle.verdict_compose.specs.declared.Part.the-variants.{Column, Element};
 ghost use Rattle.verdict_compose.specs.Shown.{askedType};
-ghost use Rattle.rule_compose.specs.ForProofs.{judgedBy, partsIn, askedOf, memberType, partSaid, partVerdict, answerVerdict, endVerdict, partJudged};
+ghost use Rattle.rule_rows.specs.OverBuffer.{judgedBy};
+ghost use Rattle.rule_compose.specs.ForProofs.{partsIn};
+ghost use Rattle.verdict_compose.specs.Decided.{askedOf, memberType, partSaid, partVerdict, answerVerdict, endVerdict, partJudged};
 
 // The type of the struct's member of this index.
 fn member_type(frames: &[u8], s: Starts, first: MemberNumber, count: u16, i: u32) -> TypeNumber

@@ -4,3 +4,29 @@ pub mod by_frame;
 pub mod compose;
 pub mod counted;
 pub mod vector;
+
+use answers::Verdict;
+use ir::MemberNumber;
+use ir::Scalar;
+use ir::TypeNumber;
+use ir::VectorSize;
+
+// What is asked of each component: that it is a column of a matrix, an element of an array, or the member of its index of a struct whose `count` members
+// begin at `first`.
+pub enum Part {
+    Column { rows: VectorSize, scalar: Scalar },
+    Element(TypeNumber),
+    Member { first: MemberNumber, count: u16 },
+}
+
+// The verdict where one component decides it, or none.
+pub enum OptionVerdict {
+    None,
+    Some(Verdict),
+}
+
+// How many components of a vector one component makes, or the verdict that it decides.
+pub enum Added {
+    Count(u32),
+    Decided(Verdict),
+}

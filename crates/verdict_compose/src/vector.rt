@@ -1,4 +1,5 @@
 // The verdict on a vector: from scalars and vectors of its scalar, which add up to its size.
+use super::Added;
 use answers::Unresolved;
 use answers::Verdict;
 use archive::Starts;
@@ -13,7 +14,6 @@ use row_operands::Looked;
 use row_operands::past::look_component;
 use row_operands::plain::past_frame;
 use row_operands::plain::typed_frame;
-use rule_compose::Added;
 ghost use mathlib.Core.Path.{_≡_};
 ghost use mathlib.Core.Bool.{cond};
 ghost use mathlib.Core.Option.{none, some};
@@ -21,7 +21,9 @@ ghost use Rattle.ir.specs.Scalars.{equalScalars};
 ghost use Rattle.frames.specs.Fields.{read, scalar};
 ghost use Rattle.rule_compose.specs.Verdict.{vectorParts, adds};
 ghost use Rattle.rule_compose.specs.Judged.{toJudged};
-ghost use Rattle.rule_compose.specs.ForProofs.{judgedBy, partsIn, countAdded, endAdded, addedBy};
+ghost use Rattle.rule_rows.specs.OverBuffer.{judgedBy};
+ghost use Rattle.rule_compose.specs.ForProofs.{partsIn};
+ghost use Rattle.verdict_compose.specs.Decided.{countAdded, endAdded, addedBy};
 
 fn adds_scalar(i: u32, same: bool, size: u32) -> Added
     ensures { λ r. ⌜ r ≡ countAdded i (cond same (some size) none) ⌝ }

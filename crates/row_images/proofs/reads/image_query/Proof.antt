@@ -3,7 +3,7 @@ use mathlib.Core.Path.{refl, sym, ap, _∙_}
 use mathlib.Core.List.{[], _∷_}
 use Rattle.ir.proofs.Keys.{of-image-queries}
 use Rattle.rule_rows.specs.Images.{imageQuery}
-use Rattle.row_operands.specs.Past.{ruled}
+use Rattle.rule_rows.specs.OverBuffer.{ruled}
 use Rattle.row_operands.proofs.Steps.{done-run}
 use Rattle.row_images.proofs.reads.image_query.Statement.{statement}
 use Rattle.row_images.proofs.reads.image_query.Tie as tie

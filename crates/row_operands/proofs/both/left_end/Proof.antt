@@ -1,7 +1,8 @@
 -- `left_end`: by the answer. Assumes nothing.
 use mathlib.Core.Path.{sym, ap, _∙_}
 use Rattle.rule_rows.specs.Answered.{toResult}
-use Rattle.row_operands.specs.Past.{answerIn, leftEnd}
+use Rattle.rule_rows.specs.OverBuffer.{answerIn}
+use Rattle.row_operands.specs.Past.{leftEnd}
 use Rattle.row_operands.proofs.both.left_end.Statement.{statement}
 use Rattle.row_operands.proofs.both.left_end.Tie as tie
 

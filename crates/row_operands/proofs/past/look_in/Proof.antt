@@ -2,7 +2,8 @@
 use native.Mathlib.Omega.{arith}
 use borrow.Author.Needs.{needs}
 use borrow.Author.Tests.{lt-ltb, le-ltb}
-use Rattle.row_operands.specs.Past.{answerIn, lookedIn}
+use Rattle.rule_rows.specs.OverBuffer.{answerIn}
+use Rattle.row_operands.specs.Past.{lookedIn}
 use Rattle.row_operands.proofs.past.look_in.Statement.{statement}
 use Rattle.row_operands.proofs.past.look_in.Tie as tie
 

@@ -2,7 +2,7 @@
 use native.Mathlib.Omega.{arith}
 use borrow.Author.Needs.{needs}
 use borrow.Author.Tests.{lt-ltb, le-ltb}
-use Rattle.row_operands.specs.Past.{answerIn}
+use Rattle.rule_rows.specs.OverBuffer.{answerIn}
 use Rattle.row_operands.proofs.past.past.Statement.{statement}
 use Rattle.row_operands.proofs.past.past.Tie as tie
 

@@ -3,7 +3,7 @@ use mathlib.Core.Path.{refl, sym, ap, _∙_}
 use mathlib.Core.List.{[], _∷_}
 use Rattle.rule_rows.specs.Operators.{binary}
 use Rattle.rule_rows.specs.Answered.{toResult}
-use Rattle.row_operands.specs.Past.{ruled}
+use Rattle.rule_rows.specs.OverBuffer.{ruled}
 use Rattle.row_operands.proofs.Steps.{same-run}
 use Rattle.row_operands.proofs.Operators.{of-binary-operators}
 use Rattle.row_operators.proofs.by_operator.binary.Statement.{statement}

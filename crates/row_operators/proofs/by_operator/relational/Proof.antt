@@ -3,7 +3,7 @@ use mathlib.Core.Path.{refl, sym, ap, _∙_}
 use mathlib.Core.List.{[], _∷_}
 use Rattle.ir.proofs.Keys.{of-relational-functions}
 use Rattle.rule_rows.specs.Operators.{relational}
-use Rattle.row_operands.specs.Past.{ruled}
+use Rattle.rule_rows.specs.OverBuffer.{ruled}
 use Rattle.row_operands.proofs.Steps.{done-run}
 use Rattle.row_operators.proofs.by_operator.relational.Statement.{statement}
 use Rattle.row_operators.proofs.by_operator.relational.Tie as tie

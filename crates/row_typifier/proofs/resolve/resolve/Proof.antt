@@ -12,7 +12,8 @@ use Rattle.rule_rows.specs.declared.Pass.{Pass}
 use Rattle.rule_rows.specs.Steps.{sameAs}
 use Rattle.rule.specs.Things.{shown}
 use Rattle.rule_rows.specs.Answered.{toResult}
-use Rattle.row_operands.specs.Past.{answerIn, ruled, ruledShown}
+use Rattle.rule_rows.specs.OverBuffer.{answerIn, ruled}
+use Rattle.row_operands.specs.Past.{ruledShown}
 use Rattle.row_operands.proofs.Steps.{same-run, done-run}
 use Rattle.row_typifier.proofs.resolve.resolve.Statement.{statement}
 use Rattle.row_typifier.proofs.resolve.resolve.Tie as tie

@@ -1,5 +1,5 @@
 -- `array_parts`: each arm knows its case. Assumes nothing.
-use Rattle.rule_compose.specs.ForProofs.{judgedBy}
+use Rattle.rule_rows.specs.OverBuffer.{judgedBy}
 use Rattle.verdict_compose.proofs.compose.array_parts.Statement.{statement}
 use Rattle.verdict_compose.proofs.compose.array_parts.Tie as tie
 

@@ -10,8 +10,9 @@ use Rattle.archive.specs.declared.Starts.{Starts}
 use Rattle.rule.specs.Things.{memberTypes}
 use Rattle.rule_compose.specs.Verdict.{byForm}
 use Rattle.rule_compose.specs.Judged.{toJudged}
-use Rattle.rule_compose.specs.ForProofs.{judgedBy, partsIn}
-use Rattle.rule_compose.proofs.Runs.{struct-counted}
+use Rattle.rule_rows.specs.OverBuffer.{judgedBy}
+use Rattle.rule_compose.specs.ForProofs.{partsIn}
+use Rattle.verdict_compose.proofs.Runs.{struct-counted}
 use Rattle.verdict_compose.proofs.compose.by_form.Statement.{statement}
 use Rattle.verdict_compose.proofs.compose.by_form.Tie as tie
 

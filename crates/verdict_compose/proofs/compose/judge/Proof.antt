@@ -1,6 +1,6 @@
 -- `judge`: the composed type's form, or newer. Assumes nothing.
 use mathlib.Core.Path.{sym, _∙_}
-use Rattle.rule_compose.proofs.Runs.{composed-known, composed-unknown}
+use Rattle.verdict_compose.proofs.Runs.{composed-known, composed-unknown}
 use Rattle.verdict_compose.proofs.compose.judge.Statement.{statement}
 use Rattle.verdict_compose.proofs.compose.judge.Tie as tie
 

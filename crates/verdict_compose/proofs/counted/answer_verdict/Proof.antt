@@ -14,9 +14,9 @@ use Rattle.frames.specs.ForProofs.{unresolvedOf, answerOf, valueOf}
 use Rattle.rule.specs.Answers.{number, resolved}
 use Rattle.rule_types.specs.ForProofs.{likeness}
 use Rattle.rule_types.proofs.Handed.{optional-is}
-use Rattle.rule_compose.specs.declared.OptionVerdict.{OptionVerdict}
-use Rattle.rule_compose.specs.ForProofs.{partVerdict, answerVerdict, endVerdict}
-use Rattle.rule_compose.proofs.Runs.{part-said}
+use Rattle.verdict_compose.specs.declared.OptionVerdict.{OptionVerdict}
+use Rattle.verdict_compose.specs.Decided.{partVerdict, answerVerdict, endVerdict}
+use Rattle.verdict_compose.proofs.Runs.{part-said}
 use Rattle.verdict_compose.proofs.counted.answer_verdict.Statement.{statement}
 use Rattle.verdict_compose.proofs.counted.answer_verdict.Tie as tie
 

@@ -1,6 +1,6 @@
 -- `counted_parts`: the list of components has the count. Assumes nothing.
 use mathlib.Core.Path.{sym, _∙_}
-use Rattle.rule_compose.proofs.Runs.{counted-yes, counted-no}
+use Rattle.verdict_compose.proofs.Runs.{counted-yes, counted-no}
 use Rattle.verdict_compose.proofs.counted.counted_parts.Statement.{statement}
 use Rattle.verdict_compose.proofs.counted.counted_parts.Tie as tie
 

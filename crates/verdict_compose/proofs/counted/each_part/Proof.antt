@@ -8,11 +8,13 @@ use mathlib.Core.List.{List}
 use Rattle.ir.specs.declared.RowNumber.{RowNumber}
 use Rattle.ir.specs.declared.ComponentNumber.{ComponentNumber}
 use Rattle.archive.specs.declared.Starts.{Starts}
-use Rattle.rule_compose.specs.declared.Part.{Part}
-use Rattle.rule_compose.specs.declared.OptionVerdict.{OptionVerdict}
+use Rattle.verdict_compose.specs.declared.Part.{Part}
+use Rattle.verdict_compose.specs.declared.OptionVerdict.{OptionVerdict}
 use Rattle.rule_compose.specs.Verdict.{eachPart}
-use Rattle.rule_compose.specs.ForProofs.{judgedBy, partsIn, askedOf, partJudged}
-use Rattle.rule_compose.proofs.Runs.{each-none, each-some, each-end}
+use Rattle.rule_rows.specs.OverBuffer.{judgedBy}
+use Rattle.rule_compose.specs.ForProofs.{partsIn}
+use Rattle.verdict_compose.specs.Decided.{askedOf, partJudged}
+use Rattle.verdict_compose.proofs.Runs.{each-none, each-some, each-end}
 use Rattle.verdict_compose.proofs.counted.each_part.Statement.{statement}
 use Rattle.verdict_compose.proofs.counted.each_part.Tie as tie
 

@@ -6,10 +6,10 @@ use types.Run.{OneOf, miss}
 use denote.Enum.Declared.{tagOf}
 use Rattle.ir.specs.declared.RowNumber.{RowNumber}
 use Rattle.archive.specs.declared.Starts.{Starts}
-use Rattle.rule_compose.specs.declared.Part.{Part}
-use Rattle.rule_compose.specs.declared.Part.the-variants as Pa
-use Rattle.rule_compose.proofs.Part.{the-type}
-use Rattle.rule_compose.specs.ForProofs.{partJudged}
+use Rattle.verdict_compose.specs.declared.Part.{Part}
+use Rattle.verdict_compose.specs.declared.Part.the-variants as Pa
+use Rattle.verdict_compose.proofs.Part.{the-type}
+use Rattle.verdict_compose.specs.Decided.{partJudged}
 use Rattle.verdict_compose.specs.Shown.{askedType}
 use Rattle.verdict_compose.proofs.counted.judge_part.Statement.{statement}
 use Rattle.verdict_compose.proofs.counted.judge_part.Tie as tie

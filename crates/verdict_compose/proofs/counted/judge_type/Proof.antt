@@ -8,8 +8,8 @@ use Rattle.rule.specs.Answers.{number, resolved}
 use Rattle.rule_types.specs.declared.OptionBool.the-variants as Ob
 use Rattle.rule_types.specs.Canonical.{equalTypes}
 use Rattle.rule_types.specs.ForProofs.{likeness}
-use Rattle.rule_compose.specs.ForProofs.{partSaid, partVerdict, answerVerdict, partJudged}
-use Rattle.rule_compose.proofs.Runs.{part-said}
+use Rattle.verdict_compose.specs.Decided.{partSaid, partVerdict, answerVerdict, partJudged}
+use Rattle.verdict_compose.proofs.Runs.{part-said}
 use Rattle.row_operands.specs.Plain.{pastFrame, typeFrameIn, typedFrame, plainOf}
 use Rattle.row_operands.proofs.ByFrame.{past-frame}
 use Rattle.verdict_compose.specs.Shown.{typeShown}

@@ -1,7 +1,7 @@
 -- `member_type`: the member of the index, or none is left. Assumes nothing.
 use mathlib.Core.Path.{sym, ap, _∙_}
 use Rattle.ir.specs.declared.StructMember.{StructMember}
-use Rattle.rule_compose.proofs.Runs.{member-within, member-past}
+use Rattle.verdict_compose.proofs.Runs.{member-within, member-past}
 use Rattle.verdict_compose.proofs.counted.member_type.Statement.{statement}
 use Rattle.verdict_compose.proofs.counted.member_type.Tie as tie
 

@@ -2,7 +2,7 @@
 use Rattle.rule.specs.Answers.{number, value}
 use Rattle.rule_types.specs.ForProofs.{likeness}
 use Rattle.rule_types.proofs.Handed.{optional-is}
-use Rattle.rule_compose.proofs.Runs.{part-said}
+use Rattle.verdict_compose.proofs.Runs.{part-said}
 use Rattle.verdict_compose.proofs.counted.value_verdict.Statement.{statement}
 use Rattle.verdict_compose.proofs.counted.value_verdict.Tie as tie
 

@@ -2,7 +2,7 @@
 use mathlib.Core.Path.{refl}
 use borrow.Author.Needs.{needs}
 use Rattle.row_operands.proofs.ByFrame.{shown-seen}
-use Rattle.rule_compose.proofs.Runs.{added-is}
+use Rattle.verdict_compose.proofs.Runs.{added-is}
 use Rattle.verdict_compose.proofs.Shown.{plain-scalar, plain-vector}
 use Rattle.verdict_compose.proofs.vector.added_by.Statement.{statement}
 use Rattle.verdict_compose.proofs.vector.added_by.Tie as tie

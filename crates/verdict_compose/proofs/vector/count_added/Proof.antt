@@ -6,7 +6,7 @@ use mathlib.Core.List.{[], _∷_}
 use Rattle.ir.specs.declared.TypeInner.the-variants as Ti
 use Rattle.ir.proofs.Others.{Others, kindsBut, of-each}
 use Rattle.rule_compose.specs.Verdict.{adds}
-use Rattle.rule_compose.specs.ForProofs.{countAdded}
+use Rattle.verdict_compose.specs.Decided.{countAdded}
 use Rattle.ir.specs.declared.Scalar.{Scalar}
 use borrow.Author.Needs.{needs}
 use Rattle.verdict_compose.proofs.vector.count_added.Statement.{statement}

@@ -1,6 +1,6 @@
 -- `look_added`: the look sees a form, or ends. Assumes nothing.
 use mathlib.Core.Path.{sym, _∙_}
-use Rattle.rule_compose.proofs.Runs.{added-is}
+use Rattle.verdict_compose.proofs.Runs.{added-is}
 use Rattle.verdict_compose.proofs.vector.look_added.Statement.{statement}
 use Rattle.verdict_compose.proofs.vector.look_added.Tie as tie
 

@@ -11,10 +11,12 @@ use Rattle.ir.specs.declared.ComponentNumber.{ComponentNumber}
 use Rattle.ir.specs.declared.VectorSize.{VectorSize}
 use Rattle.ir.specs.declared.Scalar.{Scalar}
 use Rattle.archive.specs.declared.Starts.{Starts}
-use Rattle.rule_compose.specs.declared.Added.{Added}
+use Rattle.verdict_compose.specs.declared.Added.{Added}
 use Rattle.rule_compose.specs.Verdict.{vectorParts}
-use Rattle.rule_compose.specs.ForProofs.{judgedBy, partsIn, addedBy}
-use Rattle.rule_compose.proofs.Runs.{added-count, added-decided, added-end, added-small}
+use Rattle.rule_rows.specs.OverBuffer.{judgedBy}
+use Rattle.rule_compose.specs.ForProofs.{partsIn}
+use Rattle.verdict_compose.specs.Decided.{addedBy}
+use Rattle.verdict_compose.proofs.Runs.{added-count, added-decided, added-end, added-small}
 use Rattle.verdict_compose.proofs.vector.vector_parts.Statement.{statement}
 use Rattle.verdict_compose.proofs.vector.vector_parts.Tie as tie
 

@@ -42,16 +42,19 @@ use Rattle.rule_rows.specs.Answered.{toResult}
 use Rattle.rule_rows.specs.ForProofs.{membersIn}
 use Rattle.row_operands.specs.declared.Looked.{Looked}
 use Rattle.row_operands.specs.declared.Looked.the-variants as Lo
-use Rattle.row_operands.specs.Past.{answerIn, pastIn, lookedAt, lookedBy, lookedIn}
-use Rattle.rule_compose.specs.declared.Part.{Part}
-use Rattle.rule_compose.specs.declared.Part.the-variants as Pa
+use Rattle.rule_rows.specs.OverBuffer.{answerIn, pastIn}
+use Rattle.row_operands.specs.Past.{lookedAt, lookedBy, lookedIn}
+use Rattle.verdict_compose.specs.declared.Part.{Part}
+use Rattle.verdict_compose.specs.declared.Part.the-variants as Pa
 use Rattle.rule_compose.specs.Verdict.{comeTo, orPart, eachPart, counted, adds, addPart, vectorParts, memberIs, structParts, byForm, verdict}
-use Rattle.rule_compose.specs.declared.OptionVerdict.{OptionVerdict}
-use Rattle.rule_compose.specs.declared.OptionVerdict.the-variants as Ov
-use Rattle.rule_compose.specs.declared.Added.{Added}
-use Rattle.rule_compose.specs.declared.Added.the-variants as Ad
+use Rattle.verdict_compose.specs.declared.OptionVerdict.{OptionVerdict}
+use Rattle.verdict_compose.specs.declared.OptionVerdict.the-variants as Ov
+use Rattle.verdict_compose.specs.declared.Added.{Added}
+use Rattle.verdict_compose.specs.declared.Added.the-variants as Ad
 use Rattle.rule_compose.specs.Judged.{toJudged}
-use Rattle.rule_compose.specs.ForProofs.{judgedBy, partsIn, askedOf, columnSeen, memberType, partIs, partSaid, partVerdict, answerVerdict, endVerdict, partJudged, answerAdded, endAdded, countAdded, formAdded, addedBy}
+use Rattle.rule_rows.specs.OverBuffer.{judgedBy}
+use Rattle.rule_compose.specs.ForProofs.{partsIn}
+use Rattle.verdict_compose.specs.Decided.{askedOf, columnSeen, memberType, partIs, partSaid, partVerdict, answerVerdict, endVerdict, partJudged, answerAdded, endAdded, countAdded, formAdded, addedBy}
 
 -- with the type of a component's row; refused is 33, newer 22 at the component
 abbrev pub onAnswer : ℕ → (TypeResolution → Result Judgement) → Answer → Result Judgement
