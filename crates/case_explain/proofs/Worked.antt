@@ -24,8 +24,8 @@ use Rattle.rule_types.specs.Canonical.{equalTypes, identical, canonicalTypeIn, 
 use Rattle.rule_types.specs.Comparison.{sameIn, sameType}
 use Rattle.rule_compose.specs.Verdict.{eachPart, vectorParts}
 use Rattle.rule_answers.specs.Outputs.{outputs, framesBytes}
-use Rattle.file_read.specs.File.{readFile}
-use Rattle.file_read.specs.Printed.{printed, printedAfter}
+use Rattle.rule_file.specs.File.{readFile}
+use Rattle.rule_file.specs.Printed.{printed, printedAfter}
 use Rattle.explain_words.specs.Words as W
 use Rattle.explain_words.specs.Words.{wordBytes}
 use Rattle.explain_words.specs.Lines.{digits, pieceBytes, spelled}

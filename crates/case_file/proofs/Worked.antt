@@ -26,9 +26,9 @@ use Rattle.rule_types.specs.Comparison.{sameIn, sameType}
 use Rattle.rule_rows.specs.declared.Pass.the-variants.{First}
 use Rattle.rule_compose.specs.Verdict.{eachPart, vectorParts}
 use Rattle.rule_answers.specs.Outputs.{outputs, framesBytes}
-use Rattle.file_read.specs.File.{readFile, framesAfter}
-use Rattle.file_read.specs.Types.{sameTypes}
-use Rattle.file_read.specs.Typing.{answersAfter, outputCount, rowType, answersAfterRow, composeVerdict, answersAfterVerdict, typedText}
+use Rattle.rule_file.specs.File.{readFile, framesAfter}
+use Rattle.rule_file.specs.Types.{sameTypes}
+use Rattle.rule_file.specs.Typing.{answersAfter, outputCount, rowType, answersAfterRow, composeVerdict, answersAfterVerdict, typedText}
 use Rattle.file_pointers.specs.Forms.{canonicalType, pointerBaseType}
 use Rattle.case_file.specs.Table.{Asked, print, read, types, row, verdict, same, canonical, base}
 use Rattle.case_file.specs.Table.{Answered, printed, outcome, typesAre, rowIs, verdictIs, sameness, canonicalIs, baseIs, Case, table}

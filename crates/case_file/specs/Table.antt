@@ -24,7 +24,7 @@ use Rattle.frames.specs.Bytes.{frameAt}
 use Rattle.rule.specs.Answers.{number, given, told, count}
 use Rattle.explain_words.specs.Words.{characters}
 use Rattle.explain_words.specs.ForProofs.{lines}
-use Rattle.file_read.specs.Typing.{RowGiven, VerdictGiven, noCompose}
+use Rattle.rule_file.specs.Typing.{RowGiven, VerdictGiven, noCompose}
 
 abbrev digit : ℕ → ℕ
 digit c = cond (ltb c 97) (c - 48) (c - 87)

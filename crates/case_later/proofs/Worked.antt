@@ -33,9 +33,9 @@ use Rattle.rule_rows.specs.Typed.{typing}
 use Rattle.rule_compose.specs.Verdict.{eachPart, vectorParts}
 use Rattle.rule_compose.specs.Rows.{verdictRule}
 use Rattle.rule_answers.specs.Outputs.{outputs, framesBytes}
-use Rattle.file_read.specs.File.{readFile}
-use Rattle.file_read.specs.Types.{sameTypes}
-use Rattle.file_read.specs.Typing.{answersAfter}
+use Rattle.rule_file.specs.File.{readFile}
+use Rattle.rule_file.specs.Types.{sameTypes}
+use Rattle.rule_file.specs.Typing.{answersAfter}
 use Rattle.law_later_readers.specs.Reader.{rowBytes, verdictBytes, saidBytes, comparedBytes, theirs, meets}
 use Rattle.law_later_readers.specs.Ours.{framesFor, answersFor}
 use Rattle.case_later.specs.Tables.{Asked, row, verdict, Two, Line, Example}

@@ -9,7 +9,7 @@ use Rattle.text.specs.Reading.{mostFrames}
 use Rattle.archive.specs.Starts.{startsOf}
 use Rattle.rule_rows.specs.declared.Pass.{Pass}
 use Rattle.rule_ranges.specs.Counts.{Counts}
-use Rattle.file_read.proofs.Alike.{over-alike}
+use Rattle.rule_file.proofs.Alike.{over-alike}
 use Rattle.explain_file.specs.Explained.{allOf, faultLines, fileLines, linesOf, explained}
 use Rattle.explain_file.specs.Sized.{fileSizes, sizesOf, sized, rangesIn, rangesOf, ranged}
 

@@ -5,13 +5,13 @@ use mathlib.Core.List.{List}
 use lib.ListN.{length, take}
 use Rattle.answers.specs.Limit.{maxFrameBytes, maxAnswerBytes}
 use Rattle.rule_rows.specs.declared.Pass.{Pass}
-use Rattle.file_read.specs.declared.OptionUsize.the-variants as Ou
-use Rattle.file_read.specs.declared.TypedFile.{TypedFile}
-use Rattle.file_read.specs.File.{overFile}
-use Rattle.file_read.specs.Typing.{HandsBack}
-use Rattle.file_read.specs.ForProofs.{framesIn}
-use Rattle.file_read.proofs.Over.{refused-over}
-use Rattle.file_read.proofs.Typed.{handed-over, largest}
+use Rattle.rule_file.specs.declared.OptionUsize.the-variants as Ou
+use Rattle.rule_file.specs.declared.TypedFile.{TypedFile}
+use Rattle.rule_file.specs.File.{overFile}
+use Rattle.rule_file.specs.Typing.{HandsBack}
+use Rattle.rule_file.specs.ForProofs.{framesIn}
+use Rattle.rule_file.proofs.Over.{refused-over}
+use Rattle.rule_file.proofs.Typed.{handed-over, largest}
 use Rattle.explain_file.specs.Explained.{faultLines, answerLines, fileLines, linesOf}
 
 -- after a call of `type_file` with buffers of the largest sizes

@@ -16,10 +16,10 @@ use Rattle.rule_sizes.specs.Sizes.{framesOf, sizeFrame, sizeFrames}
 use Rattle.rule_sizes.specs.ForProofs.{framesWritten}
 use Rattle.rule_ranges.specs.Counts.{Counts}
 use Rattle.type_sizes.proofs.Written.{frames-long}
-use Rattle.file_read.specs.declared.OptionUsize.the-variants as Ou
-use Rattle.file_read.specs.File.{overFile, readFile, framesAfter}
-use Rattle.file_read.specs.ForProofs.{framesIn}
-use Rattle.file_read.proofs.Over.{read, part-is, given-over, refused-over}
+use Rattle.rule_file.specs.declared.OptionUsize.the-variants as Ou
+use Rattle.rule_file.specs.File.{overFile, readFile, framesAfter}
+use Rattle.rule_file.specs.ForProofs.{framesIn}
+use Rattle.rule_file.proofs.Over.{read, part-is, given-over, refused-over}
 use Rattle.explain_file.specs.Explained.{Lines, faultLines}
 use Rattle.explain_file.specs.Sized.{sizeLines, fileSizes, sizesOf, rangesIn, rangesOf}
 use Rattle.explain_file.proofs.Fits.{few-types, overrides-few}

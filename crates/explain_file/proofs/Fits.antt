@@ -24,9 +24,9 @@ use Rattle.rule_ranges.specs.Ranges.{faultySpan, rangeFrame}
 use Rattle.type_sizes.proofs.Written.{frames-long}
 use Rattle.rule_rows.specs.declared.Pass.{Pass}
 use Rattle.rule_answers.specs.Outputs.{outputBytes}
-use Rattle.file_read.specs.File.{overFile, readFile}
-use Rattle.file_read.proofs.Laws.{count-decoded, accepted-when}
-use Rattle.file_read.proofs.Printed.{few-outputs}
+use Rattle.rule_file.specs.File.{overFile, readFile}
+use Rattle.rule_file.proofs.Laws.{count-decoded, accepted-when}
+use Rattle.rule_file.proofs.Printed.{few-outputs}
 use Rattle.explain_lines.proofs.Long.{line-long, fault-long, size-line-long, span-long}
 use Rattle.explain_file.specs.Explained.{allOf, rowAt, lineAt, faultLines, fileLines, linesOf, explained, maxExplainedBytes}
 use Rattle.explain_file.specs.Sized.{sizeLineAt, sizeLines, fileSizes, sizesOf, sized, spanLines, orSpan, rangesIn, rangesOf, ranged, maxSizedBytes}

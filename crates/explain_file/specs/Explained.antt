@@ -13,7 +13,7 @@ use Rattle.frames.specs.Bytes.{frameCount, frameAt}
 use Rattle.frames.specs.Out.{outcomeFrame}
 use Rattle.rule_rows.specs.declared.Pass.{Pass}
 use Rattle.rule_answers.specs.Outputs.{outputBytes}
-use Rattle.file_read.specs.File.{overFile, readFile}
+use Rattle.rule_file.specs.File.{overFile, readFile}
 use Rattle.explain_lines.specs.Answers.{lineOf, faultOf}
 
 -- LINES, by their places

@@ -13,7 +13,7 @@ use Rattle.archive.specs.Starts.{startsOf, typeCount}
 use Rattle.rule_sizes.specs.Sizes.{framesOf, sizeFrames}
 use Rattle.rule_ranges.specs.Counts.{Counts}
 use Rattle.rule_ranges.specs.Ranges.{faultySpan, rangeFrame}
-use Rattle.file_read.specs.File.{overFile, readFile}
+use Rattle.rule_file.specs.File.{overFile, readFile}
 use Rattle.explain_lines.specs.Sizes.{sizeLineOf, spanOf}
 use Rattle.explain_file.specs.Explained.{Lines, allOf, faultLines}
 

@@ -23,9 +23,9 @@ use Rattle.rule_compose.specs.Rows.{verdictRule, judged}
 use Rattle.rule_answers.specs.Outputs.{verdictFrames, rowFrames, outputs, outputBytes}
 use Rattle.rule_answers.specs.ForProofs.{placesOf}
 use Rattle.rule_answers.proofs.Bytes.{bytes-length}
-use Rattle.file_read.specs.Typing.{answersWritten}
-use Rattle.file_read.specs.ForProofs.{Room}
-use Rattle.file_read.proofs.Row.{compose-rule, no-rule}
+use Rattle.rule_file.specs.Typing.{answersWritten}
+use Rattle.rule_file.specs.ForProofs.{Room}
+use Rattle.rule_file.proofs.Row.{compose-rule, no-rule}
 use Rattle.file_answers.specs.Rows.{hasRoom}
 use Rattle.file_answers.specs.ForProofs.{handsBack, allHandBack}
 

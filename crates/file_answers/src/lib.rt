@@ -35,8 +35,8 @@ ghost use Rattle.rule_rows.specs.OverBuffer.{judgedBy};
 ghost use Rattle.rule_compose.specs.ForProofs.{composeRule};
 ghost use Rattle.rule_answers.specs.Outputs.{outputs};
 ghost use Rattle.rule_answers.specs.ForProofs.{placesOf, Held};
-ghost use Rattle.file_read.specs.Typing.{answersWritten};
-ghost use Rattle.file_read.specs.ForProofs.{Room, Turn, Written};
+ghost use Rattle.rule_file.specs.Typing.{answersWritten};
+ghost use Rattle.rule_file.specs.ForProofs.{Room, Turn, Written};
 ghost use Rattle.file_answers.specs.Rows.{hasRoom};
 ghost use Rattle.file_answers.specs.ForProofs.{handsBack, allHandBack};
 

@@ -30,7 +30,7 @@ ghost use Rattle.frames.specs.Bytes.{putFrame};
 ghost use Rattle.frames.specs.Out.{refusedFrame, outcomeFrame, rowTypeSaid, composeVerdictSaid, oneFrame};
 ghost use Rattle.rule_sizes.specs.Sizes.{sizeSaid, sizeSaidFrame};
 ghost use Rattle.rule_ranges.specs.Ranges.{typeRangeSaid, rangeSaidFrame};
-ghost use Rattle.file_exports.specs.Exported.{outcomeNumber, noRoom, oneNumber, saidNumber, saidFrame, typeSaidNumber, typeSaidFrame, passOf, handedFrame};
+ghost use Rattle.rule_file.specs.Exported.{outcomeNumber, noRoom, oneNumber, saidNumber, saidFrame, typeSaidNumber, typeSaidFrame, passOf, handedFrame};
 
 // A number handed in, as a row's or a type's number has it: no file has 65,535 of either, so a greater one is out of range as that is.
 pub fn clamped(n: u32) -> u16

@@ -2,11 +2,11 @@
 use answers::MAX_ANSWER_BYTES;
 use answers::MAX_FRAME_BYTES;
 use answers::Printed;
-use file_read::OptionUsize;
 use file_read::frames_in;
 use file_rows::type_file;
 use frames::put_frame;
 use frames_answers::write::outcome_frame;
+use rule_file::OptionUsize;
 use rule_rows::Pass;
 use text_encode::write_text;
 ghost use mathlib.Core.Path.{_≡_};
@@ -16,8 +16,8 @@ ghost use Rattle.answers.specs.Limit.{maxFrameBytes, maxAnswerBytes};
 ghost use Rattle.answers.specs.Numbers.{printedSaid};
 ghost use Rattle.text.specs.Lines.{textOf};
 ghost use Rattle.frames.specs.Bytes.{frameCount};
-ghost use Rattle.file_read.specs.Typing.{typedText};
-ghost use Rattle.file_read.specs.Printed.{printed, printedAfter};
+ghost use Rattle.rule_file.specs.Typing.{typedText};
+ghost use Rattle.rule_file.specs.Printed.{printed, printedAfter};
 
 // Writes the lines of some frames, all of them or none.
 fn put_lines(frames: &[u8], out: &mut [u8]) -> Printed

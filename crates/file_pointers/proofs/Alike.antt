@@ -10,7 +10,7 @@ use Rattle.text.specs.declared.AnswerRoom.the-variants.{NotLent}
 use Rattle.text.specs.Reading.{mostFrames}
 use Rattle.archive.specs.Starts.{startsOf}
 use Rattle.rule_types.specs.Canonical.{pointerBaseIn, canonicalTypeIn}
-use Rattle.file_read.proofs.Alike.{over-alike}
+use Rattle.rule_file.proofs.Alike.{over-alike}
 use Rattle.file_pointers.specs.Forms.{canonicalType, pointerBaseType}
 
 module _ (limit other : ℕ) (t : List ℕ) (a : length t ≤ 33 * mostFrames limit) (b : length t ≤ 33 * mostFrames other) (f : ℕ) (n : TypeNumber) where

@@ -10,7 +10,7 @@ use Rattle.answers.specs.declared.CanonicalType.the-variants as Ct
 use Rattle.text.specs.declared.AnswerRoom.the-variants.{NotLent}
 use Rattle.archive.specs.Starts.{startsOf}
 use Rattle.rule_types.specs.Canonical.{pointerBaseIn, canonicalTypeIn}
-use Rattle.file_read.specs.File.{overFile, readFile}
+use Rattle.rule_file.specs.File.{overFile, readFile}
 
 -- the canonical form of type n: the value pointer, or the number where the source gives None; 22 or 6
 unfoldable pub canonicalType : ℕ → List ℕ → ℕ → TypeNumber → CanonicalType

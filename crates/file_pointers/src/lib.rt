@@ -2,15 +2,15 @@
 use answers::CanonicalType;
 use answers::PointerBase;
 use archive_access::families::find_starts;
-use file_read::OptionUsize;
 use file_read::frames_in;
 use file_read::read_file;
 use ir::TypeNumber;
+use rule_file::OptionUsize;
 ghost use mathlib.Core.Path.{_≡_};
 ghost use lib.ListN.{length};
 ghost use Rattle.answers.specs.Numbers.{canonicalSaid, baseSaid};
 ghost use Rattle.text.specs.declared.AnswerRoom.the-variants.{NotLent};
-ghost use Rattle.file_read.specs.File.{framesAfter};
+ghost use Rattle.rule_file.specs.File.{framesAfter};
 ghost use Rattle.file_pointers.specs.Forms.{canonicalType, pointerBaseType};
 
 // The canonical form of type n: the value pointer, or n itself. The frame buffer is as `read_file` leaves it.

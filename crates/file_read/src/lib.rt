@@ -4,27 +4,16 @@ use answers::Sameness;
 use archive_access::families::find_starts;
 use check_file::check_frames;
 use frames::Frame;
+use rule_file::OptionUsize;
 use text::AnswerRoom;
 use text_decode::read_text;
 ghost use mathlib.Core.Path.{_≡_};
 ghost use lib.ListN.{length};
 ghost use Rattle.answers.specs.Numbers.{outcomeValues, samenessSaid};
 ghost use Rattle.text.specs.declared.AnswerRoom.the-variants.{NotLent};
-ghost use Rattle.file_read.specs.File.{readFile, fileSaid, framesAfter};
-ghost use Rattle.file_read.specs.Types.{sameTypes};
-ghost use Rattle.file_read.specs.ForProofs.{framesIn};
-
-// The number of frames that were accepted, or none.
-pub enum OptionUsize {
-    None,
-    Some(usize),
-}
-
-// What typing a file gives: the outcome, and how many frames are handed back.
-pub struct TypedFile {
-    pub outcome: Outcome,
-    pub outputs: usize,
-}
+ghost use Rattle.rule_file.specs.File.{readFile, fileSaid, framesAfter};
+ghost use Rattle.rule_file.specs.Types.{sameTypes};
+ghost use Rattle.rule_file.specs.ForProofs.{framesIn};
 
 pub fn frames_in(o: Outcome) -> OptionUsize
     ensures { λ r. ⌜ r ≡ framesIn o ⌝ }

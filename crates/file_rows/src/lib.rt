@@ -8,14 +8,14 @@ use archive_access::families::is_row;
 use archive_access::families::row_count;
 use file_answers::answer_rows;
 use file_answers::judge_row;
-use file_read::OptionUsize;
-use file_read::TypedFile;
 use file_read::frames_in;
 use file_read::read_with;
 use frames::frame_at;
 use ir::RowNumber;
 use ir::numbers::is_compose;
 use row_operands::past::past;
+use rule_file::OptionUsize;
+use rule_file::TypedFile;
 use rule_rows::Pass;
 use text::AnswerRoom;
 ghost use mathlib.Core.Path.{_≡_};
@@ -28,9 +28,9 @@ ghost use Rattle.archive.specs.Names.{isRow};
 ghost use Rattle.answers.specs.Numbers.{outcomeValues};
 ghost use Rattle.frames.specs.Out.{rowTypeSaid, composeVerdictSaid};
 ghost use Rattle.rule_answers.specs.Outputs.{outputBytes};
-ghost use Rattle.file_read.specs.File.{readFile, fileSaid, framesAfter};
-ghost use Rattle.file_read.specs.Typing.{answersWritten, answersAfter, HandsBack, toGiven, rowGiven, rowType, rowSaid, answersAfterRow, toVerdict, verdictGiven, ifJudged, composeVerdict, verdictSaid, answersAfterVerdict};
-ghost use Rattle.file_read.specs.ForProofs.{Ready};
+ghost use Rattle.rule_file.specs.File.{readFile, fileSaid, framesAfter};
+ghost use Rattle.rule_file.specs.Typing.{answersWritten, answersAfter, HandsBack, toGiven, rowGiven, rowType, rowSaid, answersAfterRow, toVerdict, verdictGiven, ifJudged, composeVerdict, verdictSaid, answersAfterVerdict};
+ghost use Rattle.rule_file.specs.ForProofs.{Ready};
 
 // Answers every row, and gives how many frames are written.
 fn answer_all(pass: Pass, frames: &[u8], answers: &mut [u8]) -> usize

@@ -8,14 +8,14 @@ use Rattle.ir.specs.declared.TypeNumber.{TypeNumber}
 use Rattle.text.specs.declared.AnswerRoom.the-variants.{NotLent}
 use Rattle.text.specs.Reading.{mostFrames}
 use Rattle.text.proofs.Laws.{alike-within}
-use Rattle.text_room.specs.Room.{shortRead}
+use Rattle.text.specs.Room.{shortRead}
 use Rattle.archive.specs.Starts.{startsOf}
 use Rattle.rule_sizes.specs.declared.TypeSize.the-variants as Ts
 use Rattle.rule_sizes.specs.Sizes.{typeSizeIn}
 use Rattle.rule_ranges.specs.declared.TypeRange.the-variants as Tr
 use Rattle.rule_ranges.specs.Ranges.{countsOf, typeRangeIn}
-use Rattle.file_read.specs.File.{framesAfter}
-use Rattle.file_read.proofs.Alike.{over-alike}
+use Rattle.rule_file.specs.File.{framesAfter}
+use Rattle.rule_file.proofs.Alike.{over-alike}
 use Rattle.file_sizes.specs.Sizes.{typeSize}
 use Rattle.file_sizes.specs.Ranges.{sizeRange, framesRanged}
 

@@ -14,11 +14,11 @@ use Rattle.frames.specs.Bytes.{frameCount}
 use Rattle.archive.specs.declared.Starts.{Starts}
 use Rattle.archive.specs.Starts.{startsOf, typeCount, overrideCount}
 use Rattle.archive.proofs.Ranks.{begins}
-use Rattle.file_read.specs.declared.OptionUsize.the-variants as Ou
-use Rattle.file_read.specs.File.{readFile, framesAfter}
-use Rattle.file_read.specs.ForProofs.{framesIn}
-use Rattle.file_read.proofs.Laws.{count-decoded, accepted-when}
-use Rattle.file_read.proofs.Over.{read, part-is}
+use Rattle.rule_file.specs.declared.OptionUsize.the-variants as Ou
+use Rattle.rule_file.specs.File.{readFile, framesAfter}
+use Rattle.rule_file.specs.ForProofs.{framesIn}
+use Rattle.rule_file.proofs.Laws.{count-decoded, accepted-when}
+use Rattle.rule_file.proofs.Over.{read, part-is}
 
 -- the starts of 1,024 frames
 starts-few : (fr : List ℕ) → frameCount fr ≤ 1024

@@ -7,12 +7,12 @@ use lib.Dec.{ltb}
 use lib.ListN.{length}
 use Rattle.ir.specs.declared.TypeNumber.{TypeNumber}
 use Rattle.text.specs.declared.AnswerRoom.the-variants.{NotLent}
-use Rattle.text_room.specs.Room.{shortRead}
+use Rattle.text.specs.Room.{shortRead}
 use Rattle.archive.specs.Starts.{startsOf}
 use Rattle.rule_ranges.specs.declared.TypeRange.{TypeRange}
 use Rattle.rule_ranges.specs.declared.TypeRange.the-variants as Tr
 use Rattle.rule_ranges.specs.Ranges.{countsOf, typeRangeIn}
-use Rattle.file_read.specs.File.{overFile, readFile, framesAfter}
+use Rattle.rule_file.specs.File.{overFile, readFile, framesAfter}
 
 -- A TABLE OF FEWER THAN 1,024 COUNTS is a lent buffer too small: number 3, unless the text has number 1 or 2
 abbrev pub tablesShort : List ℕ → List ℕ → Bool

@@ -8,7 +8,7 @@ use Rattle.archive.specs.Starts.{startsOf}
 use Rattle.rule_sizes.specs.declared.TypeSize.{TypeSize}
 use Rattle.rule_sizes.specs.declared.TypeSize.the-variants as Ts
 use Rattle.rule_sizes.specs.Sizes.{typeSizeIn}
-use Rattle.file_read.specs.File.{overFile, readFile}
+use Rattle.rule_file.specs.File.{overFile, readFile}
 
 -- what type n fills; 42, 43 or 44 with the lowest faulty type, or 6
 unfoldable pub typeSize : ℕ → List ℕ → ℕ → TypeNumber → TypeSize

@@ -37,15 +37,15 @@ use Rattle.rule_sizes.specs.Sizes.{measureIn, typeSizeIn}
 use Rattle.rule_ranges.specs.declared.TypeRange.the-variants as Tr
 use Rattle.rule_ranges.specs.Ranges.{countsOf, rangeIn, faultySpan, unlessSpan, typeRangeIn}
 use Rattle.rule_answers.specs.Outputs.{rowAnswer}
-use Rattle.file_read.specs.File.{overFile, readFile}
-use Rattle.file_read.specs.Typing.{answersWritten, RowGiven, rowGiven, rowType, answersAfterRow, VerdictGiven, orNoCompose, verdictGiven, composeVerdict, verdictSaid, ifJudged, answersAfterVerdict}
-use Rattle.file_read.proofs.Laws.{count-decoded, accepted-when}
+use Rattle.rule_file.specs.File.{overFile, readFile}
+use Rattle.rule_file.specs.Typing.{answersWritten, RowGiven, rowGiven, rowType, answersAfterRow, VerdictGiven, orNoCompose, verdictGiven, composeVerdict, verdictSaid, ifJudged, answersAfterVerdict}
+use Rattle.rule_file.proofs.Laws.{count-decoded, accepted-when}
 use Rattle.file_pointers.specs.Forms.{canonicalType, pointerBaseType}
 use Rattle.file_sizes.specs.Sizes.{typeSize}
 use Rattle.file_sizes.specs.Ranges.{byTables, sizeRange}
-use Rattle.text_room.specs.Room.{orShort, shortRead}
-use Rattle.text_room.proofs.Laws.{short-any}
-use Rattle.file_exports.specs.Exported.{outcomeNumber, noRoom, byRoom}
+use Rattle.text.specs.Room.{orShort, shortRead}
+use Rattle.text.proofs.Room.{short-any}
+use Rattle.rule_file.specs.Exported.{outcomeNumber, noRoom, byRoom}
 
 -- AN OUT-SLICE THAT IS TOO SMALL
 

@@ -19,9 +19,9 @@ use Rattle.rule.specs.Answers.{typeAnswerOf}
 use Rattle.rule.specs.Things.{faultOf}
 use Rattle.rule_types.specs.Comparison.{samenessOf, sameIn, sameType}
 use Rattle.rule_types.proofs.Laws.{left-five, left-six, right-five}
-use Rattle.file_read.specs.File.{overFile, readFile}
-use Rattle.file_read.specs.Types.{sameTypes}
-use Rattle.file_exports.specs.Exported.{handedFrame}
+use Rattle.rule_file.specs.File.{overFile, readFile}
+use Rattle.rule_file.specs.Types.{sameTypes}
+use Rattle.rule_file.specs.Exported.{handedFrame}
 
 pub zeros-for : (s : List ℕ) → (length s ≡ 16 → ⊥) → handedFrame s ≡ zeroFrame
 unfolding handedFrame

@@ -14,8 +14,8 @@ ghost use lib.ListN.{length};
 ghost use Rattle.text.specs.declared.AnswerRoom.the-variants.{NotLent};
 ghost use Rattle.frames.specs.Bytes.{putFrame};
 ghost use Rattle.frames.specs.Out.{outcomeFrame};
-ghost use Rattle.file_read.specs.File.{readFile, framesAfter};
-ghost use Rattle.file_exports.specs.Exported.{noRoom, byRoom, outcomeNumber};
+ghost use Rattle.rule_file.specs.File.{readFile, framesAfter};
+ghost use Rattle.rule_file.specs.Exported.{noRoom, byRoom, outcomeNumber};
 
 // Whether a file is accepted.
 #[no_mangle]

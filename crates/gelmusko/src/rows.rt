@@ -14,9 +14,9 @@ ghost use lib.ListN.{length};
 ghost use Rattle.text.specs.declared.AnswerRoom.the-variants.{Lent};
 ghost use Rattle.frames.specs.Bytes.{putFrame};
 ghost use Rattle.frames.specs.Out.{outcomeFrame, oneFrame};
-ghost use Rattle.file_read.specs.File.{readFile, framesAfter};
-ghost use Rattle.file_read.specs.Typing.{answersAfter, rowType, rowSaid, answersAfterRow, composeVerdict, verdictSaid, answersAfterVerdict};
-ghost use Rattle.file_exports.specs.Exported.{noRoom, byRoom, outcomeNumber, oneNumber, passOf};
+ghost use Rattle.rule_file.specs.File.{readFile, framesAfter};
+ghost use Rattle.rule_file.specs.Typing.{answersAfter, rowType, rowSaid, answersAfterRow, composeVerdict, verdictSaid, answersAfterVerdict};
+ghost use Rattle.rule_file.specs.Exported.{noRoom, byRoom, outcomeNumber, oneNumber, passOf};
 
 // Types every row of a file and judges every compose.
 #[no_mangle]

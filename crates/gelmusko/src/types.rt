@@ -14,10 +14,10 @@ ghost use lib.ListN.{length};
 ghost use Rattle.answers.specs.Numbers.{samenessSaid, canonicalSaid, baseSaid};
 ghost use Rattle.text.specs.declared.AnswerRoom.the-variants.{NotLent};
 ghost use Rattle.frames.specs.Bytes.{putFrame};
-ghost use Rattle.file_read.specs.File.{framesAfter};
-ghost use Rattle.file_read.specs.Types.{sameTypes};
+ghost use Rattle.rule_file.specs.File.{framesAfter};
+ghost use Rattle.rule_file.specs.Types.{sameTypes};
 ghost use Rattle.file_pointers.specs.Forms.{canonicalType, pointerBaseType};
-ghost use Rattle.file_exports.specs.Exported.{noRoom, byRoom, saidNumber, saidFrame, typeSaidNumber, typeSaidFrame, handedFrame};
+ghost use Rattle.rule_file.specs.Exported.{noRoom, byRoom, saidNumber, saidFrame, typeSaidNumber, typeSaidFrame, handedFrame};
 
 // Whether two answers of a file, as frames of family 8 or 9, are the same type.
 #[no_mangle]

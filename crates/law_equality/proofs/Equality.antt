@@ -39,9 +39,9 @@ use Rattle.rule_rows.specs.Typed.{typing}
 use Rattle.law_rows.proofs.Good.{Good}
 use Rattle.law_rows.proofs.Ranged.{Each}
 use Rattle.law_verdicts.proofs.NoDefault.{IsSound, ComparisonStep, comparison-no-default}
-use Rattle.file_read.specs.File.{overFile, readFile}
-use Rattle.file_read.specs.Types.{sameTypes}
-use Rattle.file_read.proofs.Laws.{accepted-when}
+use Rattle.rule_file.specs.File.{overFile, readFile}
+use Rattle.rule_file.specs.Types.{sameTypes}
+use Rattle.rule_file.proofs.Laws.{accepted-when}
 use Rattle.law_equality.specs.Equality.{Same, Different, Known, Taken, SoundIn}
 use Rattle.law_equality.specs.Equality.{Equivalence, AllKnown, Lawful, TypesKnown}
 

@@ -15,8 +15,8 @@ use Rattle.text.specs.declared.AnswerRoom.the-variants.{NotLent}
 use Rattle.text.specs.Lines.{decoded}
 use Rattle.frames.specs.declared.Frame.{Frame}
 use Rattle.rule_types.proofs.Seen.{never}
-use Rattle.file_read.specs.File.{readFile}
-use Rattle.file_read.specs.Types.{sameTypes}
+use Rattle.rule_file.specs.File.{readFile}
+use Rattle.rule_file.specs.Types.{sameTypes}
 use Rattle.law_equality.specs.Equality.{Same, SoundIn}
 use Rattle.law_equality.specs.Groups.{isSame, group, OneGroup, members}
 use Rattle.law_equality.proofs.Equality.{same-sound, sound-equivalence}

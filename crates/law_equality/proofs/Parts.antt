@@ -34,9 +34,9 @@ use Rattle.law_rows.proofs.Good.{Good}
 use Rattle.case_rows.specs.Reads.{reads}
 use Rattle.law_rows.proofs.NoDefault.{Earlier, operands-earlier}
 use Rattle.rule_answers.specs.Outputs.{rowAnswer}
-use Rattle.file_read.specs.File.{overFile, readFile}
-use Rattle.file_read.specs.Typing.{RowGiven, answer, noRow, notAccepted, rowGiven, rowType}
-use Rattle.file_read.proofs.Laws.{accepted-when}
+use Rattle.rule_file.specs.File.{overFile, readFile}
+use Rattle.rule_file.specs.Typing.{RowGiven, answer, noRow, notAccepted, rowGiven, rowType}
+use Rattle.rule_file.proofs.Laws.{accepted-when}
 use Rattle.law_equality.specs.Parts.{always, overBase, RowAgrees, agrees}
 
 -- WHAT THAT SAYS: if both give a type it is the same; a refusal is number 10, with the base's row and the index; and 22

@@ -31,8 +31,8 @@ use Rattle.rule_types.specs.Canonical.{equalTypes, identical}
 use Rattle.rule_types.specs.Comparison.{samenessOf, sameIn, sameType}
 use Rattle.rule_rows.specs.declared.Pass.{Pass}
 use Rattle.rule_rows.specs.Typed.{resolve}
-use Rattle.file_read.specs.File.{overFile, readFile}
-use Rattle.file_read.specs.Types.{sameTypes}
+use Rattle.rule_file.specs.File.{overFile, readFile}
+use Rattle.rule_file.specs.Types.{sameTypes}
 use Rattle.law_equality.specs.Groups.{group}
 use Rattle.law_equality.specs.Parts.{overBase}
 use Rattle.law_equality.specs.Cases.{file, text, Grouped, forward, backward, Pair, pairs, Part, parts}

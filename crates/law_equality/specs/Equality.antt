@@ -1,5 +1,5 @@
 -- Type equality as a law (document 02, request 13), said of the comparison over a text that the contract of `same_type`
--- cites (`sameTypes`, file_read/specs/Types.antt): of a text t, read within a limit, with a frame buffer of f bytes.
+-- cites (`sameTypes`, rule_file/specs/Types.antt): of a text t, read within a limit, with a frame buffer of f bytes.
 use Prim.Native.Nat.{ℕ}
 use mathlib.Core.Path.{_≡_}
 use mathlib.Core.Bool.{true}
@@ -15,7 +15,7 @@ use Rattle.archive.specs.Names.{isType}
 use Rattle.archive.specs.Access.{typeAt}
 use Rattle.rule.specs.Answers.{typeAnswerOf}
 use Rattle.rule_types.specs.Comparison.{Sound}
-use Rattle.file_read.specs.Types.{sameTypes}
+use Rattle.rule_file.specs.Types.{sameTypes}
 
 module _ (limit : ℕ) (t : List ℕ) (f : ℕ) where
   -- two answers are the same type: the comparison gives yes. Where it gives 22 it is not known whether they are, and

@@ -7,7 +7,7 @@ use Rattle.rule.specs.Answers.{TypeAnswer, typeAnswerOf, Typed, given, Result, 
 use Rattle.rule.specs.Things.{see}
 use Rattle.rule.specs.Rule.{Rule, Answers, run}
 use Rattle.rule_rows.specs.Parts.{Agrees}
-use Rattle.file_read.specs.Typing.{RowGiven, answer}
+use Rattle.rule_file.specs.Typing.{RowGiven, answer}
 
 -- the answer a, of whatever row is read: any frame, also one that no rule gives
 abbrev pub always : Frame → Answers

@@ -39,13 +39,13 @@ use Rattle.law_verdicts.specs.Numbers.{OurVerdict, itPasses, noComposed, otherC
 use Rattle.law_verdicts.specs.Each.{composesBelow}
 use Rattle.law_verdicts.proofs.Numbers.{verdict-numbers}
 use Rattle.law_verdicts.proofs.Each.{outputs-below}
-use Rattle.file_read.specs.File.{readFile}
-use Rattle.file_read.specs.Types.{sameTypes}
-use Rattle.file_read.specs.Typing.{answersWritten, answersAfter, rowType, composeVerdict}
-use Rattle.file_read.proofs.Laws.{Accepts, accepted-when}
-use Rattle.file_read.proofs.Ready.{ready-of}
-use Rattle.file_read.proofs.Row.{good-of}
-use Rattle.file_read.proofs.One.{outputs-go-on}
+use Rattle.rule_file.specs.File.{readFile}
+use Rattle.rule_file.specs.Types.{sameTypes}
+use Rattle.rule_file.specs.Typing.{answersWritten, answersAfter, rowType, composeVerdict}
+use Rattle.rule_file.proofs.Laws.{Accepts, accepted-when}
+use Rattle.rule_file.proofs.Ready.{ready-of}
+use Rattle.rule_file.proofs.Row.{good-of}
+use Rattle.rule_file.proofs.One.{outputs-go-on}
 use Rattle.law_later_readers.specs.Reader.{Reader, rowBytes, verdictBytes, saidBytes, comparedBytes, SaysNewer, Choice, theirs, Kept, Keeps, IsAccepted, Claim}
 use Rattle.law_later_readers.specs.Ours.{Suffice, framesFor, answersFor, standsAt, byBuffer, rowGivenBytes, verdictGivenBytes, byRow}
 

@@ -28,8 +28,8 @@ use Rattle.rule.specs.Answers.{row}
 use Rattle.rule_types.proofs.Seen.{never}
 use Rattle.rule_rows.specs.declared.Pass.{Pass}
 use Rattle.rule_rows.specs.Typed.{typing}
-use Rattle.file_read.specs.File.{readFile}
-use Rattle.file_read.proofs.Laws.{read-alike}
+use Rattle.rule_file.specs.File.{readFile}
+use Rattle.rule_file.proofs.Laws.{read-alike}
 use Rattle.law_later_readers.specs.Reader.{Reader, SaysNewer, meets, Keeps, IsAccepted, Claim}
 use Rattle.law_later_readers.specs.ShutOut.{newerAtRow, allNewer, holdsNewer, newerBeforeReading, isNewer, newerAsAnother, newerAtItself}
 use Rattle.law_later_readers.specs.ForProofs.{threeRows}

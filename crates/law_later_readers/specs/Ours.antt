@@ -1,4 +1,4 @@
--- Our readers, of whom document 01's claim is made ("A row's type", last paragraphs): what the contracts of `type_rows`, `row_type`, `compose_verdict` and `same_type` fix (file_read/specs), as bytes. The buffers that are lent are any
+-- Our readers, of whom document 01's claim is made ("A row's type", last paragraphs): what the contracts of `type_rows`, `row_type`, `compose_verdict` and `same_type` fix (rule_file/specs), as bytes. The buffers that are lent are any
 -- functions of the text.
 use Prim.Native.Nat.{ℕ, _+_, _*_, _≤_}
 use mathlib.Core.List.{List}
@@ -10,8 +10,8 @@ use Rattle.frames.specs.Bytes.{bytesOf, frameAt}
 use Rattle.frames.specs.Out.{oneFrame}
 use Rattle.rule_rows.specs.declared.Pass.{Pass}
 use Rattle.law_verdicts.specs.Each.{composesBelow}
-use Rattle.file_read.specs.Types.{sameTypes}
-use Rattle.file_read.specs.Typing.{answersAfter, RowGiven, rowType, rowSaid, VerdictGiven, composeVerdict, verdictSaid}
+use Rattle.rule_file.specs.Types.{sameTypes}
+use Rattle.rule_file.specs.Typing.{answersAfter, RowGiven, rowType, rowSaid, VerdictGiven, composeVerdict, verdictSaid}
 use Rattle.law_later_readers.specs.Reader.{Reader, saidBytes}
 
 -- the buffers suffice for every text ("Numbers handed back": 16 bytes a frame, and 16 a row with 16 more a compose)

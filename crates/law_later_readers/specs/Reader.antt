@@ -27,7 +27,7 @@ use Rattle.rule_types.specs.Comparison.{handed, samenessOf}
 use Rattle.rule_rows.specs.declared.Pass.{Pass}
 use Rattle.rule_rows.specs.Typed.{typing}
 use Rattle.rule_compose.specs.Rows.{verdictRule}
-use Rattle.file_read.specs.File.{readFile}
+use Rattle.rule_file.specs.File.{readFile}
 
 -- a reader: for every text and row number the bytes of the row's answer and of the compose's verdict, and for every text and two frames those of the comparison
 pub record Reader : Type 0 where

@@ -37,10 +37,10 @@ use Rattle.rule_rows.specs.declared.Pass.the-variants as Pa
 use Rattle.rule_rows.specs.Typed.{resolve, typed, typing}
 use Rattle.rule_compose.specs.Rows.{verdictRule, judged, verdictOf}
 use Rattle.rule_answers.specs.Outputs.{rowAnswer, rowFrames, outputs, framesBytes, verdictFrames}
-use Rattle.file_read.specs.File.{readFile}
-use Rattle.file_read.specs.Typing.{answersAfter}
-use Rattle.file_read.proofs.Ready.{ready-of}
-use Rattle.file_read.proofs.Row.{good-of}
+use Rattle.rule_file.specs.File.{readFile}
+use Rattle.rule_file.specs.Typing.{answersAfter}
+use Rattle.rule_file.proofs.Ready.{ready-of}
+use Rattle.rule_file.proofs.Row.{good-of}
 use Rattle.law_rows.proofs.Good.{Good}
 use Rattle.law_rows.proofs.Ranged.{Each, StepInRange}
 use Rattle.law_rows.proofs.NoDefault.{reading-in-range}

@@ -29,8 +29,8 @@ use Rattle.rule.specs.Answers.{rowAnswerOf}
 use Rattle.rule_rows.specs.declared.Pass.{Pass}
 use Rattle.rule_rows.specs.declared.Pass.the-variants as Pa
 use Rattle.rule_rows.specs.Typed.{typing}
-use Rattle.file_read.specs.File.{readFile}
-use Rattle.file_read.proofs.Laws.{read-alike}
+use Rattle.rule_file.specs.File.{readFile}
+use Rattle.rule_file.proofs.Laws.{read-alike}
 use Rattle.law_later_readers.specs.Reader.{Reader, rowBytes, theirs, meets, Keeps, IsAccepted, Claim}
 use Rattle.law_later_readers.specs.Ours.{Suffice, byBuffer, byRow}
 use Rattle.law_later_readers.proofs.Only.{choice}

@@ -20,7 +20,7 @@ use Rattle.archive.proofs.Checked.{Holds, accepted-when}
 use Rattle.archive.proofs.Ranks.{begins}
 use Rattle.archive.proofs.Files.{from-start}
 
--- the frames of an accepted file: every frame meets checks 4, 5 and 6 (`Accepts`, file_read/proofs/Laws.antt)
+-- the frames of an accepted file: every frame meets checks 4, 5 and 6 (`Accepts`, rule_file/proofs/Laws.antt)
 pub record Good (fr : List ℕ) : Type 0 where
   pub order : Holds orderOk fr
   pub fields : Holds fieldOk fr

@@ -30,9 +30,9 @@ use Rattle.rule_answers.specs.Outputs.{rowAnswer, verdictFrames, rowFrames, out
 use Rattle.rule_answers.proofs.Bytes.{bytes-length, bytes-append, frame-after}
 use Rattle.law_verdicts.specs.Numbers.{frameOf}
 use Rattle.law_verdicts.proofs.Numbers.{verdict-numbers}
-use Rattle.file_read.specs.File.{overFile, readFile}
-use Rattle.file_read.specs.Typing.{answersAfter, outputCount, RowGiven, answer, noRow, notAccepted, rowGiven, rowType, rowSaid}
-use Rattle.file_read.proofs.Laws.{accepted-when}
+use Rattle.rule_file.specs.File.{overFile, readFile}
+use Rattle.rule_file.specs.Typing.{answersAfter, outputCount, RowGiven, answer, noRow, notAccepted, rowGiven, rowType, rowSaid}
+use Rattle.rule_file.proofs.Laws.{accepted-when}
 use Rattle.law_widths.specs.Widths.{ValueWidth}
 use Rattle.law_widths.proofs.Values.{value-width}
 

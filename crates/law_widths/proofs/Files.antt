@@ -10,8 +10,8 @@ use Rattle.frames.specs.Bytes.{frameAt}
 use Rattle.frames.proofs.Families.{fit-type, fit-row}
 use Rattle.archive.specs.Checks.{fieldOk}
 use Rattle.archive.proofs.Checked.{Holds}
-use Rattle.file_read.specs.File.{readFile}
-use Rattle.file_read.proofs.Laws.{accepted-when}
+use Rattle.rule_file.specs.File.{readFile}
+use Rattle.rule_file.proofs.Laws.{accepted-when}
 use Rattle.law_widths.specs.Widths.{FileWidths}
 use Rattle.law_widths.proofs.Values.{fitting-width, as-width}
 

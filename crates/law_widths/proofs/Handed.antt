@@ -24,8 +24,8 @@ use Rattle.rule.specs.Things.{form, faultOf, see}
 use Rattle.rule_types.specs.Comparison.{samenessOf, sameIn, sameType}
 use Rattle.rule_types.proofs.Laws.{left-five, right-five}
 use Rattle.rule_types.proofs.Seen.{never}
-use Rattle.file_read.specs.File.{overFile, readFile}
-use Rattle.file_read.specs.Types.{sameTypes}
+use Rattle.rule_file.specs.File.{overFile, readFile}
+use Rattle.rule_file.specs.Types.{sameTypes}
 use Rattle.law_widths.specs.Widths.{OtherWidth}
 use Rattle.law_widths.proofs.Values.{fitting-width}
 

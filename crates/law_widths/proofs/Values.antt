@@ -22,7 +22,7 @@ use Rattle.frames.specs.Fields.{read, fits, fitsAll, isConvert, vectorSize, opt
 use Rattle.frames.specs.Layout.{typeLayout, rowLayout}
 use Rattle.frames.specs.Out.{typeFrame, resolutionFrame, answerFrame}
 use Rattle.rule_types.proofs.Seen.{never}
-use Rattle.file_exports.specs.Exported.{typeSaidFrame}
+use Rattle.rule_file.specs.Exported.{typeSaidFrame}
 use Rattle.law_widths.specs.Widths.{holdsScalar, RealWidth, AsWidth, ValueWidth}
 
 -- WHAT IS WRITTEN

@@ -1,3 +1,4 @@
 pub mod Hex
 pub mod Lines
 pub mod Reading
+pub mod Room

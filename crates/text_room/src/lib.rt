@@ -3,7 +3,7 @@ use answers::Outcome;
 use text::AnswerRoom;
 use text_decode::read_text;
 ghost use mathlib.Core.Path.{_≡_};
-ghost use Rattle.text_room.specs.Room.{orShort, shortRead};
+ghost use Rattle.text.specs.Room.{orShort, shortRead};
 
 // Number 1 or 2, else 3.
 fn or_short(o: Outcome) -> Outcome

@@ -7,8 +7,8 @@ use lib.ListN.{length, take}
 use lib.Seq.{length-take-le}
 use borrow.Author.Needs.{needs}
 use Rattle.answers.specs.Numbers.{printedSaid}
-use Rattle.file_read.specs.Printed.{printed, printedAfter}
-use Rattle.file_read.proofs.Over.{with-said}
+use Rattle.rule_file.specs.Printed.{printed, printedAfter}
+use Rattle.rule_file.proofs.Over.{with-said}
 use Rattle.explain_file.specs.Explained.{linesOf}
 use Rattle.explain_file.proofs.Fits.{explained-fits}
 use Rattle.explain_file.proofs.Fitting.{inside, lines-are}

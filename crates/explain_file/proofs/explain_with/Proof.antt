@@ -4,7 +4,7 @@ use Prim.Native.Nat.{_*_}
 use native.Mathlib.Omega.{arith}
 use lib.Seq.{length-take-le}
 use borrow.Author.Needs.{needs}
-use Rattle.file_read.proofs.Typed.{frames-within, outputs-within, outputs-fit}
+use Rattle.rule_file.proofs.Typed.{frames-within, outputs-within, outputs-fit}
 use Rattle.explain_file.specs.Explained.{Lines}
 use Rattle.explain_file.specs.ForProofs.{Shown}
 use Rattle.explain_file.proofs.File.{refused-lines, accepted-lines}

@@ -6,7 +6,7 @@ use native.Mathlib.Nat.{zero-add}
 use native.Mathlib.Omega.{arith}
 use lib.ListN.{length, drop}
 use borrow.Author.Needs.{needs}
-use Rattle.file_read.proofs.Printed.{not-printed, all-printed}
+use Rattle.rule_file.proofs.Printed.{not-printed, all-printed}
 use Rattle.explain_words.proofs.Writing.{put-fits}
 use Rattle.explain_file.proofs.print.Statement.{statement}
 use Rattle.explain_file.proofs.print.Tie as tie

@@ -6,7 +6,7 @@ use lib.ListN.{length, take}
 use lib.Seq.{length-take-le}
 use borrow.Author.Needs.{needs}
 use Rattle.rule_ranges.specs.Ranges.{countsOf}
-use Rattle.file_read.proofs.Over.{part-fits}
+use Rattle.rule_file.proofs.Over.{part-fits}
 use Rattle.explain_file.specs.Explained.{Lines}
 use Rattle.explain_file.specs.ForProofs.{Shown}
 use Rattle.explain_file.proofs.FileSizes.{few, few-overrides, refused-ranges, accepted-ranges}

@@ -7,7 +7,7 @@ use lib.Seq.{length-take-le}
 use borrow.Author.Needs.{needs}
 use Rattle.answers.specs.Limit.{maxFrames, maxFrameBytes}
 use Rattle.archive.specs.Starts.{startsOf, typeCount}
-use Rattle.file_read.proofs.Over.{part-fits}
+use Rattle.rule_file.proofs.Over.{part-fits}
 use Rattle.explain_file.specs.Explained.{Lines}
 use Rattle.explain_file.specs.ForProofs.{Shown}
 use Rattle.explain_file.proofs.FileSizes.{refused-sizes, few, sizes-within, accepted-sizes}

@@ -13,7 +13,7 @@ use Rattle.frames.specs.declared.Frame.{Frame}
 use Rattle.frames.specs.Bytes.{frameAt}
 use Rattle.archive.specs.declared.Starts.{Starts}
 use Rattle.archive.specs.Starts.{startsOf, rowCount}
-use Rattle.file_read.proofs.Row.{few-rows, row-small}
+use Rattle.rule_file.proofs.Row.{few-rows, row-small}
 use Rattle.file_answers.specs.ForProofs.{handsBack}
 use Rattle.file_answers.proofs.all_hand_back.Statement.{statement}
 use Rattle.file_answers.proofs.all_hand_back.Tie as tie

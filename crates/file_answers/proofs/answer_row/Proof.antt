@@ -5,7 +5,7 @@ use native.Mathlib.Omega.{arith}
 use lib.Seq.{length-take-le}
 use borrow.Author.Needs.{needs}
 use Rattle.frames.specs.Bytes.{putFrame}
-use Rattle.file_read.proofs.Row.{small-here, still, step-row, step-compose}
+use Rattle.rule_file.proofs.Row.{small-here, still, step-row, step-compose}
 use Rattle.file_answers.proofs.answer_row.Statement.{statement}
 use Rattle.file_answers.proofs.answer_row.Tie as tie
 

@@ -15,8 +15,8 @@ use Rattle.rule_rows.specs.declared.Pass.{Pass}
 use Rattle.rule_answers.specs.Outputs.{outputs, framesBytes}
 use Rattle.rule_answers.specs.ForProofs.{placesOf}
 use Rattle.rule_answers.proofs.Bytes.{bytes-length}
-use Rattle.file_read.specs.ForProofs.{Written}
-use Rattle.file_read.proofs.Row.{grows, two-a-row, few-rows, room-for, front, rest-stays, long-as-was}
+use Rattle.rule_file.specs.ForProofs.{Written}
+use Rattle.rule_file.proofs.Row.{grows, two-a-row, few-rows, room-for, front, rest-stays, long-as-was}
 use Rattle.file_answers.proofs.fill.Statement.{statement}
 use Rattle.file_answers.proofs.fill.Tie as tie
 

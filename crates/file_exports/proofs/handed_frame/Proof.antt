@@ -7,7 +7,7 @@ use mathlib.Core.List.{List}
 use lib.ListN.{length}
 use borrow.Author.Tests.{eq-eqb, ne-eqb, le-ltb}
 use Rattle.frames.specs.Bytes.{frameCount, frameAt, zeroFrame}
-use Rattle.file_exports.specs.Exported.{handedFrame}
+use Rattle.rule_file.specs.Exported.{handedFrame}
 use Rattle.file_exports.proofs.handed_frame.Statement.{statement}
 use Rattle.file_exports.proofs.handed_frame.Tie as tie
 

@@ -1,6 +1,6 @@
 -- `no_room`: the number of what reading gives then. Assumes nothing.
 use mathlib.Core.Path.{ap, _∙_}
-use Rattle.file_exports.specs.Exported.{outcomeNumber, noRoom}
+use Rattle.rule_file.specs.Exported.{outcomeNumber, noRoom}
 use borrow.Author.Needs.{needs}
 use Rattle.file_exports.proofs.no_room.Statement.{statement}
 use Rattle.file_exports.proofs.no_room.Tie as tie

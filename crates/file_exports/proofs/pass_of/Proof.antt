@@ -1,7 +1,7 @@
 -- `pass_of`: by the test. Assumes nothing.
 use native.Mathlib.Omega.{arith}
 use borrow.Author.Tests.{eq-eqb, ne-eqb}
-use Rattle.file_exports.specs.Exported.{passOf}
+use Rattle.rule_file.specs.Exported.{passOf}
 use Rattle.file_exports.proofs.pass_of.Statement.{statement}
 use Rattle.file_exports.proofs.pass_of.Tie as tie
 

@@ -6,7 +6,7 @@ use Rattle.rule_ranges.specs.declared.Range.the-variants.{Spans, Faulty}
 use Rattle.rule_ranges.specs.Ranges.{rangeSaid}
 use Rattle.rule_ranges.specs.ForProofs.{rangeNumber}
 use borrow.Author.Needs.{needs}
-use Rattle.file_exports.specs.Exported.{oneNumber}
+use Rattle.rule_file.specs.Exported.{oneNumber}
 use Rattle.file_exports.proofs.put_range.Statement.{statement}
 use Rattle.file_exports.proofs.put_range.Tie as tie
 

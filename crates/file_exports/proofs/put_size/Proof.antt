@@ -6,7 +6,7 @@ use Rattle.rule_sizes.specs.declared.Measure.the-variants.{Fills, Faulty}
 use Rattle.rule_sizes.specs.Sizes.{measureSaid}
 use Rattle.rule_sizes.specs.ForProofs.{measureNumber}
 use borrow.Author.Needs.{needs}
-use Rattle.file_exports.specs.Exported.{oneNumber}
+use Rattle.rule_file.specs.Exported.{oneNumber}
 use Rattle.file_exports.proofs.put_size.Statement.{statement}
 use Rattle.file_exports.proofs.put_size.Tie as tie
 

@@ -1,7 +1,7 @@
 -- `put_lines`: all lines where there is room for them. Assumes nothing.
 use native.Mathlib.Omega.{arith}
 use borrow.Author.Needs.{needs}
-use Rattle.file_read.proofs.Printed.{lines-short, lines-all}
+use Rattle.rule_file.proofs.Printed.{lines-short, lines-all}
 use mathlib.Core.Path.{refl}
 use Rattle.file_lines.proofs.put_lines.Statement.{statement}
 use Rattle.file_lines.proofs.put_lines.Tie as tie

@@ -8,9 +8,9 @@ use lib.Seq.{length-take-le}
 use borrow.Author.Needs.{needs}
 use Rattle.answers.specs.declared.Printed.{Printed}
 use Rattle.frames.specs.Bytes.{putFrame}
-use Rattle.file_read.specs.Printed.{printed, printedAfter}
-use Rattle.file_read.proofs.Typed.{outputs-within, outputs-fit}
-use Rattle.file_read.proofs.Printed.{number-long, refused-lines, accepted-lines}
+use Rattle.rule_file.specs.Printed.{printed, printedAfter}
+use Rattle.rule_file.proofs.Typed.{outputs-within, outputs-fit}
+use Rattle.rule_file.proofs.Printed.{number-long, refused-lines, accepted-lines}
 use Rattle.file_lines.proofs.type_lines.Statement.{statement}
 use Rattle.file_lines.proofs.type_lines.Tie as tie
 

@@ -9,8 +9,8 @@ use Rattle.answers.specs.declared.Outcome.{Outcome}
 use Rattle.answers.specs.Numbers.{outcomeValues}
 use Rattle.text.proofs.Laws.{room, front}
 use Rattle.archive.specs.Checks.{checkFrames}
-use Rattle.file_read.specs.File.{thenFrames, readFile, framesAfter}
-use Rattle.file_read.proofs.Over.{accepted-of, refused-over, with-said}
+use Rattle.rule_file.specs.File.{thenFrames, readFile, framesAfter}
+use Rattle.rule_file.proofs.Over.{accepted-of, refused-over, with-said}
 use Rattle.file_read.proofs.read_with.Statement.{statement}
 use Rattle.file_read.proofs.read_with.Tie as tie
 

@@ -11,9 +11,9 @@ use Rattle.answers.specs.Numbers.{samenessSaid}
 use Rattle.archive.specs.declared.Starts.{Starts}
 use Rattle.archive.specs.Starts.{startsOf}
 use Rattle.rule_types.specs.Comparison.{samenessOf, sameIn, sameType}
-use Rattle.file_read.specs.File.{overFile}
-use Rattle.file_read.specs.Types.{sameTypes}
-use Rattle.file_read.proofs.Over.{part-fits, given-over, refused-over, with-said}
+use Rattle.rule_file.specs.File.{overFile}
+use Rattle.rule_file.specs.Types.{sameTypes}
+use Rattle.rule_file.proofs.Over.{part-fits, given-over, refused-over, with-said}
 use Rattle.file_read.proofs.same_type.Statement.{statement}
 use Rattle.file_read.proofs.same_type.Tie as tie
 

@@ -8,7 +8,7 @@ use Rattle.archive.specs.Starts.{startsOf, rowCount}
 use Rattle.rule.specs.Things.{see}
 use Rattle.rule_answers.specs.Outputs.{outputs}
 use Rattle.rule_answers.proofs.Bytes.{bytes-length}
-use Rattle.file_read.proofs.Row.{few-rows}
+use Rattle.rule_file.proofs.Row.{few-rows}
 use Rattle.file_answers.proofs.Rows.{all-filled}
 use Rattle.file_rows.proofs.answer_all.Statement.{statement}
 use Rattle.file_rows.proofs.answer_all.Tie as tie

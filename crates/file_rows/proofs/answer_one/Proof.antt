@@ -9,8 +9,8 @@ use Rattle.archive.specs.Starts.{startsOf, rowCount}
 use mathlib.Core.Bool.{true, false}
 use lib.Seq.{length-take-le}
 use Rattle.archive.specs.Names.{isRow}
-use Rattle.file_read.proofs.Row.{few-rows}
-use Rattle.file_read.proofs.One.{places-long, one-answer}
+use Rattle.rule_file.proofs.Row.{few-rows}
+use Rattle.rule_file.proofs.One.{places-long, one-answer}
 use Rattle.file_answers.proofs.Rows.{all-filled}
 use Rattle.file_rows.proofs.answer_one.Statement.{statement}
 use Rattle.file_rows.proofs.answer_one.Tie as tie

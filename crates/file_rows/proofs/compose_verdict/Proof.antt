@@ -7,11 +7,11 @@ use lib.Seq.{length-take-le}
 use borrow.Author.Needs.{needs}
 use Rattle.answers.specs.declared.Outcome.{Outcome}
 use Rattle.answers.specs.declared.ComposeVerdict.the-variants as Cv
-use Rattle.file_read.specs.File.{overFile}
-use Rattle.file_read.specs.Typing.{answersWritten, VerdictGiven, verdictGiven, ifJudged, composeVerdict, answersAfterVerdict}
-use Rattle.file_read.proofs.Over.{refused-over, part-fits, over-part}
-use Rattle.file_read.proofs.Ready.{ready-part}
-use Rattle.file_read.proofs.Said.{with-verdict}
+use Rattle.rule_file.specs.File.{overFile}
+use Rattle.rule_file.specs.Typing.{answersWritten, VerdictGiven, verdictGiven, ifJudged, composeVerdict, answersAfterVerdict}
+use Rattle.rule_file.proofs.Over.{refused-over, part-fits, over-part}
+use Rattle.rule_file.proofs.Ready.{ready-part}
+use Rattle.rule_file.proofs.Said.{with-verdict}
 use Rattle.file_rows.proofs.compose_verdict.Statement.{statement}
 use Rattle.file_rows.proofs.compose_verdict.Tie as tie
 

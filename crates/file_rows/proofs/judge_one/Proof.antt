@@ -10,8 +10,8 @@ use borrow.Author.Tests.{ltb-true, eqb-true, eqb-false}
 use Rattle.archive.specs.declared.Starts.{Starts}
 use Rattle.archive.specs.Starts.{startsOf, rowCount}
 use Rattle.archive.specs.Names.{isRow}
-use Rattle.file_read.proofs.Row.{few-rows, row-small}
-use Rattle.file_read.proofs.One.{places-long, one-verdict, no-verdict}
+use Rattle.rule_file.proofs.Row.{few-rows, row-small}
+use Rattle.rule_file.proofs.One.{places-long, one-verdict, no-verdict}
 use Rattle.file_answers.proofs.Rows.{all-filled}
 use Rattle.file_rows.proofs.judge_one.Statement.{statement}
 use Rattle.file_rows.proofs.judge_one.Tie as tie

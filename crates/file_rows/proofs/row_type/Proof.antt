@@ -10,11 +10,11 @@ use Rattle.answers.specs.declared.RowType.the-variants as Rt
 use mathlib.Core.Bool.{cond}
 use Rattle.archive.specs.Starts.{startsOf}
 use Rattle.archive.specs.Names.{isRow}
-use Rattle.file_read.specs.File.{overFile}
-use Rattle.file_read.specs.Typing.{answersWritten, RowGiven, rowGiven, rowType, answersAfterRow}
-use Rattle.file_read.proofs.Over.{refused-over, part-fits, over-part}
-use Rattle.file_read.proofs.Ready.{ready-part}
-use Rattle.file_read.proofs.Said.{with-row}
+use Rattle.rule_file.specs.File.{overFile}
+use Rattle.rule_file.specs.Typing.{answersWritten, RowGiven, rowGiven, rowType, answersAfterRow}
+use Rattle.rule_file.proofs.Over.{refused-over, part-fits, over-part}
+use Rattle.rule_file.proofs.Ready.{ready-part}
+use Rattle.rule_file.proofs.Said.{with-row}
 use Rattle.file_rows.proofs.row_type.Statement.{statement}
 use Rattle.file_rows.proofs.row_type.Tie as tie
 

@@ -10,11 +10,11 @@ use Rattle.answers.specs.declared.Outcome.{Outcome}
 use Rattle.frames.specs.Bytes.{frameCount}
 use Rattle.rule_rows.specs.declared.Pass.{Pass}
 use Rattle.rule_answers.specs.Outputs.{outputBytes}
-use Rattle.file_read.specs.File.{overFile}
-use Rattle.file_read.specs.Typing.{answersWritten, answersAfter, outputCount}
-use Rattle.file_read.proofs.Over.{refused-over, part-fits, over-part}
-use Rattle.file_read.proofs.Ready.{ready-part}
-use Rattle.file_read.proofs.Typed.{whole-frames}
+use Rattle.rule_file.specs.File.{overFile}
+use Rattle.rule_file.specs.Typing.{answersWritten, answersAfter, outputCount}
+use Rattle.rule_file.proofs.Over.{refused-over, part-fits, over-part}
+use Rattle.rule_file.proofs.Ready.{ready-part}
+use Rattle.rule_file.proofs.Typed.{whole-frames}
 use Rattle.file_rows.proofs.type_file.Statement.{statement}
 use Rattle.file_rows.proofs.type_file.Tie as tie
 

@@ -10,9 +10,9 @@ use Rattle.rule_ranges.specs.declared.TypeRange.the-variants as Res
 use Rattle.rule_ranges.specs.Ranges.{countsOf, typeRangeIn, typeRangeSaid}
 use Rattle.archive.specs.declared.Starts.{Starts}
 use Rattle.archive.specs.Starts.{startsOf}
-use Rattle.file_read.specs.File.{overFile}
+use Rattle.rule_file.specs.File.{overFile}
 use Rattle.file_sizes.specs.Ranges.{tablesShort, sizeRange, framesRanged}
-use Rattle.file_read.proofs.Over.{part-fits, given-over, refused-over, with-said}
+use Rattle.rule_file.proofs.Over.{part-fits, given-over, refused-over, with-said}
 use Rattle.file_sizes.proofs.Ranged.{few-starts, is-short, not-short}
 use Rattle.file_sizes.proofs.size_range.Statement.{statement}
 use Rattle.file_sizes.proofs.size_range.Tie as tie

@@ -11,9 +11,9 @@ use Rattle.rule_sizes.specs.Sizes.{sizeSaid}
 use Rattle.archive.specs.declared.Starts.{Starts}
 use Rattle.archive.specs.Starts.{startsOf}
 use Rattle.rule_sizes.specs.Sizes.{typeSizeIn}
-use Rattle.file_read.specs.File.{overFile}
+use Rattle.rule_file.specs.File.{overFile}
 use Rattle.file_sizes.specs.Sizes.{typeSize}
-use Rattle.file_read.proofs.Over.{part-fits, given-over, refused-over, with-said}
+use Rattle.rule_file.proofs.Over.{part-fits, given-over, refused-over, with-said}
 use Rattle.file_sizes.proofs.type_size.Statement.{statement}
 use Rattle.file_sizes.proofs.type_size.Tie as tie
 

@@ -5,7 +5,7 @@ use lib.ListN.{length}
 use mathlib.Core.Path.{ap, _∙_}
 use Rattle.gelmusko.proofs.Laws.{is-small, has-room, not-put}
 use Rattle.frames.specs.Bytes.{putFrame}
-use Rattle.file_exports.specs.Exported.{outcomeNumber}
+use Rattle.rule_file.specs.Exported.{outcomeNumber}
 use Rattle.frames.specs.Out.{outcomeFrame}
 use borrow.Author.Needs.{needs}
 use Rattle.gelmusko.proofs.gelmusko_read_file.Statement.{statement}

@@ -2,7 +2,7 @@
 use mathlib.Core.Path.{sym}
 use lib.Seq.{length-take-le}
 use borrow.Author.Needs.{needs}
-use Rattle.file_read.proofs.Printed.{bytes-within}
+use Rattle.rule_file.proofs.Printed.{bytes-within}
 use Rattle.replay_answers.proofs.print_types.Statement.{statement}
 use Rattle.replay_answers.proofs.print_types.Tie as tie
 

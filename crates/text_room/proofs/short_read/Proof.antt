@@ -1,6 +1,6 @@
 -- `short_read`: what `read_text` gives with no buffer at all. Assumes nothing.
 use mathlib.Core.Path.{ap, _∙_}
-use Rattle.text_room.specs.Room.{orShort, shortRead}
+use Rattle.text.specs.Room.{orShort, shortRead}
 use borrow.Author.Needs.{needs}
 use Rattle.text_room.proofs.short_read.Statement.{statement}
 use Rattle.text_room.proofs.short_read.Tie as tie

@@ -3,7 +3,7 @@ use mathlib.Core.Path.{ap, _∙_}
 use Rattle.gelmusko.proofs.Laws.{is-small, has-room, not-put, range-clamped}
 use Rattle.frames.specs.Bytes.{putFrame}
 use lib.ListN.{length}
-use Rattle.file_exports.specs.Exported.{oneNumber}
+use Rattle.rule_file.specs.Exported.{oneNumber}
 use Rattle.rule_ranges.specs.Ranges.{typeRangeSaid, rangeSaidFrame}
 use Rattle.rule_ranges.specs.declared.TypeRange.{TypeRange}
 use borrow.Author.Needs.{needs}

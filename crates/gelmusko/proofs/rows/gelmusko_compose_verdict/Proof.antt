@@ -1,12 +1,12 @@
 -- `gelmusko_compose_verdict`: as `compose_verdict`, where the out-slice has room; the number handed on gives what the number handed in asks for. Assumes nothing.
 use mathlib.Core.Path.{ap, _∙_}
 use Rattle.rule_rows.specs.declared.Pass.{Pass}
-use Rattle.file_read.specs.Typing.{composeVerdict, verdictSaid, answersAfterVerdict}
+use Rattle.rule_file.specs.Typing.{composeVerdict, verdictSaid, answersAfterVerdict}
 use Rattle.gelmusko.proofs.Laws.{is-small, has-room, not-put, judged-clamped, said-clamped}
 use Rattle.frames.specs.Bytes.{putFrame}
 use lib.ListN.{length}
 use Rattle.frames.specs.Out.{oneFrame}
-use Rattle.file_exports.specs.Exported.{oneNumber}
+use Rattle.rule_file.specs.Exported.{oneNumber}
 use borrow.Author.Needs.{needs}
 use Rattle.gelmusko.proofs.rows.gelmusko_compose_verdict.Statement.{statement}
 use Rattle.gelmusko.proofs.rows.gelmusko_compose_verdict.Tie as tie

@@ -5,8 +5,8 @@ use Rattle.gelmusko.proofs.Laws.{is-small, has-room, not-put, row-clamp
 use Rattle.frames.specs.Bytes.{putFrame}
 use lib.ListN.{length}
 use Rattle.frames.specs.Out.{oneFrame}
-use Rattle.file_read.specs.Typing.{rowType, rowSaid, answersAfterRow}
-use Rattle.file_exports.specs.Exported.{oneNumber}
+use Rattle.rule_file.specs.Typing.{rowType, rowSaid, answersAfterRow}
+use Rattle.rule_file.specs.Exported.{oneNumber}
 use borrow.Author.Needs.{needs}
 use Rattle.gelmusko.proofs.rows.gelmusko_row_type.Statement.{statement}
 use Rattle.gelmusko.proofs.rows.gelmusko_row_type.Tie as tie

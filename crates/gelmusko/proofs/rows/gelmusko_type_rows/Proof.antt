@@ -4,8 +4,8 @@ use lib.ListN.{length}
 use Rattle.gelmusko.proofs.Laws.{is-small, has-room, not-put}
 use Rattle.frames.specs.Bytes.{putFrame}
 use Rattle.rule_rows.specs.declared.Pass.{Pass}
-use Rattle.file_read.specs.Typing.{answersAfter}
-use Rattle.file_exports.specs.Exported.{outcomeNumber}
+use Rattle.rule_file.specs.Typing.{answersAfter}
+use Rattle.rule_file.specs.Exported.{outcomeNumber}
 use Rattle.frames.specs.Out.{outcomeFrame}
 use borrow.Author.Needs.{needs}
 use Rattle.gelmusko.proofs.rows.gelmusko_type_rows.Statement.{statement}

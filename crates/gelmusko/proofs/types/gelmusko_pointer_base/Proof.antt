@@ -3,7 +3,7 @@ use mathlib.Core.Path.{ap, _∙_}
 use Rattle.gelmusko.proofs.Laws.{is-small, has-room, not-put, base-clamped}
 use Rattle.frames.specs.Bytes.{putFrame}
 use lib.ListN.{length}
-use Rattle.file_exports.specs.Exported.{typeSaidNumber, typeSaidFrame}
+use Rattle.rule_file.specs.Exported.{typeSaidNumber, typeSaidFrame}
 use Rattle.answers.specs.Numbers.{baseSaid}
 use Rattle.answers.specs.declared.PointerBase.{PointerBase}
 use borrow.Author.Needs.{needs}

@@ -3,11 +3,11 @@ use mathlib.Core.Path.{ap, _∙_}
 use Rattle.gelmusko.proofs.Laws.{is-small, has-room, not-put}
 use Rattle.frames.specs.Bytes.{putFrame}
 use lib.ListN.{length}
-use Rattle.file_exports.specs.Exported.{saidNumber, saidFrame, handedFrame}
+use Rattle.rule_file.specs.Exported.{saidNumber, saidFrame, handedFrame}
 use Rattle.answers.specs.Numbers.{samenessSaid}
 use Rattle.answers.specs.declared.Sameness.{Sameness}
 use Rattle.frames.specs.declared.Frame.{Frame}
-use Rattle.file_read.specs.Types.{sameTypes}
+use Rattle.rule_file.specs.Types.{sameTypes}
 use borrow.Author.Needs.{needs}
 use Rattle.gelmusko.proofs.types.gelmusko_same_type.Statement.{statement}
 use Rattle.gelmusko.proofs.types.gelmusko_same_type.Tie as tie

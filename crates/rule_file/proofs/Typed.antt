@@ -15,13 +15,13 @@ use Rattle.rule.specs.Things.{see}
 use Rattle.rule_rows.specs.declared.Pass.{Pass}
 use Rattle.rule_answers.specs.Outputs.{outputs, outputBytes}
 use Rattle.rule_answers.proofs.Bytes.{bytes-length}
-use Rattle.file_read.specs.declared.OptionUsize.the-variants as Ou
-use Rattle.file_read.specs.declared.TypedFile.{TypedFile}
-use Rattle.file_read.specs.File.{overFile, readFile}
-use Rattle.file_read.specs.Typing.{answersWritten, answersAfter, outputCount, HandsBack}
-use Rattle.file_read.specs.ForProofs.{framesIn}
-use Rattle.file_read.proofs.Over.{refused-over, part-fits, over-part}
-use Rattle.file_read.proofs.Ready.{ready-part}
+use Rattle.rule_file.specs.declared.OptionUsize.the-variants as Ou
+use Rattle.rule_file.specs.declared.TypedFile.{TypedFile}
+use Rattle.rule_file.specs.File.{overFile, readFile}
+use Rattle.rule_file.specs.Typing.{answersWritten, answersAfter, outputCount, HandsBack}
+use Rattle.rule_file.specs.ForProofs.{framesIn}
+use Rattle.rule_file.proofs.Over.{refused-over, part-fits, over-part}
+use Rattle.rule_file.proofs.Ready.{ready-part}
 
 -- what is handed back is whole frames
 pub whole-frames : (pass : Pass) (fr : List ℕ) → 16 * frameCount (outputBytes pass fr) ≡ length (outputBytes pass fr)

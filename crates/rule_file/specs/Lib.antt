@@ -3,3 +3,4 @@ pub mod Types
 pub mod Typing
 pub mod Printed
 pub mod ForProofs
+pub mod Exported

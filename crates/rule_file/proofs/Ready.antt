@@ -28,11 +28,11 @@ use Rattle.law_rows.proofs.Good.{Good, good-when}
 use Rattle.rule_answers.specs.Outputs.{outputs, outputBytes}
 use Rattle.rule_answers.proofs.Bytes.{bytes-length}
 use Rattle.rule_answers.proofs.Room.{asked, outputs-asked}
-use Rattle.file_read.specs.declared.OptionUsize.the-variants as Ou
-use Rattle.file_read.specs.File.{readFile, framesAfter}
-use Rattle.file_read.specs.ForProofs.{framesIn, Ready}
-use Rattle.file_read.proofs.Over.{read, part-is}
-use Rattle.file_read.proofs.Laws.{count-decoded, then-checked, accepted-when}
+use Rattle.rule_file.specs.declared.OptionUsize.the-variants as Ou
+use Rattle.rule_file.specs.File.{readFile, framesAfter}
+use Rattle.rule_file.specs.ForProofs.{framesIn, Ready}
+use Rattle.rule_file.proofs.Over.{read, part-is}
+use Rattle.rule_file.proofs.Laws.{count-decoded, then-checked, accepted-when}
 
 sum-grows : (f : ℕ → ℕ) (m n : ℕ) → m ≤ n → sumBelow f m ≤ sumBelow f n
 unfolding sumBelow

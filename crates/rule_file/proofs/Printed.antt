@@ -23,16 +23,16 @@ use Rattle.rule.specs.Things.{see}
 use Rattle.rule_rows.specs.declared.Pass.{Pass}
 use Rattle.rule_answers.specs.Outputs.{outputs, outputBytes}
 use Rattle.rule_answers.proofs.Bytes.{bytes-length}
-use Rattle.file_read.specs.declared.OptionUsize.the-variants as Ou
-use Rattle.file_read.specs.declared.TypedFile.{TypedFile}
-use Rattle.file_read.specs.File.{overFile, readFile}
-use Rattle.file_read.specs.Typing.{HandsBack, outcomeText, outputText, typedText}
-use Rattle.file_read.specs.Printed.{printed, printedAfter}
-use Rattle.file_read.specs.ForProofs.{framesIn}
-use Rattle.file_read.proofs.Over.{refused-over}
-use Rattle.file_read.proofs.Row.{two-a-row, few-rows}
-use Rattle.file_read.proofs.Ready.{ready-of}
-use Rattle.file_read.proofs.Typed.{unchanged, handed-over, largest}
+use Rattle.rule_file.specs.declared.OptionUsize.the-variants as Ou
+use Rattle.rule_file.specs.declared.TypedFile.{TypedFile}
+use Rattle.rule_file.specs.File.{overFile, readFile}
+use Rattle.rule_file.specs.Typing.{HandsBack, outcomeText, outputText, typedText}
+use Rattle.rule_file.specs.Printed.{printed, printedAfter}
+use Rattle.rule_file.specs.ForProofs.{framesIn}
+use Rattle.rule_file.proofs.Over.{refused-over}
+use Rattle.rule_file.proofs.Row.{two-a-row, few-rows}
+use Rattle.rule_file.proofs.Ready.{ready-of}
+use Rattle.rule_file.proofs.Typed.{unchanged, handed-over, largest}
 
 -- a frame put at the front of a buffer that has room
 front-is : (an : List ℕ) (f : Frame) → 16 ≤ length an → take 16 (putFrame an 0 f) ≡ bytesOf f

@@ -7,7 +7,7 @@ use Rattle.answers.specs.declared.Sameness.the-variants as Sa
 use Rattle.text.specs.declared.AnswerRoom.the-variants.{NotLent}
 use Rattle.frames.specs.declared.Frame.{Frame}
 use Rattle.rule_types.specs.Comparison.{samenessOf, sameType}
-use Rattle.file_read.specs.File.{overFile, readFile}
+use Rattle.rule_file.specs.File.{overFile, readFile}
 
 -- what comparing two frames gives: yes, no, 22, 5 or 6
 unfoldable pub sameTypes : ℕ → List ℕ → ℕ → Frame → Frame → Sameness

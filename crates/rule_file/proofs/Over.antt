@@ -13,10 +13,10 @@ use Rattle.text.specs.Reading.{readText}
 use Rattle.text.proofs.Laws as T
 use Rattle.archive.specs.declared.Starts.{Starts}
 use Rattle.archive.specs.Starts.{startsOf}
-use Rattle.file_read.specs.declared.OptionUsize.the-variants as Ou
-use Rattle.file_read.specs.File.{overFile, readFile, framesAfter}
-use Rattle.file_read.specs.ForProofs.{framesIn}
-use Rattle.file_read.proofs.Laws.{accepted-when}
+use Rattle.rule_file.specs.declared.OptionUsize.the-variants as Ou
+use Rattle.rule_file.specs.File.{overFile, readFile, framesAfter}
+use Rattle.rule_file.specs.ForProofs.{framesIn}
+use Rattle.rule_file.proofs.Laws.{accepted-when}
 
 never : {X : Type 0} → _≡_ {A = ℕ} 0 1 → X
 never z = absurd (omega arith)

@@ -15,8 +15,8 @@ use Rattle.rule.specs.Things.{see}
 use Rattle.rule_rows.specs.declared.Pass.{Pass}
 use Rattle.rule_answers.specs.Outputs.{outputs, framesBytes, outputBytes}
 use Rattle.rule_answers.specs.ForProofs.{placesOf, AllHeld}
-use Rattle.file_read.specs.declared.OptionUsize.{OptionUsize}
-use Rattle.file_read.specs.declared.OptionUsize.the-variants as Ou
+use Rattle.rule_file.specs.declared.OptionUsize.{OptionUsize}
+use Rattle.rule_file.specs.declared.OptionUsize.the-variants as Ou
 
 -- how many frames an outcome says were accepted
 abbrev pub framesIn : Outcome → OptionUsize

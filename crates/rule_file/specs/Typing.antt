@@ -28,8 +28,8 @@ use Rattle.rule_rows.specs.Answered.{toResult}
 use Rattle.rule_compose.specs.Rows.{verdictOf}
 use Rattle.rule_compose.specs.Judged.{toJudged}
 use Rattle.rule_answers.specs.Outputs.{rowAnswer, outputBytes}
-use Rattle.file_read.specs.declared.TypedFile.{TypedFile}
-use Rattle.file_read.specs.File.{overFile, readFile, fileSaid, framesAfter}
+use Rattle.rule_file.specs.declared.TypedFile.{TypedFile}
+use Rattle.rule_file.specs.File.{overFile, readFile, fileSaid, framesAfter}
 
 -- TYPE_ROWS, TYPE_FILE
 

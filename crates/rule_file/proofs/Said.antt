@@ -9,8 +9,8 @@ use Rattle.answers.specs.declared.ComposeVerdict.the-variants as Cv
 use Rattle.answers.specs.Numbers.{asked}
 use Rattle.frames.specs.Out.{rowTypeSaid, composeVerdictSaid}
 use Rattle.rule_rows.proofs.Written.{answer-framed}
-use Rattle.file_read.specs.Typing.{RowGiven, toGiven, rowSaid, VerdictGiven, toVerdict, verdictSaid}
-use Rattle.file_read.proofs.Row.{verdict-framed}
+use Rattle.rule_file.specs.Typing.{RowGiven, toGiven, rowSaid, VerdictGiven, toVerdict, verdictSaid}
+use Rattle.rule_file.proofs.Row.{verdict-framed}
 
 pub row-said : (r : RowType) → rowTypeSaid r ≡ rowSaid (toGiven r)
 row-said (Rt.Answered a) = ap asked (answer-framed a)

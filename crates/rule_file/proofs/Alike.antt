@@ -19,10 +19,10 @@ use Rattle.archive.specs.Names.{isRow}
 use Rattle.rule_types.specs.Comparison.{samenessOf, sameType}
 use Rattle.rule_rows.specs.declared.Pass.{Pass}
 use Rattle.rule_answers.specs.Outputs.{outputBytes}
-use Rattle.file_read.specs.File.{overFile, readFile}
-use Rattle.file_read.specs.Types.{sameTypes}
-use Rattle.file_read.specs.Typing.{answersWritten, answersAfter, outputCount, RowGiven, rowGiven, rowType, answersAfterRow, VerdictGiven, verdictGiven, composeVerdict, ifJudged, answersAfterVerdict, outcomeText, outputText, typedText}
-use Rattle.file_read.proofs.Laws.{read-alike}
+use Rattle.rule_file.specs.File.{overFile, readFile}
+use Rattle.rule_file.specs.Types.{sameTypes}
+use Rattle.rule_file.specs.Typing.{answersWritten, answersAfter, outputCount, RowGiven, rowGiven, rowType, answersAfterRow, VerdictGiven, verdictGiven, composeVerdict, ifJudged, answersAfterVerdict, outcomeText, outputText, typedText}
+use Rattle.rule_file.proofs.Laws.{read-alike}
 
 module _ (limit other : ℕ) (t : List ℕ) (a : length t ≤ 33 * mostFrames limit) (b : length t ≤ 33 * mostFrames other) where
   -- whatever follows on reading it

@@ -17,6 +17,6 @@ orShort (O.Order k) = O.Short
 orShort (O.Field k) = O.Short
 orShort (O.Index k) = O.Short
 
--- what reading a text gives then; the same for any frame buffer and answer buffer: `short-any` (proofs/Laws.antt)
+-- what reading a text gives then; the same for any frame buffer and answer buffer: `short-any` (proofs/Room.antt)
 unfoldable pub shortRead : ℕ → List ℕ → Outcome
 shortRead limit t = orShort (readText limit t 0 NotLent)

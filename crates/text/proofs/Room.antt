@@ -10,11 +10,11 @@ use Rattle.scan.specs.Lowest.{lowest}
 use Rattle.scan.specs.declared.Found.{Found}
 use Rattle.scan.specs.declared.Found.the-variants as Fo
 use Rattle.answers.specs.declared.Outcome.the-variants.{Accepted, Long, Short}
 use Rattle.text.specs.declared.AnswerRoom.{AnswerRoom}
 use Rattle.text.specs.declared.AnswerRoom.the-variants.{NotLent}
 use Rattle.text.specs.Lines.{lineOk, lineCount}
 use Rattle.text.specs.Reading.{mostFrames, afterTorn, tooShort, readText}
-use Rattle.text_room.specs.Room.{orShort, shortRead}
+use Rattle.text.specs.Room.{orShort, shortRead}
 
 -- numbers 1 and 2 do not depend on what is lent
 pub short-any : (limit : ℕ) (t : List ℕ) (f : ℕ) (room : AnswerRoom) → shortRead limit t ≡ orShort (readText limit t f room)

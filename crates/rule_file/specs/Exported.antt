@@ -7,7 +7,7 @@ use lib.Dec.{ltb, eqb}
 use lib.ListN.{length}
 use Rattle.answers.specs.declared.Outcome.{Outcome}
 use Rattle.answers.specs.Numbers.{noRefusal, outcomeValues, Said, SaidOf, SaidOne, alike, different, numbered, type, noPointer, refused, asked, instead}
-use Rattle.text_room.specs.Room.{shortRead}
+use Rattle.text.specs.Room.{shortRead}
 use Rattle.frames.specs.declared.Frame.{Frame}
 use Rattle.frames.specs.Bytes.{frameAt, zeroFrame}
 use Rattle.frames.specs.Out.{resolutionFrame, refusedFrame}
@@ -63,6 +63,6 @@ unfoldable pub passOf : ℕ → Pass
 passOf n = cond (eqb n 1) Second First
 
 -- A FRAME HANDED IN as bytes. One of another length than 16 is taken for the frame of zeros, which is of no family and so gets 5: `wrong-left`, `wrong-right`
--- (proofs/Lengths.antt)
+-- (gelmusko/proofs/Lengths.antt)
 unfoldable pub handedFrame : List ℕ → Frame
 handedFrame s = cond (eqb (length s) 16) (frameAt s 0) zeroFrame

@@ -38,9 +38,9 @@ use Rattle.rule_answers.specs.ForProofs.{placesOf}
 use Rattle.rule_answers.proofs.Bytes.{bytes-append}
 use Rattle.rule_answers.proofs.Placed.{past-is}
 use Rattle.rule_answers.proofs.Buffer.{good-held, placed-outputs, run-buffer}
-use Rattle.file_read.specs.Typing.{answersWritten, RowGiven, answer, rowGiven, VerdictGiven, verdict, noCompose, orNoCompose, verdictGiven, ifJudged}
-use Rattle.file_read.specs.ForProofs.{Ready}
-use Rattle.file_read.proofs.Row.{good-of, compose-rule, no-rule}
+use Rattle.rule_file.specs.Typing.{answersWritten, RowGiven, answer, rowGiven, VerdictGiven, verdict, noCompose, orNoCompose, verdictGiven, ifJudged}
+use Rattle.rule_file.specs.ForProofs.{Ready}
+use Rattle.rule_file.proofs.Row.{good-of, compose-rule, no-rule}
 
 -- a list that goes on from another
 pub record GoesOn {A : Type 0} (l front : List A) : Type 0 where

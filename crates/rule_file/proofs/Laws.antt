@@ -30,7 +30,7 @@ use Rattle.archive.specs.Order.{orderOk}
 use Rattle.archive.specs.Checks.{fieldOk, indexOk, checkFrames}
 use Rattle.archive.proofs.Checked as C
 use Rattle.archive.proofs.Checked.{Holds, FailsAt, by-check}
-use Rattle.file_read.specs.File.{thenFrames, readFile, framesAfter}
+use Rattle.rule_file.specs.File.{thenFrames, readFile, framesAfter}
 
 -- an accepted file of n frames: no more bytes than the limit's lines have, every line whole, the buffers suffice, and every frame meets checks 4, 5 and 6
 pub record Accepts (limit : ℕ) (t : List ℕ) (f : ℕ) (room : AnswerRoom) (n : ℕ) : Type 0 where

@@ -47,7 +47,7 @@ use Rattle.rule_answers.specs.ForProofs.{placesOf, Held, AllHeld}
 use Rattle.rule_answers.proofs.Bytes.{bytes-length, bytes-append, put-after}
 use Rattle.rule_answers.proofs.Buffer.{run-buffer}
 use Rattle.rule_answers.proofs.Room.{row-compose, row-is}
-use Rattle.file_read.specs.ForProofs.{Room, Ready, Turn, Written}
+use Rattle.rule_file.specs.ForProofs.{Room, Ready, Turn, Written}
 
 -- the code's verdicts are written as the definitions have them
 pub verdict-framed : (r : RowNumber) (v : Verdict) → Out.verdictFrame r v ≡ verdictFrame r (toJudged v)
