@@ -73,7 +73,7 @@ theorem law_widths/proofs/Handed.antt other-left other-right other-chosen other-
 theorem law_equality/proofs/Equality.antt equivalence types-known sound-equivalence either-order replaced taken-when known-when
 theorem law_equality/proofs/Groups.antt one-group-when in-a-group order-free members-free members-one
 theorem law_equality/proofs/Parts.antt base-agrees rows-agree
-theorem case_rows/proofs/Reading.antt reads-are
+theorem law_rows/proofs/Reading.antt reads-are
 theorem rule_types/proofs/Looks.antt looks-are
 theorem law_verdicts/proofs/Reading.antt verdict-reads-are
 '''

@@ -1,4 +1,3 @@
 pub mod Lines
-pub mod Reads
 pub mod AccessCases
 pub mod Cases

@@ -31,7 +31,7 @@ use Rattle.rule_rows.specs.Typed.{resolve, typing}
 use Rattle.rule_rows.specs.Parts.{Agrees, same, outOfBounds}
 use Rattle.rule_rows.proofs.Parts.{parts-agree}
 use Rattle.law_rows.proofs.Good.{Good}
-use Rattle.case_rows.specs.Reads.{reads}
+use Rattle.law_rows.specs.Reads.{reads}
 use Rattle.law_rows.proofs.NoDefault.{Earlier, operands-earlier}
 use Rattle.rule_answers.specs.Outputs.{rowAnswer}
 use Rattle.rule_file.specs.File.{overFile, readFile}

@@ -9,3 +9,4 @@ pub mod Rules
 pub mod Range
 pub mod NoDefault
 pub mod ByBytes
+pub mod Reading

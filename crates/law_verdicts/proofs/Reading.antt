@@ -25,7 +25,7 @@ use Rattle.rule_types.specs.Comparison.{inForm, inForms, byStruct, byIdentical,
 use Rattle.ir.specs.Scalars.{equalScalars}
 use Rattle.rule_rows.specs.declared.Pass.{Pass}
 use Rattle.rule_rows.specs.Typed.{typing}
-use Rattle.case_rows.specs.Reads.{unlessRefused, unlessNewer}
+use Rattle.law_rows.specs.Reads.{unlessRefused, unlessNewer}
 use Rattle.rule_compose.specs.Verdict.{comeTo, orPart, eachPart, counted, adds, addPart, vectorParts, columnIs, elementIs, memberIs, arrayParts, byForm, verdict}
 use Rattle.rule_compose.specs.Rows.{verdictRule}
 use Rattle.law_verdicts.specs.Reads.{Against, partOf, column, sameAs, memberAt, arrayLine, line, baseOf, withBase, eitherStruct, comparison}

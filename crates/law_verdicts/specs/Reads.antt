@@ -23,7 +23,7 @@ use Rattle.rule.specs.Rule.{Step, step, Readings, placed}
 use Rattle.rule_types.specs.Canonical.{ifPointer, canonical, equalTypes, identical}
 use Rattle.rule_rows.specs.Selectors.{ifScalar, ifVector}
 use Rattle.ir.specs.Scalars.{equalScalars}
-use Rattle.case_rows.specs.Reads.{unlessRefused, unlessNewer}
+use Rattle.law_rows.specs.Reads.{unlessRefused, unlessNewer}
 
 -- what a component is held against
 --   partOf k       to be the scalar k, or a vector of it: a part of a vector

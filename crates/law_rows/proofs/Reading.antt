@@ -29,7 +29,7 @@ use Rattle.rule_rows.specs.Steps.{operand, look, sameAs, byType, byBoth, throug
 use Rattle.rule_rows.specs.Images.{sampled, sampledFrom, sampledOf, imageSample, imageQuery}
 use Rattle.rule_rows.specs.Operators.{product, binary, wgslOf, binaryBy, relational}
 use Rattle.rule_rows.specs.Typed.{resolve, typed, typing}
-use Rattle.case_rows.specs.Reads.{reads, sampleReads, queryReads, binaryReads, binaryReadsBy, relationalReads, unlessRefused, unlessNewer, baseThing, classThing, stepTo, lineSteps, shownSteps, rowReading}
+use Rattle.law_rows.specs.Reads.{reads, sampleReads, queryReads, binaryReads, binaryReadsBy, relationalReads, unlessRefused, unlessNewer, baseThing, classThing, stepTo, lineSteps, shownSteps, rowReading}
 
 -- an operand's steps keep their places
 kept : (xs : List Step) → placed (λ p. p) xs ≡ xs
