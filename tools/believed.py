@@ -30,9 +30,9 @@ contract file_pointers::pointer_base
 contract file_sizes::type_size
 contract file_sizes::size_range
 contract text_encode::write_text
-contract text_limit::word_of
-contract text_limit::asked_by
-contract text_limit::counts::counts_of
+contract program_limit::word_of
+contract program_limit::asked_by
+contract program_limit::counts::counts_of
 contract explain_file::explain_text
 contract explain_file::sizes_text
 contract explain_file::ranges_text

@@ -8,9 +8,9 @@ use explain_file::MAX_EXPLAINED_BYTES;
 use explain_file::explain_text;
 use libc::STDIN_FILENO;
 use libc::STDOUT_FILENO;
-use program_limit::asked;
+use program_limit::Asked;
+use program_limit::arguments::asked;
 use rule_rows::Pass;
-use text_limit::Asked;
 
 fn explain_rows(limit: u32, pass: Pass) {
     let mut text = [0u8; MAX_TEXT_BYTES + 1];

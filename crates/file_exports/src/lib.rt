@@ -17,7 +17,7 @@ use ir::RowNumber;
 use rule_ranges::TypeRange;
 use rule_rows::Pass;
 use rule_sizes::TypeSize;
-use text_room::short_read;
+use text_decode::room::short_read;
 use type_sizes::table::measure_number;
 use type_sizes::table::range_frame;
 use type_sizes::table::range_number;

@@ -10,7 +10,7 @@ use rule_file::OptionUsize;
 use rule_ranges::TypeRange;
 use rule_sizes::TypeSize;
 use scan::Found;
-use text_room::short_read;
+use text_decode::room::short_read;
 use type_sizes::pending::faulty_span;
 use type_sizes::pending::pending_marks;
 use type_sizes::range_marked;

@@ -1,110 +1,139 @@
-// The words that a program is started with: a limit of frames in decimal, `wgsl` for the second pass, and counts.
+// The words that the programs take: a limit of frames in decimal digits, `wgsl` for the second pass, and two counts.
+pub mod arguments;
+pub mod counts;
+
 use answers::MAX_LIMIT;
-use libc::STDERR_FILENO;
-use text_limit::Asked;
-use text_limit::Word;
-use text_limit::asked_by;
-use text_limit::counts::CountWord;
-use text_limit::counts::counts_of;
-use text_limit::word_of;
+use text_decode::most;
+ghost use mathlib.Core.Path.{_≡_};
+ghost use mathlib.Core.Bool.{_&&_};
+ghost use Prim.Native.Nat.{_≤_};
+ghost use lib.Dec.{leb};
+ghost use Rattle.program_limit.specs.Word.{isWgsl, limitOf, wordOf, alone, besideLimit, besideWgsl, askedBy};
+ghost use Rattle.program_limit.specs.ForProofs.{nextTo};
 
-// Argument i, absent where there are fewer. The system hands over no argument longer than this buffer.
-fn word_at(i: usize) -> Word {
-    if os::arg_count() <= i {
-        return Word::Absent;
-    }
-    let mut word = [0u8; 131072];
-    let n = os::arg(i, &mut word);
-    if os::errno() != 0 {
-        return Word::Neither;
-    }
-    word_of(&word[..n])
+// What a word says: the limit that holds by a number, `wgsl`, or neither; or there is no word.
+pub enum Word {
+    Absent,
+    Limit(u32),
+    Wgsl,
+    Neither,
 }
 
-// What the arguments ask for: the limit that holds, which is 1,024 where none is handed in, and whether the second pass.
-// Other arguments, and more than two, are told on standard error, with what is taken.
-pub fn asked() -> Asked {
-    if os::arg_count() <= 3 {
-        let words = asked_by(word_at(1), word_at(2));
-        if let Asked::Within { limit, wgsl } = words {
-            return Asked::Within { limit, wgsl };
-        }
-    }
-    io::write_all(
-        STDERR_FILENO,
-        b"The arguments, in either order, are the limit of frames, a number in decimal (1 to 1024, any other counting as 1024), and wgsl for the second pass.\n",
-    );
-    Asked::NotTaken
-}
-
-// What the listing program is asked for: sizes, or ranges between counts, with the limit that holds; or its words are
-// not taken.
-pub enum Listing {
-    Sizes(u32),
-    Ranges(u32),
+// What a program is asked for: the limit that holds, and whether the second pass; or its words are not taken.
+pub enum Asked {
+    Within { limit: u32, wgsl: bool },
     NotTaken,
 }
 
-// Argument i as two counts.
-fn counts_at(i: usize) -> CountWord {
-    let mut word = [0u8; 131072];
-    let n = os::arg(i, &mut word);
-    if os::errno() != 0 {
-        return CountWord::Neither;
-    }
-    counts_of(&word[..n])
+pub fn is_digit(b: u8) -> bool
+    ensures { λ r. ⌜ r ≡ (leb 48 b && leb b 57) ⌝ }
+{
+    48 <= b && b <= 57
 }
 
-// The counts of override 0, 1 and so on, by the arguments from `first` on; false where one is no pair of counts, or
-// there are more than the tables hold.
-fn take_counts(first: usize, least: &mut [u32], greatest: &mut [u32]) -> bool {
-    let n = os::arg_count();
-    let mut i = first;
+// One digit more; a number over 1,024 stays, as it counts as 1,024 whatever follows.
+fn next(n: u32, digit: u8) -> u32
+    requires { ⌜ (n ≤ 10249) × (digit ≤ 9) ⌝ }
+    ensures { λ r. ⌜ r ≡ nextTo n digit ⌝ }
+{
+    if n <= MAX_LIMIT {
+        10 * n + digit as u32
+    } else {
+        n
+    }
+}
+
+// The limit that a word of decimal digits spells, of any length.
+fn limit_of(word: &[u8]) -> Word
+    ensures { λ r. ⌜ r ≡ limitOf (now (word .entry)) ⌝ }
+{
+    let mut n = 0;
     let mut k = 0;
-    while i < n {
-        if least.len() <= k {
-            return false;
+    while k < word.len() {
+        let b = word[k];
+        if is_digit(b) {
+            n = next(n, b - 48);
+            k += 1;
+        } else {
+            return Word::Neither;
         }
-        if greatest.len() <= k {
-            return false;
-        }
-        match counts_at(i) {
-            CountWord::Between {
-                least: low,
-                greatest: high,
-            } => {
-                least[k] = low;
-                greatest[k] = high;
-            }
-            CountWord::Neither => {
-                return false;
-            }
-        }
-        i += 1;
-        k += 1;
     }
-    true
+    if k == 0 {
+        return Word::Neither;
+    }
+    Word::Limit(most(n) as u32)
 }
 
-// What the words ask for: the limit, which is 1,024 where the first word is no number; then least and greatest count
-// of each override, as 3-8, into the tables, which stay where there are none. Other words are told on standard error,
-// with what is taken.
-pub fn asked_listing(least: &mut [u32], greatest: &mut [u32]) -> Listing {
-    let mut limit = MAX_LIMIT;
-    let mut first = 1;
-    if let Word::Limit(given) = word_at(1) {
-        limit = given;
-        first = 2;
+fn is_wgsl(word: &[u8]) -> bool
+    ensures { λ r. ⌜ r ≡ isWgsl (now (word .entry)) ⌝ }
+{
+    if word.len() != 4 {
+        return false;
     }
-    if os::arg_count() <= first {
-        return Listing::Sizes(limit);
+    (word[0] == 119) & ((word[1] == 103) & ((word[2] == 115) & (word[3] == 108)))
+}
+
+// What a word says.
+pub fn word_of(word: &[u8]) -> Word
+    ensures { λ r. ⌜ r ≡ wordOf (now (word .entry)) ⌝ }
+{
+    if is_wgsl(word) {
+        return Word::Wgsl;
     }
-    if take_counts(first, least, greatest) {
-        return Listing::Ranges(limit);
+    limit_of(word)
+}
+
+// What a second word asks for where the first is absent, is a limit, or is `wgsl`.
+fn alone(word: Word) -> Asked
+    ensures { λ r. ⌜ r ≡ alone word ⌝ }
+{
+    match word {
+        Word::Absent => Asked::Within {
+            limit: MAX_LIMIT,
+            wgsl: false,
+        },
+        Word::Limit(limit) => Asked::Within { limit, wgsl: false },
+        Word::Wgsl => Asked::Within {
+            limit: MAX_LIMIT,
+            wgsl: true,
+        },
+        Word::Neither => Asked::NotTaken,
     }
-    io::write_all(
-        STDERR_FILENO,
-        b"The arguments are the limit of frames, a number in decimal (1 to 1024, any other counting as 1024), which may be left out, and the least and greatest count of each override in order, as 3-8.\n",
-    );
-    Listing::NotTaken
+}
+
+fn beside_limit(limit: u32, word: Word) -> Asked
+    ensures { λ r. ⌜ r ≡ besideLimit limit word ⌝ }
+{
+    match word {
+        Word::Absent => Asked::Within { limit, wgsl: false },
+        Word::Limit(_) => Asked::NotTaken,
+        Word::Wgsl => Asked::Within { limit, wgsl: true },
+        Word::Neither => Asked::NotTaken,
+    }
+}
+
+fn beside_wgsl(word: Word) -> Asked
+    ensures { λ r. ⌜ r ≡ besideWgsl word ⌝ }
+{
+    match word {
+        Word::Absent => Asked::Within {
+            limit: MAX_LIMIT,
+            wgsl: true,
+        },
+        Word::Limit(limit) => Asked::Within { limit, wgsl: true },
+        Word::Wgsl => Asked::NotTaken,
+        Word::Neither => Asked::NotTaken,
+    }
+}
+
+// What two words ask for, in either order, each at most once.
+pub fn asked_by(first: Word, second: Word) -> Asked
+    ensures { λ r. ⌜ r ≡ askedBy first second ⌝ }
+{
+    match first {
+        Word::Absent => alone(second),
+        Word::Limit(limit) => beside_limit(limit, second),
+        Word::Wgsl => beside_wgsl(second),
+        Word::Neither => Asked::NotTaken,
+    }
 }

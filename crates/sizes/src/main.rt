@@ -11,8 +11,8 @@ use explain_file::ranges_text;
 use explain_file::sizes_text;
 use libc::STDIN_FILENO;
 use libc::STDOUT_FILENO;
-use program_limit::Listing;
-use program_limit::asked_listing;
+use program_limit::arguments::Listing;
+use program_limit::arguments::asked_listing;
 
 fn list_sizes(text: &[u8], limit: u32) {
     let mut lines = [0u8; MAX_SIZED_BYTES];

@@ -1,4 +1,6 @@
 // Reading a text: numbers 1 to 3 (document 01, "Numbers handed back"), or its frames.
+pub mod room;
+
 use answers::MAX_FRAMES;
 use answers::Outcome;
 use frames::frame_at;

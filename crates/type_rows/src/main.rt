@@ -8,9 +8,9 @@ use answers::Printed;
 use file_lines::type_text;
 use libc::STDIN_FILENO;
 use libc::STDOUT_FILENO;
-use program_limit::asked;
+use program_limit::Asked;
+use program_limit::arguments::asked;
 use rule_rows::Pass;
-use text_limit::Asked;
 
 fn print_types(limit: u32, pass: Pass) {
     let mut text = [0u8; MAX_TEXT_BYTES + 1];
