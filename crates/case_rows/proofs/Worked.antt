@@ -16,7 +16,7 @@ use Rattle.archive.specs.Checks.{indexOk, checkFrames}
 use Rattle.rule.specs.Answers.{Result, Typed, newer, rowFrame}
 use Rattle.archive.specs.Access.{typeIn, rowIn}
 use Rattle.rule.specs.Things.{listed, see}
-use Rattle.rule.specs.Claim.{answers}
+use Rattle.rule.specs.InOrder.{answers}
 use Rattle.rule_rows.specs.declared.Pass.the-variants as Pa
 use Rattle.rule_rows.specs.Typed.{typing}
 use Rattle.case_rows.specs.Lines.{Case, fileOf, wanted}

@@ -25,7 +25,7 @@ use Rattle.rule.specs.Answers.{TypeAnswer, number, value, malformed, typeAnswer
 use Rattle.rule.specs.Answers.{Result, told, newer, Compared, alike, unlike, field, index}
 use Rattle.rule.specs.Things.{Form, kind, form, texels, structNumber, fault, inRange, faultOf, seeForm, see}
 use Rattle.rule.specs.Rule.{Step, step, met}
-use Rattle.rule.specs.Claim.{reading}
+use Rattle.rule.specs.InOrder.{reading}
 use Rattle.rule.proofs.Later.{claim}
 use Rattle.rule_types.specs.Comparison.{handed, given, samenessOf, sameIn, sameType}
 use Rattle.rule_types.specs.ForProofs.{likeness}

@@ -23,7 +23,7 @@ use Rattle.rule.specs.Answers.{TypeAnswer, Typed, given, refused, Place, Result
 use Rattle.rule.specs.Things.{Shown, kind, seeRow, see}
 use Rattle.rule.specs.Things as Row
 use Rattle.rule.specs.Rule.{Answers, run}
-use Rattle.rule.specs.Claim.{absent, among, answers}
+use Rattle.rule.specs.InOrder.{absent, among, answers}
 use Rattle.rule.proofs.InOrder.{in-order-at}
 use Rattle.rule_types.proofs.Seen.{never}
 use Rattle.rule_rows.specs.declared.Pass.{Pass}

@@ -22,7 +22,7 @@ use Rattle.archive.specs.Starts.{startsOf, rowCount}
 use Rattle.rule.specs.Answers.{number, value, malformed, Typed, given, refused, chosenRefusal, Judgement, Compared, alike, unlike, field, index, Place, row, component, composed, nowhere, chosen, Result, told, newer, typeAnswerOf, rowAnswerOf, chosenJudgement, rowFrame, verdictFrame}
 use Rattle.rule.specs.Things.{Sight, see}
 use Rattle.rule.specs.Rule.{Rule, Step, met}
-use Rattle.rule.specs.Claim.{ours, reading}
+use Rattle.rule.specs.InOrder.{ours, reading}
 use Rattle.rule.specs.ForProofs.{Right}
 use Rattle.rule.proofs.Later.{claim}
 use Rattle.rule_types.specs.Comparison.{handed, sameIn, sameType}

@@ -22,7 +22,7 @@ use Rattle.archive.specs.Starts.{startsOf, rowCount}
 use Rattle.rule.specs.Answers.{Typed, Judgement, Compared, Place, Result, newer, rowFrame, verdictFrame, typeAnswerOf, rowAnswerOf, chosenJudgement}
 use Rattle.rule.specs.Things.{see}
 use Rattle.rule.specs.Rule.{Rule, met}
-use Rattle.rule.specs.Claim.{later, reading}
+use Rattle.rule.specs.InOrder.{later, reading}
 use Rattle.rule_types.specs.Comparison.{handed, samenessOf}
 use Rattle.rule_rows.specs.declared.Pass.{Pass}
 use Rattle.rule_rows.specs.Typed.{typing}

@@ -29,7 +29,7 @@ use Rattle.archive.specs.Access.{rowIn}
 use Rattle.rule.specs.Answers.{Typed, Judgement, Place, Result, told, row, rowFrame}
 use Rattle.rule.specs.Things.{Shown, Thing, Seen, kind, form, texels, structNumber, fault, Sight, seeRow, see}
 use Rattle.rule.specs.Rule.{Rule, done, come, past, Step, step, Reading, Readings, follow, placed, after, stop}
-use Rattle.rule.specs.Claim.{absent, amongReadings, readings, ours, reading}
+use Rattle.rule.specs.InOrder.{absent, amongReadings, readings, ours, reading}
 use Rattle.rule.specs.ForProofs.{outcomeOf}
 use Rattle.rule.proofs.Later.{determined}
 use Rattle.rule_rows.specs.declared.Pass.{Pass}

@@ -17,7 +17,7 @@ use Rattle.rule.specs.Answers.{value, Typed, given, refused, Result, told, newe
 use Rattle.rule.specs.Things.{Shown, kind, see}
 use Rattle.rule.specs.Things as Row
 use Rattle.rule.specs.Rule.{run}
-use Rattle.rule.specs.Claim.{absent, among, answers}
+use Rattle.rule.specs.InOrder.{absent, among, answers}
 use Rattle.rule.proofs.InOrder.{in-order-at}
 use Rattle.rule_types.proofs.Seen.{never}
 use Rattle.rule_rows.specs.declared.Pass.the-variants as Pa

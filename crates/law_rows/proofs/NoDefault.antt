@@ -21,7 +21,7 @@ use Rattle.rule.specs.Answers.{Typed, Result, told, newer}
 use Rattle.rule.specs.Things as Row
 use Rattle.rule.specs.Things.{Shown, Seen, kind, see}
 use Rattle.rule.specs.Rule.{Rule, come, past, Step, step, Reading, Readings, run, follow, placed}
-use Rattle.rule.specs.Claim.{absent, among, amongReadings, answers, readings, reading}
+use Rattle.rule.specs.InOrder.{absent, among, amongReadings, answers, readings, reading}
 use Rattle.law_rows.specs.Reads.{reads, sampleReads, queryReads, binaryReads, binaryReadsBy, relationalReads}
 use Rattle.rule_rows.specs.declared.Pass.{Pass}
 use Rattle.rule_rows.specs.declared.Pass.the-variants as Pa

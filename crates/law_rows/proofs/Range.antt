@@ -14,7 +14,7 @@ use Rattle.archive.specs.Names.{isRow}
 use Rattle.rule.specs.Answers.{Typed, Place, row, component, composed, nowhere, chosen, Result, told, newer}
 use Rattle.rule.specs.Things.{Seen, see}
 use Rattle.rule.specs.Rule.{Rule, come, past, Answers, run}
-use Rattle.rule.specs.Claim.{absent, among, answers, ours}
+use Rattle.rule.specs.InOrder.{absent, among, answers, ours}
 use Rattle.rule_rows.specs.declared.Pass.{Pass}
 use Rattle.rule_rows.specs.Typed.{typing}
 use Rattle.law_rows.proofs.Good.{Good}

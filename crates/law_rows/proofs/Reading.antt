@@ -20,7 +20,7 @@ use Rattle.rule.specs.Answers.{TypeAnswer, number, value, Typed, given, refused
 use Rattle.rule.specs.Things.{Shown, Form, Thing, Seen, Sight, kind, form, texels, see}
 use Rattle.rule.specs.Things as Row
 use Rattle.rule.specs.Rule.{Rule, done, come, Step, step, Readings, follow, placed}
-use Rattle.rule.specs.Claim.{reading, readings, amongReadings}
+use Rattle.rule.specs.InOrder.{reading, readings, amongReadings}
 use Rattle.rule_types.specs.Canonical.{ifPointer}
 use Rattle.rule_rows.specs.declared.Pass.{Pass}
 use Rattle.rule_rows.specs.declared.Pass.the-variants as Pa

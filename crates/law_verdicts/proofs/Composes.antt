@@ -15,7 +15,7 @@ use Rattle.archive.specs.Access.{rowIn}
 use Rattle.rule.specs.Answers.{Judgement, Result}
 use Rattle.rule.specs.Things.{compose, kind, listed, shown, see, seeRow}
 use Rattle.rule.specs.Rule.{Rule}
-use Rattle.rule.specs.Claim.{ours}
+use Rattle.rule.specs.InOrder.{ours}
 use Rattle.rule_types.proofs.Seen.{never}
 use Rattle.rule_rows.specs.declared.Pass.{Pass}
 use Rattle.rule_rows.specs.Typed.{typing}

@@ -16,7 +16,7 @@ use Rattle.archive.specs.Starts.{startsOf, rowCount}
 use Rattle.rule.specs.Answers.{number, value, malformed, Typed, given, refused, chosenRefusal, row, component, composed, nowhere, chosen, Judgement, Result, told, newer, rowFrame}
 use Rattle.rule.specs.Things.{see}
 use Rattle.rule.specs.Rule.{Rule}
-use Rattle.rule.specs.Claim.{ours}
+use Rattle.rule.specs.InOrder.{ours}
 use Rattle.rule_types.proofs.Seen.{never}
 use Rattle.rule_rows.specs.declared.Pass.{Pass}
 use Rattle.rule_rows.specs.Typed.{typing}

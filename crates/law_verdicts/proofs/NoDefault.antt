@@ -27,7 +27,7 @@ use Rattle.rule.specs.declared.Fault.the-variants as Fa
 use Rattle.rule.specs.Answers.{TypeAnswer, number, Typed, given, refused, chosenRefusal, Place, row, component, composed, nowhere, chosen, Judgement, count, Compared, Result, told, newer}
 use Rattle.rule.specs.Things.{compose, Form, Thing, Seen, kind, form, texels, structNumber, fault, inRange, see}
 use Rattle.rule.specs.Rule.{Rule, done, come, past, Answers, run, Step, step, Readings, placed, follow}
-use Rattle.rule.specs.Claim.{answers, amongReadings, readings, ours, reading}
+use Rattle.rule.specs.InOrder.{answers, amongReadings, readings, ours, reading}
 use Rattle.rule.proofs.InOrder.{at-within}
 use Rattle.rule_types.specs.Canonical.{canonical, equalTypes, identical}
 use Rattle.rule_types.specs.Comparison.{inForm, byStruct, byIdentical, compare, answered, Sound, tested, rightTested, handed}

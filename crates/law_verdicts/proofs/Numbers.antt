@@ -27,7 +27,7 @@ use Rattle.archive.specs.Access.{rowIn}
 use Rattle.rule.specs.Answers.{TypeAnswer, number, Typed, given, refused, chosenRefusal, Place, component, composed, Judgement, passes, count, Result, told, newer}
 use Rattle.rule.specs.Things.{Thing, Seen, Sight, form, structNumber, listed, see}
 use Rattle.rule.specs.Rule.{Rule, done, come, past, Answers, run}
-use Rattle.rule.specs.Claim.{ours, among, answers}
+use Rattle.rule.specs.InOrder.{ours, among, answers}
 use Rattle.rule.proofs.Named.{listed-length}
 use Rattle.rule_types.specs.Canonical.{canonical, equalTypes, identical}
 use Rattle.rule_types.specs.Comparison.{inForm, byStruct, byIdentical, compare}

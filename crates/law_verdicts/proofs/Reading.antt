@@ -19,7 +19,7 @@ use Rattle.ir.specs.declared.TypeInner.the-variants as Ti
 use Rattle.rule.specs.Answers.{TypeAnswer, number, Typed, given, refused, chosenRefusal, Place, component, composed, Judgement, count}
 use Rattle.rule.specs.Things.{Form, Thing, Seen, Sight, form, structNumber, see}
 use Rattle.rule.specs.Rule.{Rule, done, come, Step, step, Readings, placed, follow}
-use Rattle.rule.specs.Claim.{reading, readings, amongReadings}
+use Rattle.rule.specs.InOrder.{reading, readings, amongReadings}
 use Rattle.rule_types.specs.Canonical.{ifPointer, canonical, equalTypes, identical}
 use Rattle.rule_types.specs.Comparison.{inForm, inForms, byStruct, byIdentical, compare}
 use Rattle.ir.specs.Scalars.{equalScalars}

@@ -9,7 +9,7 @@ use mathlib.Core.Option.{Option, none, some}
 use Rattle.rule.specs.Answers.{Typed, Place, Result, told, newer}
 use Rattle.rule.specs.Things.{Thing, Seen, Sight}
 use Rattle.rule.specs.Rule.{Rule, run, met}
-use Rattle.rule.specs.Claim.{inOrder, among, answers, ours, reading}
+use Rattle.rule.specs.InOrder.{inOrder, among, answers, ours, reading}
 use Rattle.rule.proofs.Later.{claim}
 use Rattle.rule.proofs.Wider.{carried}
 

@@ -7,7 +7,7 @@ use mathlib.Core.Path.{_≡_, refl, sym, ap, _∙_}
 use mathlib.Core.List.{List, [], _∷_, _++_}
 use lib.ListN.{length, getD, length-append, List·getD-append}
 use lib.Seq.{getD-append-seam}
-use Rattle.rule.specs.Claim.{inOrder}
+use Rattle.rule.specs.InOrder.{inOrder}
 
 -- the first n
 pub in-order-length : {B : Type 0} (next : List B → ℕ → B) (n : ℕ) → length (inOrder next n) ≡ n

@@ -10,7 +10,7 @@ use Rattle.ir.specs.declared.RowNumber.{RowNumber}
 use Rattle.rule.specs.Answers.{Typed, Place, Result, told, newer}
 use Rattle.rule.specs.Things.{Thing, Seen, Sight}
 use Rattle.rule.specs.Rule.{Rule, done, come, past, Answers, Step, step, Reading, Readings, run, follow, met, placed, after, stop}
-use Rattle.rule.specs.Claim.{inOrder, absent, among, amongReadings, answers, readings, ours, later, reading}
+use Rattle.rule.specs.InOrder.{inOrder, absent, among, amongReadings, answers, readings, ours, later, reading}
 use Rattle.rule.specs.ForProofs.{Right, outcomeOf}
 
 module _ (sight : Sight) where

@@ -8,7 +8,7 @@ use Rattle.ir.specs.declared.RowNumber.{RowNumber}
 use Rattle.rule.specs.Answers.{Typed, Place, Result, told, newer}
 use Rattle.rule.specs.Things.{Thing, Seen, Sight}
 use Rattle.rule.specs.Rule.{Rule, done, come, past, run}
-use Rattle.rule.specs.Claim.{absent, among, answers, later}
+use Rattle.rule.specs.InOrder.{absent, among, answers, later}
 use Rattle.rule.proofs.InOrder.{in-order-at}
 
 -- with a row's answer, or where that is newer

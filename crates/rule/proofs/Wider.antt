@@ -8,7 +8,7 @@ use Rattle.ir.specs.declared.RowNumber.{RowNumber}
 use Rattle.rule.specs.Answers.{Typed, Place, Result, told, newer}
 use Rattle.rule.specs.Things.{Thing, Seen, Sight}
 use Rattle.rule.specs.Rule.{Rule, done, come, past, Answers, run, met}
-use Rattle.rule.specs.Claim.{among, answers, ours, later, reading}
+use Rattle.rule.specs.InOrder.{among, answers, ours, later, reading}
 use Rattle.rule.proofs.Later.{claim}
 
 module _ (less more : Sight) (wider : (c : Thing) (s : Seen c) → less c ≡ some s → more c ≡ some s) where

@@ -1,5 +1,5 @@
 pub mod Answers
 pub mod Things
 pub mod Rule
-pub mod Claim
+pub mod InOrder
 pub mod ForProofs

@@ -13,7 +13,7 @@ use Rattle.archive.specs.Starts.{startsOf, rowCount}
 use Rattle.rule.specs.Answers.{TypeAnswer, number, value, malformed, Typed, given, refused, chosenRefusal, Place, row, component, composed, nowhere, chosen, Result, told, newer, rowFrame}
 use Rattle.rule.specs.Things.{see}
 use Rattle.rule.specs.Rule.{Rule, run}
-use Rattle.rule.specs.Claim.{among, answers, ours}
+use Rattle.rule.specs.InOrder.{among, answers, ours}
 use Rattle.rule_rows.specs.declared.Pass.{Pass}
 use Rattle.rule_rows.specs.Typed.{typing}
 use Rattle.rule_rows.proofs.Written.{answer-framed}

@@ -16,7 +16,7 @@ use Rattle.frames.specs.Out.{answerFrame}
 use Rattle.frames.specs.ForProofs.{answerOf}
 use Rattle.frames.proofs.ReadBack.{answer-back}
 use Rattle.rule.specs.Answers.{Typed, Result, told}
-use Rattle.rule.specs.Claim.{absent, among}
+use Rattle.rule.specs.InOrder.{absent, among}
 use Rattle.rule_rows.specs.Answered.{toResult}
 use Rattle.rule_rows.specs.OverBuffer.{answerIn, pastIn}
 use Rattle.rule_answers.specs.Outputs.{framesBytes}

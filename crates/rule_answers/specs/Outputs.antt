@@ -7,7 +7,7 @@ use Rattle.frames.specs.Bytes.{bytesOf}
 use Rattle.archive.specs.Starts.{startsOf, rowCount}
 use Rattle.rule.specs.Answers.{Typed, Judgement, Result, rowFrame, verdictFrame}
 use Rattle.rule.specs.Things.{Sight, see}
-use Rattle.rule.specs.Claim.{ours}
+use Rattle.rule.specs.InOrder.{ours}
 use Rattle.rule_rows.specs.declared.Pass.{Pass}
 use Rattle.rule_rows.specs.Typed.{typing}
 use Rattle.rule_compose.specs.Rows.{verdictOf}

@@ -7,7 +7,7 @@ use Rattle.rule.specs.Answers.{Judgement, Result, newer}
 use Rattle.rule.specs.Things.{Shown, Sight, kind}
 use Rattle.rule.specs.Things as Row
 use Rattle.rule.specs.Rule.{Rule}
-use Rattle.rule.specs.Claim.{ours}
+use Rattle.rule.specs.InOrder.{ours}
 use Rattle.rule_rows.specs.declared.Pass.{Pass}
 use Rattle.rule_rows.specs.Typed.{typing}
 use Rattle.rule_compose.specs.Verdict.{verdict}

@@ -23,7 +23,7 @@ use Rattle.archive.specs.Names.{isRow}
 use Rattle.rule.specs.Answers.{Judgement, Typed, Result, told, newer}
 use Rattle.rule.specs.Things.{Sight, seeIn, see}
 use Rattle.rule.specs.Rule.{Rule, run}
-use Rattle.rule.specs.Claim.{inOrder, absent, among, answers, ours}
+use Rattle.rule.specs.InOrder.{inOrder, absent, among, answers, ours}
 use Rattle.rule_rows.specs.declared.Pass.{Pass}
 use Rattle.rule_rows.specs.Typed.{typing}
 use Rattle.rule_rows.specs.Answered.{toResult}

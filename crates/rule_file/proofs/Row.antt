@@ -32,7 +32,7 @@ use Rattle.archive.proofs.Ranks.{begins}
 use Rattle.rule.specs.Answers.{Typed, Judgement, Result, newer, rowFrame, verdictFrame}
 use Rattle.rule.specs.Things.{Sight, seeRow, seeIn, see}
 use Rattle.rule.specs.Rule.{Rule, run}
-use Rattle.rule.specs.Claim.{ours}
+use Rattle.rule.specs.InOrder.{ours}
 use Rattle.rule_rows.specs.declared.Pass.{Pass}
 use Rattle.rule_rows.specs.Typed.{typed, typing}
 use Rattle.rule_rows.specs.OverBuffer.{pastIn, ruled}

@@ -13,7 +13,7 @@ use Rattle.ir.specs.declared.ItemNumber.{ItemNumber}
 use Rattle.archive.specs.declared.Starts.{Starts}
 use Rattle.archive.specs.Starts.{typeCount}
 use Rattle.archive.specs.Access.{typeIn}
-use Rattle.rule.specs.Claim.{inOrder}
+use Rattle.rule.specs.InOrder.{inOrder}
 use Rattle.rule.proofs.InOrder.{in-order-length, in-order-at}
 use Rattle.rule_sizes.specs.declared.SizeFault.the-variants.{Unmeasured}
 use Rattle.rule_sizes.specs.declared.Measure.the-variants.{Faulty}

@@ -16,7 +16,7 @@ use Rattle.ir.specs.declared.TypeForm.{TypeForm}
 use Rattle.ir.specs.declared.TypeForm.the-variants as Tf
 use Rattle.archive.specs.declared.Starts.{Starts}
 use Rattle.archive.specs.Access.{typeIn}
-use Rattle.rule.specs.Claim.{inOrder}
+use Rattle.rule.specs.InOrder.{inOrder}
 use Rattle.rule_sizes.specs.declared.Alignment.the-variants.{Two}
 use Rattle.rule_sizes.specs.declared.SizeFault.the-variants.{Unmeasured, Huge}
 use Rattle.rule_sizes.specs.declared.Measure.{Measure}

@@ -18,7 +18,7 @@ use Rattle.rule.specs.Answers.{TypeAnswer, value, Typed, given, Place, row, Res
 use Rattle.rule.specs.Things.{Shown, Form, kind, form, see, firstSee}
 use Rattle.rule.specs.Things as Row
 use Rattle.rule.specs.Rule.{Answers, run}
-use Rattle.rule.specs.Claim.{answers, ours}
+use Rattle.rule.specs.InOrder.{answers, ours}
 use Rattle.rule.proofs.Shows.{sees-more}
 use Rattle.rule.proofs.Carried.{carriedRows, carried-fresh}
 use Rattle.rule_rows.specs.declared.Pass.{Pass}

@@ -17,7 +17,7 @@ use Rattle.rule.specs.Things.{seeIn}
 use Rattle.rule.specs.Rule.{Rule, Answers, run}
 use Rattle.rule_rows.specs.Answered.{toResult}
 
--- row n's answer, at the frame that the table of places has for it; a row that is not typed yet is a fixed refusal, `absent` (rule/specs/Claim.antt)
+-- row n's answer, at the frame that the table of places has for it; a row that is not typed yet is a fixed refusal, `absent` (rule/specs/InOrder.antt)
 unfoldable pub answerIn : List ℕ → List ℕ → RowNumber → Answer
 answerIn answers places n = cond (ltb (n .0) (length places)) (answerOf (frameAt answers (getD places (n .0) 0))) (An.Refused MissingSpecialType)
 

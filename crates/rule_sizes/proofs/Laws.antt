@@ -13,7 +13,7 @@ use Rattle.frames.specs.Bytes.{frameCount, frameAt, putFrame}
 use Rattle.frames.proofs.Put.{put-same, put-other}
 use Rattle.frames.proofs.ReadBack.{half-back, word-back}
 use Rattle.archive.specs.declared.Starts.{Starts}
-use Rattle.rule.specs.Claim.{inOrder}
+use Rattle.rule.specs.InOrder.{inOrder}
 use Rattle.rule.proofs.InOrder.{in-order-length, in-order-at}
 use Rattle.rule_sizes.specs.declared.Alignment.the-variants.{Two, Four, Eight, Sixteen}
 use Rattle.rule_sizes.specs.declared.SizeFault.the-variants.{Unmeasured, Misplaced, Huge}

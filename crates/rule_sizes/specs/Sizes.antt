@@ -24,7 +24,7 @@ use Rattle.frames.specs.Forms.{memberOf}
 use Rattle.archive.specs.declared.Starts.{Starts}
 use Rattle.archive.specs.Names.{isType}
 use Rattle.archive.specs.Access.{typeIn}
-use Rattle.rule.specs.Claim.{inOrder}
+use Rattle.rule.specs.InOrder.{inOrder}
 use Rattle.rule_sizes.specs.declared.Alignment.the-variants.{Two}
 use Rattle.rule_sizes.specs.declared.OptionAlignment.{OptionAlignment}
 use Rattle.rule_sizes.specs.declared.OptionAlignment.the-variants as Oa

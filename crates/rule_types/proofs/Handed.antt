@@ -15,7 +15,7 @@ use Rattle.rule.specs.declared.Fault.the-variants as Fa
 use Rattle.rule.specs.Answers.{TypeAnswer, number, value, malformed, resolved, nowhere, Result, told, newer, field, index}
 use Rattle.rule.specs.Things.{faultOf}
 use Rattle.rule.specs.Rule.{done, run}
-use Rattle.rule.specs.Claim.{among}
+use Rattle.rule.specs.InOrder.{among}
 use Rattle.rule.specs.ForProofs.{resolution}
 use Rattle.rule_types.specs.Canonical.{alikeBytes, identical}
 use Rattle.rule_types.specs.Comparison.{compare, answered, rightTested, handed, given, samenessOf}

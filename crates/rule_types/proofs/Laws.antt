@@ -27,7 +27,7 @@ use Rattle.rule.specs.declared.Fault.the-variants as Fa
 use Rattle.rule.specs.Answers.{TypeAnswer, number, value, malformed, typeAnswerFrame, Place, nowhere, Result, told, newer, Compared, alike, unlike, field, index}
 use Rattle.rule.specs.Things.{form, faultOf, formIn, seeIn, isStructForm, isStruct}
 use Rattle.rule.specs.Rule.{Rule, come, Answers, run}
-use Rattle.rule.specs.Claim.{among}
+use Rattle.rule.specs.InOrder.{among}
 use Rattle.rule_types.specs.Canonical.{valuePointer, orOwn, canonical, formFound, throughBase, canonicalFormIn, equalTypes, identical}
 use Rattle.rule_types.specs.Comparison.{inForm, inForms, byStruct, byIdentical, compare, answered, Sound, handed, given}
 use Rattle.rule_types.specs.ForProofs.{orSelf, canonicalThrough, canonicalOf, byForms, byAnswers, likeness, Equal}

@@ -14,7 +14,7 @@ use Rattle.rule.specs.declared.Fault.the-variants as Fa
 use Rattle.rule.specs.Answers.{TypeAnswer, number, value, malformed, typeAnswerOf, Place, nowhere, Result, told, newer, Compared, alike, unlike, field, index}
 use Rattle.rule.specs.Things.{form, structNumber, fault, faultOf, seeIn}
 use Rattle.rule.specs.Rule.{Rule, done, come, run}
-use Rattle.rule.specs.Claim.{among}
+use Rattle.rule.specs.InOrder.{among}
 use Rattle.rule_types.specs.Canonical.{ifPointer, canonical, equalTypes, identical}
 
 -- the canonical form of a type that was looked into: of a pointer the base is looked into too, and nothing deeper
