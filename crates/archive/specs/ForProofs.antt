@@ -1,25 +1,19 @@
--- Not part of any public statement: for proofs and code only. Members, items and components by where they begin, a file's rows, and where the parts of a
+-- Not part of any public statement: for proofs and code only. Items and components by where they begin, a file's rows, and where the parts of a
 -- frame end.
 use Prim.Native.Nat.{ℕ, _+_}
 use mathlib.Core.List.{List}
-use Rattle.ir.specs.declared.MemberNumber.{MemberNumber}
 use Rattle.ir.specs.declared.ItemNumber.{ItemNumber}
 use Rattle.ir.specs.declared.RowNumber.{RowNumber}
 use Rattle.ir.specs.declared.ComponentNumber.{ComponentNumber}
-use Rattle.ir.specs.declared.StructMember.{StructMember}
 use Rattle.ir.specs.declared.Item.{Item}
 use Rattle.ir.specs.declared.RowForm.{RowForm}
 use Rattle.frames.specs.Bytes.{frameAt}
-use Rattle.frames.specs.Forms.{memberOf, itemOf, componentOf}
+use Rattle.frames.specs.Forms.{itemOf, componentOf}
 use Rattle.archive.specs.declared.Starts.{Starts}
 use Rattle.archive.specs.declared.Held.{Held}
 use Rattle.archive.specs.declared.Held.the-variants as He
 use Rattle.archive.specs.Starts.{startsOf}
 use Rattle.archive.specs.Access.{rowIn}
-
--- member i of the struct whose members begin at member `first`
-abbrev pub memberIn : List ℕ → Starts → MemberNumber → ℕ → StructMember
-memberIn fr s first i = memberOf (frameAt fr (s .members + first .0 + i))
 
 -- item n of those whose frames begin at `first`
 abbrev pub itemIn : List ℕ → ℕ → ItemNumber → Item

@@ -25,8 +25,8 @@ ghost use Rattle.frames.specs.Bytes.{frameCount, frameAt};
 ghost use Rattle.archive.specs.Order.{rankAt};
 ghost use Rattle.archive.specs.Starts.{start, startsOf, rowCount};
 ghost use Rattle.archive.specs.Names.{isType, isRow, sizeNames};
-ghost use Rattle.archive.specs.Access.{typeIn, rowIn};
-ghost use Rattle.archive.specs.ForProofs.{memberIn, itemIn, componentIn};
+ghost use Rattle.archive.specs.Access.{typeIn, rowIn, memberIn};
+ghost use Rattle.archive.specs.ForProofs.{itemIn, componentIn};
 
 // The lowest frame of this rank or a higher one; every frame before `from` is lower.
 fn skip(frames: &[u8], from: usize, rank: usize) -> usize

@@ -2,7 +2,7 @@
 -- (`plainResult`, rule_rows/specs/Wgsl.antt), in three parts: whether an operator takes them, and the components and the
 -- scalar of the result.
 use mathlib.Core.Path.{_≡_}
-use mathlib.Core.Bool.{Bool, _&&_, _||_}
+use mathlib.Core.Bool.{Bool}
 use mathlib.Core.List.{List}
 use mathlib.Core.Option.{none}
 use Prim.Native.Nat.{ℕ}
@@ -13,39 +13,11 @@ use Rattle.ir.specs.declared.Scalar.{Scalar}
 use Rattle.ir.specs.declared.BinaryOperator.{BinaryOperator}
 use Rattle.ir.specs.declared.BinaryOperator.the-variants as Bo
 use Rattle.ir.specs.declared.TypeInner.{TypeInner}
-use Rattle.ir.specs.Scalars.{U32, BOOL, equalScalars}
+use Rattle.ir.specs.Scalars.{BOOL}
 use Rattle.archive.specs.declared.Starts.{Starts}
-use Rattle.rule_rows.specs.Wgsl.{shapeOf, isInteger, isNumeric, equalCounts, likeOrMixed, mixed, shapesResult}
+use Rattle.rule_rows.specs.Wgsl.{shapeOf, mixed, arithmeticTest, equalityTest, orderingTest, andOrTest, xorTest, shiftTest, logicalsTest, shapesResult}
 use Rattle.row_operands.specs.declared.Looked.the-variants as Lo
 use Rattle.row_operands.specs.Past.{lookedIn}
-
--- Add, Subtract, Multiply, Divide, Modulo
-abbrev arithmeticTest : OptionVectorSize → Scalar → OptionVectorSize → Scalar → Bool
-arithmeticTest n s m r = isNumeric (s .kind) && (equalScalars s r && likeOrMixed n m)
-
--- Equal, NotEqual
-abbrev equalityTest : OptionVectorSize → Scalar → OptionVectorSize → Scalar → Bool
-equalityTest n s m r = (isNumeric (s .kind) || equalScalars s BOOL) && (equalScalars s r && equalCounts n m)
-
--- Less, LessEqual, Greater, GreaterEqual
-abbrev orderingTest : OptionVectorSize → Scalar → OptionVectorSize → Scalar → Bool
-orderingTest n s m r = isNumeric (s .kind) && (equalScalars s r && equalCounts n m)
-
--- And, InclusiveOr
-abbrev andOrTest : OptionVectorSize → Scalar → OptionVectorSize → Scalar → Bool
-andOrTest n s m r = (isInteger (s .kind) || equalScalars s BOOL) && (equalScalars s r && equalCounts n m)
-
--- ExclusiveOr
-abbrev xorTest : OptionVectorSize → Scalar → OptionVectorSize → Scalar → Bool
-xorTest n s m r = isInteger (s .kind) && (equalScalars s r && equalCounts n m)
-
--- ShiftLeft, ShiftRight
-abbrev shiftTest : OptionVectorSize → Scalar → OptionVectorSize → Scalar → Bool
-shiftTest n s m r = isInteger (s .kind) && (equalScalars r U32 && equalCounts n m)
-
--- LogicalAnd, LogicalOr
-abbrev logicalsTest : OptionVectorSize → Scalar → OptionVectorSize → Scalar → Bool
-logicalsTest n s m r = (equalScalars s BOOL && equalScalars r BOOL) && (equalCounts n Ov.None && equalCounts m Ov.None)
 
 -- whether an operator takes two scalars or vectors
 abbrev pub testOf : BinaryOperator → OptionVectorSize → Scalar → OptionVectorSize → Scalar → Bool

@@ -15,7 +15,7 @@ use Rattle.ir.specs.declared.TypeInner.the-variants as Ti
 use Rattle.ir.specs.declared.TypeForm.{TypeForm}
 use Rattle.ir.specs.declared.TypeForm.the-variants as Tf
 use Rattle.archive.specs.declared.Starts.{Starts}
-use Rattle.archive.specs.Access.{typeIn}
+use Rattle.archive.specs.Access.{typeIn, memberIn}
 use Rattle.rule.specs.InOrder.{inOrder}
 use Rattle.rule_sizes.specs.declared.Alignment.the-variants.{Two}
 use Rattle.rule_sizes.specs.declared.SizeFault.the-variants.{Unmeasured, Huge}
@@ -24,7 +24,7 @@ use Rattle.rule_sizes.specs.declared.Measure.the-variants.{Fills, Faulty}
 use Rattle.rule_sizes.specs.declared.Parts.{Parts}
 use Rattle.rule_sizes.specs.declared.Parts.the-variants.{Laid, Broken}
 use Rattle.rule_sizes.specs.Wgsl.{roundUp}
-use Rattle.rule_sizes.specs.Sizes.{arrayOf, joined, memberIn, ofForm, look}
+use Rattle.rule_sizes.specs.Sizes.{arrayOf, joined, ofForm, look}
 use Rattle.rule_ranges.specs.Pending.{holdsPending}
 
 -- the count of each override

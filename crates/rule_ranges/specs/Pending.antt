@@ -13,9 +13,8 @@ use Rattle.ir.specs.declared.TypeInner.the-variants as Ti
 use Rattle.ir.specs.declared.TypeForm.{TypeForm}
 use Rattle.ir.specs.declared.TypeForm.the-variants as Tf
 use Rattle.archive.specs.declared.Starts.{Starts}
-use Rattle.archive.specs.Access.{typeIn}
+use Rattle.archive.specs.Access.{typeIn, memberIn}
 use Rattle.rule.specs.InOrder.{inOrder}
-use Rattle.rule_sizes.specs.Sizes.{memberIn}
 
 -- an array holds what its element holds; `past` is whether an earlier type is a pending array or holds one
 abbrev pub sizeHolds : (TypeNumber → Bool) → TypeNumber → ArraySize → Bool

@@ -7,7 +7,7 @@ use Rattle.ir.specs.declared.MemberNumber.{MemberNumber}
 use Rattle.ir.specs.declared.TypeInner.{TypeInner}
 use Rattle.answers.specs.declared.Refusal.the-variants.{InvalidImage}
 use Rattle.archive.specs.declared.Starts.{Starts}
-use Rattle.archive.specs.ForProofs.{memberIn}
+use Rattle.archive.specs.Access.{memberIn}
 use Rattle.rule.specs.Answers.{value, Typed, given, refused}
 use Rattle.rule.specs.Things.{listed}
 use Rattle.rule_rows.specs.Selectors.{ifImage}

@@ -76,38 +76,56 @@ abbrev pub when : Bool → TypeInner → Option TypeInner
 when true t = some t
 when false t = none
 
--- BY THE SIZES AND SCALARS of two scalars or vectors: n and s of the left, m and r of the right
+-- BY THE SIZES AND SCALARS of two scalars or vectors, n and s of the left, m and r of the right: whether they are taken, and what is given then
 
 -- Add, Subtract, Multiply, Divide, Modulo
+abbrev pub arithmeticTest : OptionVectorSize → Scalar → OptionVectorSize → Scalar → Bool
+arithmeticTest n s m r = isNumeric (s .kind) && (equalScalars s r && likeOrMixed n m)
+
 abbrev pub arithmeticOf : OptionVectorSize → Scalar → OptionVectorSize → Scalar → Option TypeInner
-arithmeticOf n s m r = when (isNumeric (s .kind) && (equalScalars s r && likeOrMixed n m)) (plain (mixed n m) s)
+arithmeticOf n s m r = when (arithmeticTest n s m r) (plain (mixed n m) s)
 
 -- Equal, NotEqual
+abbrev pub equalityTest : OptionVectorSize → Scalar → OptionVectorSize → Scalar → Bool
+equalityTest n s m r = (isNumeric (s .kind) || equalScalars s BOOL) && (equalScalars s r && equalCounts n m)
+
 abbrev pub equalityOf : OptionVectorSize → Scalar → OptionVectorSize → Scalar → Option TypeInner
-equalityOf n s m r =
-    when ((isNumeric (s .kind) || equalScalars s BOOL) && (equalScalars s r && equalCounts n m)) (plain n BOOL)
+equalityOf n s m r = when (equalityTest n s m r) (plain n BOOL)
 
 -- Less, LessEqual, Greater, GreaterEqual
+abbrev pub orderingTest : OptionVectorSize → Scalar → OptionVectorSize → Scalar → Bool
+orderingTest n s m r = isNumeric (s .kind) && (equalScalars s r && equalCounts n m)
+
 abbrev pub orderingOf : OptionVectorSize → Scalar → OptionVectorSize → Scalar → Option TypeInner
-orderingOf n s m r = when (isNumeric (s .kind) && (equalScalars s r && equalCounts n m)) (plain n BOOL)
+orderingOf n s m r = when (orderingTest n s m r) (plain n BOOL)
 
 -- And, InclusiveOr: of bits, and of bools
+abbrev pub andOrTest : OptionVectorSize → Scalar → OptionVectorSize → Scalar → Bool
+andOrTest n s m r = (isInteger (s .kind) || equalScalars s BOOL) && (equalScalars s r && equalCounts n m)
+
 abbrev pub andOrOf : OptionVectorSize → Scalar → OptionVectorSize → Scalar → Option TypeInner
-andOrOf n s m r =
-    when ((isInteger (s .kind) || equalScalars s BOOL) && (equalScalars s r && equalCounts n m)) (plain n s)
+andOrOf n s m r = when (andOrTest n s m r) (plain n s)
 
 -- ExclusiveOr: of bits alone
+abbrev pub xorTest : OptionVectorSize → Scalar → OptionVectorSize → Scalar → Bool
+xorTest n s m r = isInteger (s .kind) && (equalScalars s r && equalCounts n m)
+
 abbrev pub xorOf : OptionVectorSize → Scalar → OptionVectorSize → Scalar → Option TypeInner
-xorOf n s m r = when (isInteger (s .kind) && (equalScalars s r && equalCounts n m)) (plain n s)
+xorOf n s m r = when (xorTest n s m r) (plain n s)
 
 -- ShiftLeft, ShiftRight: the right is u32, whatever integer the left is
+abbrev pub shiftTest : OptionVectorSize → Scalar → OptionVectorSize → Scalar → Bool
+shiftTest n s m r = isInteger (s .kind) && (equalScalars r U32 && equalCounts n m)
+
 abbrev pub shiftOf : OptionVectorSize → Scalar → OptionVectorSize → Scalar → Option TypeInner
-shiftOf n s m r = when (isInteger (s .kind) && (equalScalars r U32 && equalCounts n m)) (plain n s)
+shiftOf n s m r = when (shiftTest n s m r) (plain n s)
 
 -- LogicalAnd, LogicalOr: of two bools, no vectors
+abbrev pub logicalsTest : OptionVectorSize → Scalar → OptionVectorSize → Scalar → Bool
+logicalsTest n s m r = (equalScalars s BOOL && equalScalars r BOOL) && (equalCounts n Ov.None && equalCounts m Ov.None)
+
 abbrev pub logicalsOf : OptionVectorSize → Scalar → OptionVectorSize → Scalar → Option TypeInner
-logicalsOf n s m r =
-    when ((equalScalars s BOOL && equalScalars r BOOL) && (equalCounts n Ov.None && equalCounts m Ov.None)) (plain Ov.None BOOL)
+logicalsOf n s m r = when (logicalsTest n s m r) (plain Ov.None BOOL)
 
 -- MATRICES: Float alone, of one kind and width on both sides
 

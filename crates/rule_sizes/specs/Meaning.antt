@@ -15,13 +15,12 @@ use Rattle.ir.specs.declared.TypeForm.{TypeForm}
 use Rattle.ir.specs.declared.TypeForm.the-variants as Tf
 use Rattle.ir.specs.Scalars.{I32, U32, F16, F32}
 use Rattle.archive.specs.Starts.{startsOf}
-use Rattle.archive.specs.Access.{typeAt}
+use Rattle.archive.specs.Access.{typeAt, memberIn}
 use Rattle.rule_sizes.specs.declared.Alignment.{Alignment}
 use Rattle.rule_sizes.specs.declared.Alignment.the-variants.{Two, Four}
 use Rattle.rule_sizes.specs.declared.SizeFault.{SizeFault}
 use Rattle.rule_sizes.specs.declared.SizeFault.the-variants.{Unmeasured, Misplaced, Huge}
 use Rattle.rule_sizes.specs.Wgsl.{bytes, isMultiple, vectorAlign, vectorBytes, matrixBytes}
-use Rattle.rule_sizes.specs.Sizes.{memberIn}
 
 -- THE LIST
 

@@ -8,7 +8,6 @@ use lib.Dec.{eqb, ltb, leb}
 use lib.ListN.{getD}
 use Rattle.ir.specs.declared.TypeNumber.{TypeNumber}
 use Rattle.ir.specs.declared.MemberNumber.{MemberNumber}
-use Rattle.ir.specs.declared.StructMember.{StructMember}
 use Rattle.ir.specs.declared.VectorSize.{VectorSize}
 use Rattle.ir.specs.declared.ArraySize.{ArraySize}
 use Rattle.ir.specs.declared.ArraySize.the-variants as As
@@ -18,12 +17,11 @@ use Rattle.ir.specs.declared.TypeForm.{TypeForm}
 use Rattle.ir.specs.declared.TypeForm.the-variants as Tf
 use Rattle.answers.specs.Numbers.{SaidOne, asked, instead, at, notThere, outcomeValues}
 use Rattle.frames.specs.declared.Frame.{Frame}
-use Rattle.frames.specs.Bytes.{bytesOf, frameAt}
+use Rattle.frames.specs.Bytes.{bytesOf}
 use Rattle.frames.specs.Out.{refusedFrame}
-use Rattle.frames.specs.Forms.{memberOf}
 use Rattle.archive.specs.declared.Starts.{Starts}
 use Rattle.archive.specs.Names.{isType}
-use Rattle.archive.specs.Access.{typeIn}
+use Rattle.archive.specs.Access.{typeIn, memberIn}
 use Rattle.rule.specs.InOrder.{inOrder}
 use Rattle.rule_sizes.specs.declared.Alignment.the-variants.{Two}
 use Rattle.rule_sizes.specs.declared.OptionAlignment.{OptionAlignment}
@@ -77,10 +75,6 @@ arrayOf n (Fills a z) count stride =
     (cond (ltb (count * stride) 4294967296) (Fills a (count * stride)) (Faulty Huge n)) (Faulty Misplaced n)
 
 -- A STRUCT, member by member
-
--- member i of the struct whose members begin at member `first`
-abbrev pub memberIn : List ℕ → Starts → MemberNumber → ℕ → StructMember
-memberIn fr s first i = memberOf (frameAt fr (s .members + first .0 + i))
 
 -- the fault of the lower type
 abbrev pub lower : SizeFault → TypeNumber → SizeFault → TypeNumber → Parts

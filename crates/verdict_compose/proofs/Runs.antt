@@ -28,8 +28,8 @@ use Rattle.answers.specs.declared.Answer.the-variants as An
 use Rattle.answers.specs.declared.Unresolved.{Unresolved}
 use Rattle.answers.specs.declared.Verdict.{Verdict}
 use Rattle.archive.specs.declared.Starts.{Starts}
-use Rattle.archive.specs.Access.{typeIn}
-use Rattle.archive.specs.ForProofs.{memberIn, componentIn}
+use Rattle.archive.specs.Access.{typeIn, memberIn}
+use Rattle.archive.specs.ForProofs.{componentIn}
 use Rattle.rule.proofs.Named.{listed-length, listed-at}
 use Rattle.rule.specs.Answers.{TypeAnswer, number, resolved, Judgement, passes, count, part, broken, component, composed, Result, told, newer}
 use Rattle.rule.specs.Things.{form, formIn, seeIn, memberTypes}

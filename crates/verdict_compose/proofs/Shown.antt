@@ -44,7 +44,7 @@ use Rattle.verdict_compose.specs.Decided.{partVerdict, answerVerdict}
 use Rattle.row_operands.specs.Plain.{typeFrameIn, typedFrame, plainOf}
 use Rattle.row_operands.specs.Plain as Pl
 use Rattle.row_operands.proofs.ByFrame.{type-frame, scalar-form, vector-form, matrix-form, cooperative-form}
-use Rattle.verdict_compose.specs.Shown.{isPlain, sameForm, samePointer, valueShown, typeShown}
+use Rattle.verdict_compose.specs.Shown.{isScalarToMatrix, sameForm, samePointer, valueShown, typeShown}
 
 -- the scalar in bytes 4 and 5
 abbrev scalarShown : Frame → Scalar
@@ -58,7 +58,7 @@ pub record Formed (x : TypeForm) : Type 0 where
   pub inner : TypeInner
   pub is : x ≡ Tf.Known inner
 
-pub plain-form : (f : Frame) → isPlain f ≡ true → Formed (typeOf f)
+pub plain-form : (f : Frame) → isScalarToMatrix f ≡ true → Formed (typeOf f)
 plain-form f h = go (eqb (byte f 1) 1) (eqb (byte f 1) 2) (eqb (byte f 1) 3) refl refl refl h
   where
     go : (x y z : Bool) → eqb (byte f 1) 1 ≡ x → eqb (byte f 1) 2 ≡ y → eqb (byte f 1) 3 ≡ z → (x || (y || z)) ≡ true → Formed (typeOf f)
@@ -190,7 +190,7 @@ module _ (fr : List ℕ) (s : Starts) where
     where
       go : (q : Bool)
           → (eqb (byte g 1) 6 && (eqb (byte f 2) (byte g 2) && (eqb (byte f 3) (byte g 3) && (eqb (byte f 6) (byte g 6) && eqb (byte f 7) (byte g 7))))) ≡ q
-          → cond q (isPlain (typeFrameIn fr s (record { 0 = half f 2 }))) false ≡ true → Valued n f
+          → cond q (isScalarToMatrix (typeFrameIn fr s (record { 0 = half f 2 }))) false ≡ true → Valued n f
       go true h1 plain =
           let b : TypeNumber = record { 0 = half f 2 } in
           let p = spaceOf (byte f 6) (byte f 7) in

@@ -13,13 +13,13 @@ use Rattle.verdict_compose.specs.declared.Part.the-variants as Pa
 use Rattle.verdict_compose.specs.Decided.{memberType}
 
 -- a frame is of a scalar, a vector or a matrix
-abbrev pub isPlain : Frame → Bool
-isPlain f = eqb (byte f 1) 1 || (eqb (byte f 1) 2 || eqb (byte f 1) 3)
+abbrev pub isScalarToMatrix : Frame → Bool
+isScalarToMatrix f = eqb (byte f 1) 1 || (eqb (byte f 1) 2 || eqb (byte f 1) 3)
 
 -- two frames are of the same scalar, vector or matrix: of the same kind, with the same bytes 2 to 5
 abbrev pub sameForm : Frame → Frame → Bool
 sameForm f g =
-    isPlain f
+    isScalarToMatrix f
     && (eqb (byte f 1) (byte g 1)
     && (eqb (byte f 2) (byte g 2) && (eqb (byte f 3) (byte g 3) && (eqb (byte f 4) (byte g 4) && eqb (byte f 5) (byte g 5)))))
 
@@ -29,7 +29,7 @@ samePointer fr s f g =
     cond
     (eqb (byte g 1) 6
     && (eqb (byte f 2) (byte g 2) && (eqb (byte f 3) (byte g 3) && (eqb (byte f 6) (byte g 6) && eqb (byte f 7) (byte g 7)))))
-    (isPlain (typeFrameIn fr s (record { 0 = half f 2 }))) false
+    (isScalarToMatrix (typeFrameIn fr s (record { 0 = half f 2 }))) false
 
 -- the frames of a value and of a type show that they are the same
 abbrev pub valueShown : List ℕ → Starts → Frame → Frame → Bool

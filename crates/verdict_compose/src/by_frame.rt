@@ -6,11 +6,11 @@ use frames::Frame;
 use ir::TypeNumber;
 use row_operands::plain::type_frame;
 ghost use mathlib.Core.Path.{_≡_};
-ghost use Rattle.verdict_compose.specs.Shown.{isPlain, sameForm, samePointer, valueShown, typeShown};
+ghost use Rattle.verdict_compose.specs.Shown.{isScalarToMatrix, sameForm, samePointer, valueShown, typeShown};
 
 // A frame is of a scalar, a vector or a matrix.
-fn is_plain(f: Frame) -> bool
-    ensures { λ r. ⌜ r ≡ isPlain f ⌝ }
+fn is_scalar_to_matrix(f: Frame) -> bool
+    ensures { λ r. ⌜ r ≡ isScalarToMatrix f ⌝ }
 {
     (f.b1 == 1) | ((f.b1 == 2) | (f.b1 == 3))
 }
@@ -19,7 +19,7 @@ fn is_plain(f: Frame) -> bool
 fn same_form(f: Frame, g: Frame) -> bool
     ensures { λ r. ⌜ r ≡ sameForm f g ⌝ }
 {
-    is_plain(f)
+    is_scalar_to_matrix(f)
         & ((f.b1 == g.b1) & ((f.b2 == g.b2) & ((f.b3 == g.b3) & ((f.b4 == g.b4) & (f.b5 == g.b5)))))
 }
 
@@ -29,7 +29,7 @@ fn same_pointer(frames: &[u8], s: Starts, f: Frame, g: Frame) -> bool
 {
     if (g.b1 == 6) & ((f.b2 == g.b2) & ((f.b3 == g.b3) & ((f.b6 == g.b6) & (f.b7 == g.b7)))) {
         let n = f.named();
-        is_plain(type_frame(frames, s, TypeNumber(n)))
+        is_scalar_to_matrix(type_frame(frames, s, TypeNumber(n)))
     } else {
         false
     }

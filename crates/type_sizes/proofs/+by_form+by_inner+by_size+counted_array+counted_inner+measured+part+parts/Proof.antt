@@ -18,14 +18,14 @@ use Rattle.ir.proofs.Others.{Others, kindsBut, of-each}
 use Rattle.frames.specs.declared.Frame.{Frame}
 use Rattle.frames.specs.Bytes.{frameAt, putFrame}
 use Rattle.archive.specs.declared.Starts.{Starts}
-use Rattle.archive.specs.Access.{typeIn}
+use Rattle.archive.specs.Access.{typeIn, memberIn}
 use Rattle.rule_sizes.specs.declared.Alignment.the-variants.{Two}
 use Rattle.rule_sizes.specs.declared.SizeFault.the-variants.{Unmeasured}
 use Rattle.rule_sizes.specs.declared.Measure.{Measure}
 use Rattle.rule_sizes.specs.declared.Measure.the-variants.{Faulty}
 use Rattle.rule_sizes.specs.declared.Parts.{Parts}
 use Rattle.rule_sizes.specs.declared.Parts.the-variants.{Laid}
-use Rattle.rule_sizes.specs.Sizes.{memberIn, joined, partsOf, leafOf, ofInner}
+use Rattle.rule_sizes.specs.Sizes.{joined, partsOf, leafOf, ofInner}
 use Rattle.rule_sizes.specs.ForProofs.{measureFrame, measureOf}
 use Rattle.rule_sizes.proofs.Laws.{known-put}
 use Rattle.rule_ranges.specs.Pending.{lookHolds}

@@ -3,7 +3,7 @@ use Prim.Native.Nat.{ℕ}
 use mathlib.Core.Path.{sym, ap, _∙_}
 use mathlib.Core.Option.{Option}
 use Rattle.ir.specs.declared.TypeNumber.{TypeNumber}
-use Rattle.archive.specs.ForProofs.{memberIn}
+use Rattle.archive.specs.Access.{memberIn}
 use Rattle.rule.specs.Answers.{told}
 use Rattle.rule_rows.specs.Access.{memberPointer}
 use Rattle.rule_rows.proofs.Members.{listed-within, listed-past}

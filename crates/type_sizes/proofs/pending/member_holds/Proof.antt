@@ -10,7 +10,7 @@ use Rattle.ir.specs.declared.TypeNumber.{TypeNumber}
 use Rattle.ir.specs.declared.MemberNumber.{MemberNumber}
 use Rattle.ir.specs.declared.StructMember.{StructMember}
 use Rattle.archive.specs.declared.Starts.{Starts}
-use Rattle.rule_sizes.specs.Sizes.{memberIn}
+use Rattle.archive.specs.Access.{memberIn}
 use Rattle.rule_ranges.specs.Pending.{memberHolds, lookHolds}
 use Rattle.type_sizes.proofs.pending.member_holds.Statement.{statement}
 use Rattle.type_sizes.proofs.pending.member_holds.Tie as tie

@@ -7,4 +7,4 @@ same-form-spec =
     tie.close
     (tie.spec
     (λ c κs. tt)
-    (λ c. rw (c .before .before .before .before .before .before .before .before .before .before .is-plain .ensures)))
+    (λ c. rw (c .before .before .before .before .before .before .before .before .before .before .is-scalar-to-matrix .ensures)))

@@ -10,5 +10,5 @@ same-pointer-spec =
     (λ c κs. tt)
     (λ c κs. tt)
     (λ c.
-    rw (c .before .before .before .if1 .taken, c .is-plain .ensures, c .before .type-frame .ensures, c .before .before .named .ensures))
+    rw (c .before .before .before .if1 .taken, c .is-scalar-to-matrix .ensures, c .before .type-frame .ensures, c .before .before .named .ensures))
     (λ c. rw (c .if1 .left)))
