@@ -26,7 +26,7 @@ pub fn canonical_form(text: &[u8], limit: u32, frames: &mut [u8], n: TypeNumber)
         OptionUsize::Some(k) => {
             let m = 16 * k;
             let s = find_starts(&frames[..m]);
-            type_pointers::by_number::canonical_type(&frames[..m], s, n)
+            type_methods::by_number::canonical_type(&frames[..m], s, n)
         }
     }
 }
@@ -44,7 +44,7 @@ pub fn pointer_base(text: &[u8], limit: u32, frames: &mut [u8], n: TypeNumber) -
         OptionUsize::Some(k) => {
             let m = 16 * k;
             let s = find_starts(&frames[..m]);
-            type_pointers::by_number::pointer_base(&frames[..m], s, n)
+            type_methods::by_number::pointer_base(&frames[..m], s, n)
         }
     }
 }

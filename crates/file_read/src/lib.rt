@@ -68,7 +68,7 @@ pub fn same_type(text: &[u8], limit: u32, frames: &mut [u8], left: Frame, right:
         OptionUsize::Some(n) => {
             let m = 16 * n;
             let s = find_starts(&frames[..m]);
-            type_comparison::handed::same_type(&frames[..m], s, left, right)
+            type_methods::handed::same_type(&frames[..m], s, left, right)
         }
     }
 }

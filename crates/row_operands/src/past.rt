@@ -14,7 +14,7 @@ use ir::TypeForm;
 use ir::TypeInner;
 use ir::TypeNumber;
 use rule::Fault;
-use type_forms::value_fault;
+use type_methods::forms::value_fault;
 ghost use mathlib.Core.Path.{_≡_};
 ghost use Rattle.frames.specs.ForProofs.{answerOf};
 ghost use Rattle.rule.specs.Things.{soundForm};
