@@ -1,5 +1,5 @@
 // The bytes that a type fills (document 02, request 5), as rules, in specs/: alignment and size by WGSL's memory
-// layout section. Crate type_sizes has the code.
+// layout section. Crates size_steps, size_pending and type_sizes have the code.
 use answers::Outcome;
 use ir::TypeNumber;
 

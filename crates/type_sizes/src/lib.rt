@@ -1,11 +1,6 @@
 // The bytes that a type fills, found from the types it names (document 02, requests 5 and 6). A type names only earlier
 // ones, so its number falls; what was found is kept in a table, so a part is measured once. Types that are marked go by
 // counts; with none marked it is request 5's measure.
-mod leaves;
-pub mod pending;
-mod steps;
-pub mod table;
-
 use answers::MAX_FRAMES;
 use archive::Starts;
 use archive_access::families::is_type;
@@ -18,25 +13,25 @@ use ir::MemberNumber;
 use ir::TypeForm;
 use ir::TypeInner;
 use ir::TypeNumber;
-use leaves::leaf;
-use leaves::unmeasured;
-use pending::count_at;
-use pending::is_marked;
-use pending::pending_marks;
 use rule_ranges::Range;
 use rule_sizes::Alignment;
 use rule_sizes::Measure;
 use rule_sizes::Parts;
 use rule_sizes::TypeSize;
-use steps::array_of;
-use steps::fresh_struct;
-use steps::joined;
-use steps::offset_by;
-use steps::struct_of;
-use table::measure_frame;
-use table::measure_of;
-use table::range_frame;
-use table::said_frame;
+use size_pending::count_at;
+use size_pending::is_marked;
+use size_pending::pending_marks;
+use size_steps::leaves::leaf;
+use size_steps::leaves::unmeasured;
+use size_steps::steps::array_of;
+use size_steps::steps::fresh_struct;
+use size_steps::steps::joined;
+use size_steps::steps::offset_by;
+use size_steps::steps::struct_of;
+use size_steps::table::measure_frame;
+use size_steps::table::measure_of;
+use size_steps::table::range_frame;
+use size_steps::table::said_frame;
 ghost use mathlib.Core.Path.{_≡_};
 ghost use Prim.Native.Nat.{_≤_};
 ghost use Rattle.rule_sizes.specs.Sizes.{sizedArray, ofInner, measureIn, typeSizeIn, sizeFrame};

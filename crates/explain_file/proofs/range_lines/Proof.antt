@@ -10,7 +10,7 @@ use Rattle.scan.specs.declared.Found.{Found}
 use Rattle.archive.specs.Starts.{typeCount}
 use Rattle.rule_sizes.specs.Sizes.{framesOf}
 use Rattle.rule_ranges.specs.Ranges.{countsOf, rangeFrame}
-use Rattle.type_sizes.proofs.Marks.{span-within}
+use Rattle.size_pending.proofs.Marks.{span-within}
 use Rattle.explain_file.specs.Explained.{Lines}
 use Rattle.explain_file.specs.Sized.{sizeLines, orSpan}
 use Rattle.explain_file.specs.ForProofs.{Shown}

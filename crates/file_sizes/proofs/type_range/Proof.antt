@@ -4,7 +4,7 @@ use mathlib.Core.Path.{sym, ap, _∙_}
 use borrow.Author.Needs.{needs}
 use Rattle.rule_ranges.specs.declared.TypeRange.the-variants as Tr
 use Rattle.rule_ranges.specs.Ranges.{countsOf, typeRangeIn}
-use Rattle.type_sizes.proofs.Marks.{range-all, span-within}
+use Rattle.size_pending.proofs.Marks.{range-all, span-within}
 use Rattle.file_sizes.proofs.type_range.Statement.{statement}
 use Rattle.file_sizes.proofs.type_range.Tie as tie
 

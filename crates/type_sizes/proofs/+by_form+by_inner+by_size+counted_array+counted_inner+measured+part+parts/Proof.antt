@@ -63,17 +63,17 @@ use Rattle.archive_access.proofs.families.member_at.Reads as member-at-reads
 use Rattle.archive_access.proofs.families.type_at.Reads as type-at-reads
 use Rattle.frames.proofs.frame_at.Reads as frame-at-reads
 use Rattle.frames.proofs.put_frame.Reads as put-frame-reads
-use Rattle.type_sizes.proofs.leaves.leaf.Reads as leaf-reads
-use Rattle.type_sizes.proofs.leaves.unmeasured.Reads as unmeasured-reads
-use Rattle.type_sizes.proofs.pending.count_at.Reads as count-at-reads
-use Rattle.type_sizes.proofs.pending.is_marked.Reads as is-marked-reads
-use Rattle.type_sizes.proofs.steps.array_of.Reads as array-of-reads
-use Rattle.type_sizes.proofs.steps.fresh_struct.Reads as fresh-struct-reads
-use Rattle.type_sizes.proofs.steps.joined.Reads as joined-reads
-use Rattle.type_sizes.proofs.steps.offset_by.Reads as offset-by-reads
-use Rattle.type_sizes.proofs.steps.struct_of.Reads as struct-of-reads
-use Rattle.type_sizes.proofs.table.measure_frame.Reads as measure-frame-reads
-use Rattle.type_sizes.proofs.table.measure_of.Reads as measure-of-reads
+use Rattle.size_steps.proofs.leaves.leaf.Reads as leaf-reads
+use Rattle.size_steps.proofs.leaves.unmeasured.Reads as unmeasured-reads
+use Rattle.size_pending.proofs.count_at.Reads as count-at-reads
+use Rattle.size_pending.proofs.is_marked.Reads as is-marked-reads
+use Rattle.size_steps.proofs.steps.array_of.Reads as array-of-reads
+use Rattle.size_steps.proofs.steps.fresh_struct.Reads as fresh-struct-reads
+use Rattle.size_steps.proofs.steps.joined.Reads as joined-reads
+use Rattle.size_steps.proofs.steps.offset_by.Reads as offset-by-reads
+use Rattle.size_steps.proofs.steps.struct_of.Reads as struct-of-reads
+use Rattle.size_steps.proofs.table.measure_frame.Reads as measure-frame-reads
+use Rattle.size_steps.proofs.table.measure_of.Reads as measure-of-reads
 use Rattle.type_sizes.proofs.+by_form+by_inner+by_size+counted_array+counted_inner+measured+part+parts.{
   statement,
 }
