@@ -38,16 +38,16 @@ contract explain_file::sizes_text
 contract explain_file::ranges_text
 contract texel::texel_of
 contract gelmusko::*
-theorem rule_file/proofs/Laws.antt accepted-when long-when torn-when short-when order-when field-when index-when by-file
-theorem rule_file/proofs/Laws.antt buffer-written buffer-long buffer-torn buffer-short
+theorem law_file/proofs/Laws.antt accepted-when long-when torn-when short-when order-when field-when index-when by-file
+theorem law_file/proofs/Laws.antt buffer-written buffer-long buffer-torn buffer-short
 theorem law_rows/proofs/Range.antt range
 theorem ir/proofs/Formats.antt formats-named
 theorem rule/proofs/Shows.antt texels-shown sees-more
 theorem rule_rows/proofs/Storage.antt storage-typed first-storage-newer
 theorem law_verdicts/proofs/Numbers.antt verdict-numbers
 theorem law_verdicts/proofs/Each.antt one-each
-theorem rule_file/proofs/Said.antt row-said verdict-said
-theorem rule_file/proofs/Printed.antt text-fits
+theorem law_file/proofs/Said.antt row-said verdict-said
+theorem law_file/proofs/Printed.antt text-fits
 theorem explain_file/proofs/Fits.antt explained-fits sized-fits ranged-fits
 theorem law_later_readers/proofs/Ours.antt type-rows-keeps row-type-keeps just-enough
 theorem law_later_readers/proofs/Only.antt only-ours

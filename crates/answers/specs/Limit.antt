@@ -1,5 +1,5 @@
--- The most frames that a file may have, whatever the limit (document 01, number 1: "over 1,024 frames (33,792 bytes)"), and the bytes that a file of so many
--- frames fills at most. The constants of the code say the same.
+-- The most frames that a file may have, whatever the limit (document 01, number 1: "over 1,024 frames (33,792 bytes)"),
+-- and the bytes that a file of so many frames fills at most. The constants of the code say the same.
 use Prim.Native.Nat.{ℕ, _*_}
 
 abbrev pub maxFrames : ℕ

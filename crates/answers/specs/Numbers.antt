@@ -1,4 +1,5 @@
--- Document 01's number and values for each case of each answer ("Numbers handed back", and "Out" at the end of "The file").
+-- Document 01's number and values for each case of each answer ("Numbers handed back", and "Out" at the end of "The
+-- file").
 -- Every promise on an answer speaks through these.
 use Prim.Native.Nat.{ℕ}
 use mathlib.Core.Bool.{Bool, true, false}
@@ -110,8 +111,8 @@ canonicalSaid C.Newer = refused (at 22 0)
 canonicalSaid C.Index = refused notThere
 canonicalSaid (C.NotAccepted o) = refused (outcomeValues o)
 
--- what is said where one thing is asked for: what was asked for, or a number with its place. For a row's answer and a compose's verdict: `rowTypeSaid`,
--- `composeVerdictSaid` (frames/specs/Out.antt)
+-- what is said where one thing is asked for: what was asked for, or a number with its place. For a row's answer and a
+-- compose's verdict: `rowTypeSaid`, `composeVerdictSaid` (frames/specs/Out.antt)
 pub data SaidOne (A : Type 0) : Type 0 where
   asked : A → SaidOne A
   instead : Refused → SaidOne A

@@ -1,13 +1,13 @@
-// What is handed back (document 01, "Numbers handed back"): an enum for each kind of answer. specs/Numbers.antt gives the
-// document's number and values for each case.
+// What is handed back (document 01, "Numbers handed back"): an enum for each kind of answer. specs/Numbers.antt gives
+// the document's number and values for each case.
 use ir::RowNumber;
 use ir::TypeNumber;
 use ir::TypeResolution;
 ghost use mathlib.Core.Path.{_≡_};
 ghost use Rattle.answers.specs.ForProofs.{answered};
 
-// The most frames that a file may have, whatever the limit; the same as a limit handed in; and the bytes that a file of so many fills at most: its text, its frames, its answers and verdicts, and the lines of
-// these (specs/Limit.antt).
+// The most frames that a file may have, whatever the limit; the same as a limit handed in; and the bytes that a file of
+// so many fills at most: its text, its frames, its answers and verdicts, and the lines of these (specs/Limit.antt).
 pub const MAX_FRAMES: usize = 1024;
 
 pub const MAX_LIMIT: u32 = MAX_FRAMES as u32;
@@ -31,7 +31,8 @@ pub enum Outcome {
     Index { frame: u16 },
 }
 
-// Why a row has no type. The source's ResolveError, without its texts; and the second pass's own: WGSL has no such Binary expression.
+// Why a row has no type. The source's ResolveError, without its texts; and the second pass's own: WGSL has no such
+// Binary expression.
 pub enum Refusal {
     OutOfBoundsIndex { expr: RowNumber, index: u32 },
     InvalidAccess { expr: RowNumber, indexed: bool },
@@ -71,8 +72,8 @@ impl Unresolved {
     }
 }
 
-// What a compose is judged: the source's Ok and ComposeError, and the port's own cases for a component row that was refused
-// and for what is newer. Components count from 0 within their compose.
+// What a compose is judged: the source's Ok and ComposeError, and the port's own cases for a component row that was
+// refused and for what is newer. Components count from 0 within their compose.
 pub enum Verdict {
     Passes,
     ComposedType,
@@ -102,7 +103,8 @@ pub enum PointerBase {
     NotAccepted(Outcome),
 }
 
-// What asking for a type's canonical form gives: the value pointer, or the type's own number where the source gives None.
+// What asking for a type's canonical form gives: the value pointer, or the type's own number where the source gives
+// None.
 pub enum CanonicalType {
     Form(TypeResolution),
     Newer,

@@ -1,5 +1,6 @@
--- Checks 4 to 6, both ways: each outcome is given exactly when its check fails lowest there and all checks before it hold of every frame.
--- By what each search for the lowest found. Assumes nothing.
+-- Checks 4 to 6, both ways: each outcome is given exactly when its check fails lowest there and all checks before it
+-- hold of every frame.
+-- By what each search for the lowest found.
 use Prim.Native.Nat.{ℕ, _≤_, _<_}
 use native.Mathlib.Omega.{arith}
 use mathlib.Core.Path.{_≡_, refl, sym, ap, _∙_}
@@ -38,23 +39,28 @@ module _ (fr : List ℕ) (few : frameCount fr ≤ maxFrames) where
   unfolding checkFrames
   by-check P order field index accepted =
       rw (le-ltb maxFrames (frameCount fr) few)
-      (one (lowest (orderOk fr) (frameCount fr)) (lowest (fieldOk fr) (frameCount fr)) (lowest (indexOk fr) (frameCount fr)) refl refl refl)
+      (one (lowest (orderOk fr) (frameCount fr)) (lowest (fieldOk fr) (frameCount fr))
+      (lowest (indexOk fr) (frameCount fr)) refl refl refl)
     where
       one : (f g h : Found) → lowest (orderOk fr) (frameCount fr) ≡ f → lowest (fieldOk fr) (frameCount fr) ≡ g
           → lowest (indexOk fr) (frameCount fr) ≡ h
           → P (unless Order f (unless Field g (unless Index h (Accepted (frameCount fr)))))
       one (At p) g h e d b = order p (found-at (orderOk fr) (frameCount fr) p e)
-      one Nothing (At p) h e d b = field p (λ k. none-all (orderOk fr) (frameCount fr) k e) (found-at (fieldOk fr) (frameCount fr) p d)
+      one Nothing (At p) h e d b = field p (λ k. none-all (orderOk fr) (frameCount fr) k e)
+          (found-at (fieldOk fr) (frameCount fr) p d)
       one Nothing Nothing (At p) e d b =
-          index p (λ k. none-all (orderOk fr) (frameCount fr) k e) (λ k. none-all (fieldOk fr) (frameCount fr) k d) (found-at (indexOk fr) (frameCount fr) p b)
+          index p (λ k. none-all (orderOk fr) (frameCount fr) k e) (λ k. none-all (fieldOk fr) (frameCount fr) k d)
+          (found-at (indexOk fr) (frameCount fr) p b)
       one Nothing Nothing Nothing e d b =
-          accepted (λ k. none-all (orderOk fr) (frameCount fr) k e) (λ k. none-all (fieldOk fr) (frameCount fr) k d) (λ k. none-all (indexOk fr) (frameCount fr) k b)
+          accepted (λ k. none-all (orderOk fr) (frameCount fr) k e) (λ k. none-all (fieldOk fr) (frameCount fr) k d)
+          (λ k. none-all (indexOk fr) (frameCount fr) k b)
 
   -- number 4 at p: exactly when p is the lowest frame out of order
   pub order-when : (p : ℕ) → (checkFrames fr ≡ Order p) ↔ FailsAt orderOk fr p
   unfolding checkFrames
   order-when p = (
-    by-check (λ r. r ≡ Order p → FailsAt orderOk fr p) (λ j a e. let q : j ≡ p = cc in rw q at a) (λ j h a e. never (cc)) (λ j h g a e. never (cc)) (λ h g i e. never (cc)),
+    by-check (λ r. r ≡ Order p → FailsAt orderOk fr p) (λ j a e. let q : j ≡ p = cc in rw q at a)
+        (λ j h a e. never (cc)) (λ j h g a e. never (cc)) (λ h g i e. never (cc)),
     λ a. rw (le-ltb maxFrames (frameCount fr) few, at-found (orderOk fr) (frameCount fr) p a),
   )
 
@@ -62,16 +68,27 @@ module _ (fr : List ℕ) (few : frameCount fr ≤ maxFrames) where
   pub field-when : (p : ℕ) → (checkFrames fr ≡ Field p) ↔ (Holds orderOk fr × FailsAt fieldOk fr p)
   unfolding checkFrames
   field-when p = (
-    by-check (λ r. r ≡ Field p → Holds orderOk fr × FailsAt fieldOk fr p) (λ j a e. never (cc)) (λ j h a e. let q : j ≡ p = cc in (h, rw q at a)) (λ j h g a e. never (cc)) (λ h g i e. never (cc)),
-    λ a. rw (le-ltb maxFrames (frameCount fr) few, lowest-all (orderOk fr) (frameCount fr) (a .0), at-found (fieldOk fr) (frameCount fr) p (a .1)),
+    by-check (λ r. r ≡ Field p → Holds orderOk fr × FailsAt fieldOk fr p) (λ j a e. never (cc))
+        (λ j h a e. let q : j ≡ p = cc in (h, rw q at a)) (λ j h g a e. never (cc)) (λ h g i e. never (cc)),
+    λ a. rw (
+      le-ltb maxFrames (frameCount fr) few,
+      lowest-all (orderOk fr) (frameCount fr) (a .0),
+      at-found (fieldOk fr) (frameCount fr) p (a .1),
+    ),
   )
 
   -- number 6 at p: exactly when checks 4 and 5 hold of all frames, and p is the lowest that names wrongly
   pub index-when : (p : ℕ) → (checkFrames fr ≡ Index p) ↔ (Holds orderOk fr × Holds fieldOk fr × FailsAt indexOk fr p)
   unfolding checkFrames
   index-when p = (
-    by-check (λ r. r ≡ Index p → Holds orderOk fr × Holds fieldOk fr × FailsAt indexOk fr p) (λ j a e. never (cc)) (λ j h a e. never (cc)) (λ j h g a e. let q : j ≡ p = cc in (h, g, rw q at a)) (λ h g i e. never (cc)),
-    λ a. rw (le-ltb maxFrames (frameCount fr) few, lowest-all (orderOk fr) (frameCount fr) (a .0), lowest-all (fieldOk fr) (frameCount fr) (a .1), at-found (indexOk fr) (frameCount fr) p (a .2)),
+    by-check (λ r. r ≡ Index p → Holds orderOk fr × Holds fieldOk fr × FailsAt indexOk fr p) (λ j a e. never (cc))
+        (λ j h a e. never (cc)) (λ j h g a e. let q : j ≡ p = cc in (h, g, rw q at a)) (λ h g i e. never (cc)),
+    λ a. rw (
+      le-ltb maxFrames (frameCount fr) few,
+      lowest-all (orderOk fr) (frameCount fr) (a .0),
+      lowest-all (fieldOk fr) (frameCount fr) (a .1),
+      at-found (indexOk fr) (frameCount fr) p (a .2),
+    ),
   )
 
   -- accepted: exactly when all three hold of all frames
@@ -79,6 +96,13 @@ module _ (fr : List ℕ) (few : frameCount fr ≤ maxFrames) where
       → (checkFrames fr ≡ Accepted n) ↔ ((n ≡ frameCount fr) × Holds orderOk fr × Holds fieldOk fr × Holds indexOk fr)
   unfolding checkFrames
   accepted-when n = (
-    by-check (λ r. r ≡ Accepted n → (n ≡ frameCount fr) × Holds orderOk fr × Holds fieldOk fr × Holds indexOk fr) (λ j a e. never (cc)) (λ j h a e. never (cc)) (λ j h g a e. never (cc)) (λ h g i e. ((cc), h, g, i)),
-    λ a. rw (le-ltb maxFrames (frameCount fr) few, lowest-all (orderOk fr) (frameCount fr) (a .1), lowest-all (fieldOk fr) (frameCount fr) (a .2), lowest-all (indexOk fr) (frameCount fr) (a .3), ← a .0),
+    by-check (λ r. r ≡ Accepted n → (n ≡ frameCount fr) × Holds orderOk fr × Holds fieldOk fr × Holds indexOk fr)
+        (λ j a e. never (cc)) (λ j h a e. never (cc)) (λ j h g a e. never (cc)) (λ h g i e. ((cc), h, g, i)),
+    λ a. rw (
+      le-ltb maxFrames (frameCount fr) few,
+      lowest-all (orderOk fr) (frameCount fr) (a .1),
+      lowest-all (fieldOk fr) (frameCount fr) (a .2),
+      lowest-all (indexOk fr) (frameCount fr) (a .3),
+      ← a .0,
+    ),
   )

@@ -1,5 +1,5 @@
--- What holds in a file whose frames pass checks 4 to 6: ranks rise, so a family is the frames from its start up to the next start; what
--- each frame names is there and earlier; each part is earlier than each of its owners. Assumes nothing.
+-- What holds in a file whose frames pass checks 4 to 6: ranks rise, so a family is the frames from its start up to the
+-- next start; what each frame names is there and earlier; each part is earlier than each of its owners.
 use Prim.Native.Nat.{ℕ, zero, suc, _+_, _-_, _≤_, _<_}
 use native.Mathlib.Decide.{decLe}
 use native.Mathlib.Nat.{le-of-suc-le-suc, eq-or-lt-of-le}
@@ -48,7 +48,8 @@ module _ (fr : List ℕ) (ordered : Holds orderOk fr) where
   pub rise : (j k : ℕ) → j ≤ k → k < frameCount fr → rankAt fr j ≤ rankAt fr k
   rise j zero l h = let z : j ≡ 0 = omega arith in rw z (omega arith)
   rise j (suc k) l h =
-      ⊎-elim (λ e. rw e (omega arith)) (λ lt. omega (arith, rise j k (le-of-suc-le-suc lt) (omega arith), step k h)) (eq-or-lt-of-le l)
+      ⊎-elim (λ e. rw e (omega arith)) (λ lt. omega (arith, rise j k (le-of-suc-le-suc lt) (omega arith), step k h))
+      (eq-or-lt-of-le l)
 
   -- a frame is of a rank or a higher one exactly from the start of that rank on
   pub from-start : (rank k : ℕ) → k < frameCount fr → (start fr rank ≤ k) ↔ (rank ≤ rankAt fr k)
@@ -79,16 +80,19 @@ module _ (fr : List ℕ) (indexed : Holds indexOk fr) (k : ℕ) (h : k < frameCo
   pub item-names : frameAt fr k .b0 ≡ 3 → itemNames (startsOf fr) (itemOf (frameAt fr k)) ≡ true
   item-names e = of-family 3 e
 
-  pub row-names : frameAt fr k .b0 ≡ 4 → rowFormNames (startsOf fr) (record { 0 = k - startsOf fr .rows }) (rowOf (frameAt fr k)) ≡ true
+  pub row-names : frameAt fr k .b0 ≡ 4
+      → rowFormNames (startsOf fr) (record { 0 = k - startsOf fr .rows }) (rowOf (frameAt fr k)) ≡ true
   row-names e = of-family 4 e
 
   pub component-names : frameAt fr k .b0 ≡ 5 → isRow (startsOf fr) (componentOf (frameAt fr k)) ≡ true
   component-names e = of-family 5 e
 
   -- a part is earlier than each of its owners
-  pub part-early : (o from to : ℕ) (owner : Owner) → o < frameCount fr → heldBy (startsOf fr) o (frameAt fr o) ≡ Parts from to owner
+  pub part-early : (o from to : ℕ) (owner : Owner) → o < frameCount fr → heldBy (startsOf fr) o (frameAt fr o)
+      ≡ Parts from to owner
       → from ≤ k → k < to → isEarly owner (frameAt fr k) ≡ true
   unfolding indexOk earlyOk
   part-early o from to owner l holds a b =
-      let early = all-each (λ (j : ℕ). earlyFor fr j k) (frameCount fr) o (and-second (namesOk fr k) (earlyOk fr k) (indexed k h)) l in
+      let early = all-each (λ (j : ℕ). earlyFor fr j k) (frameCount fr) o
+      (and-second (namesOk fr k) (earlyOk fr k) (indexed k h)) l in
       sym (inside fr from to owner k a b) ∙ ap (λ (x : Held). earlyIn fr x k) (sym holds) ∙ early

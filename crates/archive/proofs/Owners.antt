@@ -1,5 +1,5 @@
--- Parts of one owner: a frame outside its range passes, and one inside passes exactly when it is earlier than the owner; so the lowest
--- that fails is found by looking at the range alone. Assumes nothing.
+-- Parts of one owner: a frame outside its range passes, and one inside passes exactly when it is earlier than the
+-- owner; so the lowest that fails is found by looking at the range alone.
 use Prim.Native.Nat.{ℕ, _≤_, _<_, zero-le}
 use native.Mathlib.Decide.{decLt}
 use native.Mathlib.Omega.{arith}
@@ -58,7 +58,8 @@ unfolding allBelow
 no-owner ok n = sym (lowest-all (λ (k : ℕ). true) n (λ k l. refl))
 
 -- starts are within the file
-pub starts-small : (fr : List ℕ) (m : ℕ) → frameCount fr ≤ m → (startsOf fr .members ≤ m) × (startsOf fr .components ≤ m)
+pub starts-small : (fr : List ℕ) (m : ℕ) → frameCount fr ≤ m → (startsOf fr .members ≤ m)
+    × (startsOf fr .components ≤ m)
 unfolding startsOf
 starts-small fr m l = (omega (arith, begins fr 512 .within), omega (arith, begins fr 1280 .within))
 

@@ -1,4 +1,4 @@
--- Where a family begins: every frame before it is of a lower rank, since it is the lowest that is not. Assumes nothing.
+-- Where a family begins: every frame before it is of a lower rank, since it is the lowest that is not.
 use Prim.Native.Nat.{ℕ, _≤_, _<_}
 use native.Mathlib.Omega.{arith}
 use mathlib.Core.Path.{_≡_, refl, sym, ap, _∙_}
@@ -24,7 +24,8 @@ pub begins : (fr : List ℕ) (rank : ℕ) → Begins fr rank (start fr rank)
 unfolding start
 begins fr rank = go (lowest (λ (k : ℕ). ltb (rankAt fr k) rank) (frameCount fr)) refl
   where
-    go : (f : Found) → lowest (λ (k : ℕ). ltb (rankAt fr k) rank) (frameCount fr) ≡ f → Begins fr rank (placeOr (frameCount fr) f)
+    go : (f : Found) → lowest (λ (k : ℕ). ltb (rankAt fr k) rank) (frameCount fr) ≡ f
+        → Begins fr rank (placeOr (frameCount fr) f)
     go (At p) e =
         let a = found-at (λ (k : ℕ). ltb (rankAt fr k) rank) (frameCount fr) p e in
         record {
@@ -35,11 +36,14 @@ begins fr rank = go (lowest (λ (k : ℕ). ltb (rankAt fr k) rank) (frameCount f
     go Nothing e =
         record {
           within = omega arith;
-          lower = λ k h. ltb-true (rankAt fr k) rank (none-all (λ (j : ℕ). ltb (rankAt fr j) rank) (frameCount fr) k e h);
+          lower = λ k h. ltb-true (rankAt fr k) rank
+              (none-all (λ (j : ℕ). ltb (rankAt fr j) rank) (frameCount fr) k e h);
           there = λ h. absurd (omega arith);
         }
 
 -- before the start of a rank nothing is of a higher rank
-pub skipped : (fr : List ℕ) (rank higher : ℕ) → rank ≤ higher → lowest (λ (k : ℕ). ltb (rankAt fr k) higher) (start fr rank) ≡ Nothing
+pub skipped : (fr : List ℕ) (rank higher : ℕ) → rank ≤ higher
+    → lowest (λ (k : ℕ). ltb (rankAt fr k) higher) (start fr rank) ≡ Nothing
 skipped fr rank higher l =
-    lowest-all (λ (k : ℕ). ltb (rankAt fr k) higher) (start fr rank) (λ k h. lt-ltb (rankAt fr k) higher (omega (arith, begins fr rank .lower k h)))
+    lowest-all (λ (k : ℕ). ltb (rankAt fr k) higher) (start fr rank)
+    (λ k h. lt-ltb (rankAt fr k) higher (omega (arith, begins fr rank .lower k h)))

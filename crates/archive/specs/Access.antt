@@ -1,5 +1,5 @@
--- What a file holds, over its frames and where its families begin (document 01, "The file": numbers count from 0 within a family). Every number is
--- answered: where there is no such type or row, as one of unknown kind.
+-- What a file holds, over its frames and where its families begin (document 01, "The file": numbers count from 0 within
+-- a family). Every number is answered: where there is no such type or row, as one of unknown kind.
 use Prim.Native.Nat.{ℕ, _+_}
 use mathlib.Core.Bool.{cond}
 use mathlib.Core.List.{List}

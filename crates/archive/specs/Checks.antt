@@ -1,4 +1,5 @@
--- Checks 4 to 6 over the frames of a file, each over the whole file, lowest frame named (document 01, "Numbers handed back").
+-- Checks 4 to 6 over the frames of a file, each over the whole file, lowest frame named (document 01, "Numbers handed
+-- back").
 use Prim.Native.Nat.{ℕ}
 use mathlib.Core.Bool.{Bool, cond, _&&_}
 use mathlib.Core.List.{List}
@@ -33,4 +34,5 @@ unfoldable pub checkFrames : List ℕ → Outcome
 checkFrames fr =
     let n = frameCount fr in
     cond (ltb maxFrames n) (Long maxFrames)
-    (unless Order (lowest (orderOk fr) n) (unless Field (lowest (fieldOk fr) n) (unless Index (lowest (indexOk fr) n) (Accepted n))))
+    (unless Order (lowest (orderOk fr) n) (unless Field (lowest (fieldOk fr) n)
+    (unless Index (lowest (indexOk fr) n) (Accepted n))))

@@ -1,5 +1,5 @@
--- Not part of any public statement: for proofs and code only. Items and components by where they begin, a file's rows, and where the parts of a
--- frame end.
+-- Not part of any public statement: for proofs and code only. Items and components by where they begin, a file's rows,
+-- and where the parts of a frame end.
 use Prim.Native.Nat.{ℕ, _+_}
 use mathlib.Core.List.{List}
 use Rattle.ir.specs.declared.ItemNumber.{ItemNumber}

@@ -1,5 +1,5 @@
--- Number 6, what a frame names (document 01, "The file"): a type names earlier types only, a row earlier rows only, and every number and
--- range is within its family. An argument index is free; Math rows and unknown kinds name nothing.
+-- Number 6, what a frame names (document 01, "The file"): a type names earlier types only, a row earlier rows only, and
+-- every number and range is within its family. An argument index is free; Math rows and unknown kinds name nothing.
 use Prim.Native.Nat.{ℕ, _+_, _-_}
 use mathlib.Core.Bool.{Bool, true, cond, _&&_}
 use mathlib.Core.List.{List, [], _∷_}
@@ -29,7 +29,8 @@ use Rattle.frames.specs.declared.Frame.{Frame}
 use Rattle.frames.specs.Bytes.{frameAt}
 use Rattle.frames.specs.Forms.{typeOf, memberOf, itemOf, rowOf, componentOf}
 use Rattle.archive.specs.declared.Starts.{Starts}
-use Rattle.archive.specs.Starts.{startsOf, typeCount, memberCount, constantCount, overrideCount, globalCount, localCount, functionCount, rowCount, componentCount}
+use Rattle.archive.specs.Starts.{startsOf, typeCount, memberCount, constantCount, overrideCount, globalCount}
+use Rattle.archive.specs.Starts.{localCount, functionCount, rowCount, componentCount}
 
 -- there is a type of this number
 abbrev pub isType : Starts → TypeNumber → Bool
@@ -141,8 +142,8 @@ abbrev pub rowFormNames : Starts → RowNumber → RowForm → Bool
 rowFormNames s n (Ro.Known e) = rowNames s n e
 rowFormNames s n Ro.Unknown = true
 
--- a frame of a family, which is frame k, names what is there; a member or component that no range holds too. Types begin the file, so
--- type k is frame k, and a row's number counts from the start of the rows
+-- a frame of a family, which is frame k, names what is there; a member or component that no range holds too. Types
+-- begin the file, so type k is frame k, and a row's number counts from the start of the rows
 abbrev pub namesBy : ℕ → Starts → ℕ → Frame → Bool
 namesBy family s k f =
     getD

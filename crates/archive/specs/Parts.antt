@@ -1,5 +1,6 @@
--- Number 6, parts and their owners (document 01, "The file"): a member names only types before each struct that has it, and a component
--- only rows before each compose that has it. The part that names wrongly is the faulty frame. Ranges may overlap.
+-- Number 6, parts and their owners (document 01, "The file"): a member names only types before each struct that has it,
+-- and a component only rows before each compose that has it. The part that names wrongly is the faulty frame. Ranges
+-- may overlap.
 use Prim.Native.Nat.{ℕ, _+_, _-_, min}
 use mathlib.Core.Bool.{Bool, true, not, _&&_, _||_, cond}
 use mathlib.Core.List.{List}
@@ -35,15 +36,19 @@ partsFrom from j last owner = He.Parts from (min (from + j) last) owner
 
 -- the parts of struct n: its members, from the first that it names on, as many as it counts
 abbrev pub membersOf : Starts → TypeNumber → Frame → Held
-membersOf s n f = let v = readAll (typeLayout Tk.Struct) f in partsFrom (s .members + v .0) (v .1 .0) (s .constants) (Ow.Struct n)
+membersOf s n f = let v = readAll (typeLayout Tk.Struct) f in
+    partsFrom (s .members + v .0) (v .1 .0) (s .constants) (Ow.Struct n)
 
 -- the parts of compose n: its components
 abbrev pub componentsOf : Starts → RowNumber → Frame → Held
-componentsOf s n f = let v = readAll (rowLayout Rk.Compose) f in partsFrom (s .components + v .1 .1 .0) (v .1 .0) (s .end) (Ow.Compose n)
+componentsOf s n f = let v = readAll (rowLayout Rk.Compose) f in
+    partsFrom (s .components + v .1 .1 .0) (v .1 .0) (s .end) (Ow.Compose n)
 
--- the parts that frame k holds; every frame but a struct and a compose holds none. Types begin the file, so type k is frame k
+-- the parts that frame k holds; every frame but a struct and a compose holds none. Types begin the file, so type k is
+-- frame k
 abbrev pub heldBy : Starts → ℕ → Frame → Held
-heldBy s k f = cond (isStruct f) (membersOf s (record { 0 = k }) f) (cond (isCompose f) (componentsOf s (record { 0 = k - s .rows }) f) He.Nothing)
+heldBy s k f = cond (isStruct f) (membersOf s (record { 0 = k }) f)
+    (cond (isCompose f) (componentsOf s (record { 0 = k - s .rows }) f) He.Nothing)
 
 -- a part is earlier than its owner: the type of a member than the struct, and the row of a component than the compose
 abbrev pub isEarly : Owner → Frame → Bool

@@ -1,5 +1,6 @@
--- Where each family of a file begins, and each kind of items (document 01, "The file": numbers count from 0 within a family; items: within
--- a kind). In a file that is in order the frames of a family stand together, so a family's frames are those from its start to the next.
+-- Where each family of a file begins, and each kind of items (document 01, "The file": numbers count from 0 within a
+-- family; items: within a kind). In a file that is in order the frames of a family stand together, so a family's frames
+-- are those from its start to the next.
 use Prim.Native.Nat.{ℕ, _-_}
 use mathlib.Core.List.{List}
 use lib.Dec.{ltb}
@@ -8,7 +9,9 @@ use Rattle.scan.specs.declared.Found.{Found}
 use Rattle.scan.specs.declared.Found.the-variants.{At, Nothing}
 use Rattle.frames.specs.Bytes.{frameCount}
 use Rattle.archive.specs.declared.Starts.{Starts}
-use Rattle.archive.specs.Order.{rankAt}
+use Rattle.archive.specs.Order.{rankAt, memberRank, constantRank, overrideRank, globalRank, argumentRank}
+use Rattle.archive.specs.Order.{localRank, functionRank, intersectionRank, vertexReturnRank, rowRank}
+use Rattle.archive.specs.Order.{componentRank}
 
 abbrev pub placeOr : ℕ → Found → ℕ
 placeOr n (At k) = k
@@ -22,17 +25,17 @@ start fr rank = placeOr (frameCount fr) (lowest (λ (k : ℕ). ltb (rankAt fr k)
 unfoldable pub startsOf : List ℕ → Starts
 startsOf fr =
     record {
-      members = start fr 512;
-      constants = start fr 769;
-      overrides = start fr 770;
-      globals = start fr 771;
-      arguments = start fr 772;
-      locals = start fr 773;
-      functions = start fr 774;
-      intersections = start fr 775;
-      «vertex_returns» = start fr 776;
-      rows = start fr 1024;
-      components = start fr 1280;
+      members = start fr memberRank;
+      constants = start fr constantRank;
+      overrides = start fr overrideRank;
+      globals = start fr globalRank;
+      arguments = start fr argumentRank;
+      locals = start fr localRank;
+      functions = start fr functionRank;
+      intersections = start fr intersectionRank;
+      «vertex_returns» = start fr vertexReturnRank;
+      rows = start fr rowRank;
+      components = start fr componentRank;
       end = frameCount fr;
     }
 

@@ -1,6 +1,17 @@
 // Where each family of a file begins, and typed access to what the file holds, over its frames and these places.
 use super::order::rank_of;
+use archive::ARGUMENT_RANK;
+use archive::COMPONENT_RANK;
+use archive::CONSTANT_RANK;
+use archive::FUNCTION_RANK;
+use archive::GLOBAL_RANK;
+use archive::INTERSECTION_RANK;
+use archive::LOCAL_RANK;
+use archive::MEMBER_RANK;
+use archive::OVERRIDE_RANK;
+use archive::ROW_RANK;
 use archive::Starts;
+use archive::VERTEX_RETURN_RANK;
 use frames::Frame;
 use frames::frame_at;
 use frames::frame_count;
@@ -49,17 +60,17 @@ fn skip(frames: &[u8], from: usize, rank: usize) -> usize
 pub fn find_starts(frames: &[u8]) -> Starts
     ensures { λ r. ⌜ r ≡ startsOf (now (frames .entry)) ⌝ }
 {
-    let members = skip(frames, 0, 512);
-    let constants = skip(frames, members, 769);
-    let overrides = skip(frames, constants, 770);
-    let globals = skip(frames, overrides, 771);
-    let arguments = skip(frames, globals, 772);
-    let locals = skip(frames, arguments, 773);
-    let functions = skip(frames, locals, 774);
-    let intersections = skip(frames, functions, 775);
-    let vertex_returns = skip(frames, intersections, 776);
-    let rows = skip(frames, vertex_returns, 1024);
-    let components = skip(frames, rows, 1280);
+    let members = skip(frames, 0, MEMBER_RANK);
+    let constants = skip(frames, members, CONSTANT_RANK);
+    let overrides = skip(frames, constants, OVERRIDE_RANK);
+    let globals = skip(frames, overrides, GLOBAL_RANK);
+    let arguments = skip(frames, globals, ARGUMENT_RANK);
+    let locals = skip(frames, arguments, LOCAL_RANK);
+    let functions = skip(frames, locals, FUNCTION_RANK);
+    let intersections = skip(frames, functions, INTERSECTION_RANK);
+    let vertex_returns = skip(frames, intersections, VERTEX_RETURN_RANK);
+    let rows = skip(frames, vertex_returns, ROW_RANK);
+    let components = skip(frames, rows, COMPONENT_RANK);
     let end = frame_count(frames);
     Starts {
         members,

@@ -1,4 +1,6 @@
 // Number 4: the order of the frames of a file.
+use archive::INTERSECTION_RANK;
+use archive::VERTEX_RETURN_RANK;
 use frames::Frame;
 use frames::frame_at;
 use frames::frame_count;
@@ -31,7 +33,7 @@ fn is_known(f: Frame) -> bool
 fn may_follow(q: usize, rank: usize) -> bool
     ensures { λ r. ⌜ r ≡ follows q rank ⌝ }
 {
-    (q < rank) | ((q == rank) & !((rank == 775) | (rank == 776)))
+    (q < rank) | ((q == rank) & !((rank == INTERSECTION_RANK) | (rank == VERTEX_RETURN_RANK)))
 }
 
 // The frame before, and 0 for the first.

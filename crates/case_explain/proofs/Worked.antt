@@ -1,4 +1,5 @@
--- Every case of the table is what the definitions cited by the contract of `explain_text` give: both sides compute to the same. Assumes nothing.
+-- Every case of the table is what the definitions cited by the contract of `explain_text` give: both sides compute to
+-- the same.
 use mathlib.Core.Path.{_≡_, refl}
 use mathlib.Core.List.{List, map, _++_}
 use Prim.Native.Nat.{ℕ, _+_, _-_}
@@ -26,43 +27,54 @@ use Rattle.rule_compose.specs.Verdict.{eachPart, vectorParts}
 use Rattle.rule_answers.specs.Outputs.{outputs, framesBytes}
 use Rattle.rule_file.specs.File.{readFile}
 use Rattle.rule_file.specs.Printed.{printed, printedAfter}
-use Rattle.explain_words.specs.Words as W
-use Rattle.explain_words.specs.Words.{wordBytes}
-use Rattle.explain_words.specs.Lines.{digits, pieceBytes, spelled}
+use Rattle.rule_explain.specs.Words as W
+use Rattle.rule_explain.specs.Words.{wordBytes}
+use Rattle.rule_explain.specs.Lines.{digits, pieceBytes, spelled}
 use Rattle.explain_words.specs.ForProofs.{lines}
-use Rattle.explain_lines.specs.Types.{picked, named, scalarWords, around, vector, brief, within, pointer, array, cooperative, className, arrayedName, image, whole}
-use Rattle.explain_lines.specs.Answers.{manner, reason, refusal, judged, said, shown, ending, lineOf, faultWords}
-use Rattle.explain_file.specs.Explained.{joined, nextRow, rowAt, linesOf, explained}
+use Rattle.rule_explain.specs.Types.{picked, named, scalarWords, around, vector, brief, within, pointer, arrayWords}
+use Rattle.rule_explain.specs.Types.{cooperativeWords, className, arrayedName, image, whole}
+use Rattle.rule_explain.specs.Answers.{manner, reason, refusal, judgedWords, said, shown, ending, lineOf, faultWords}
+use Rattle.rule_explain.specs.Explained.{joined, nextRow, rowAt, linesOf, explained}
 use Rattle.rule_sizes.specs.Sizes as Sz
 use Rattle.rule_sizes.specs.Sizes.{arrayOf, partsOf, spanned, structOf, measures, measureIn, framesOf}
 use Rattle.rule_ranges.specs.Pending.{memberHolds, holding, holdsPending}
 use Rattle.rule_ranges.specs.Counts.{freshParts, freshStruct, measuresBy, measureBy}
 use Rattle.rule_ranges.specs.Ranges.{countsOf, rangeIn, faultySpan}
-use Rattle.explain_lines.specs.Sizes.{sizeWords, spanWords, sizeLineOf}
-use Rattle.explain_file.specs.Sized.{sizesOf, sized, rangesOf, ranged}
-use Rattle.case_explain.specs.Table.{Room, over, below, Case, table, SizeCase, sizes, RangeCase, ranges}
+use Rattle.rule_explain.specs.Sizes.{sizeWords, spanWords, sizeLineOf}
+use Rattle.rule_explain.specs.Sized.{sizesOf, sized, rangesOf, ranged}
+use Rattle.case_explain.specs.Table.{Room, over, below, ExplainedCase, explainedCases, SizeCase, sizes, RangeCase}
+use Rattle.case_explain.specs.Table.{ranges}
 
 -- the output buffer, of bytes 7
 abbrev sizedBy : ℕ → Room → ℕ
 sizedBy n (over k) = n + k
 sizedBy n (below k) = n - k
 
-abbrev lent : Case → List ℕ
+abbrev lent : ExplainedCase → List ℕ
 lent c = replicate (sizedBy (length (lines (c .lines))) (c .room)) 7
 
 -- what is given, and what is left of the buffer
-abbrev given : Case → Printed × List ℕ
-given c = (printed (explained (c .pass) (c .limit) (lines (c .text))) (length (lent c)), printedAfter (explained (c .pass) (c .limit) (lines (c .text))) (lent c))
+abbrev given : ExplainedCase → Printed × List ℕ
+given c = (
+  printed (explained (c .pass) (c .limit) (lines (c .text))) (length (lent c)),
+  printedAfter (explained (c .pass) (c .limit) (lines (c .text))) (lent c),
+)
 
 abbrev left : List ℕ → Room → Printed × List ℕ
 left l (over k) = (Bytes (length l), l ++ replicate k 7)
 left l (below k) = (Short, replicate (length l - k) 7)
 
-abbrev wanted : Case → Printed × List ℕ
+abbrev wanted : ExplainedCase → Printed × List ℕ
 wanted c = left (lines (c .lines)) (c .room)
 
-worked : map given table ≡ map wanted table
-unfolding lowest allBelow build sumBelow digitValue lineOk byteOf answerFrames tooShort mostFrames readText frameAt typeOf itemOf rowOf memberOf componentOf fieldsFit orderOk start startsOf namesOk earlyOk indexOk checkFrames readFile printed printedAfter listed typeIn equalTypes identical sameIn sameType canonicalTypeIn pointerBaseIn rowIn eachPart vectorParts outputs framesBytes digitOf charOf wordBytes W.table digits pieceBytes spelled picked named scalarWords around vector brief within pointer array cooperative className arrayedName image whole manner reason refusal judged said shown ending lineOf faultWords joined nextRow rowAt linesOf
+worked : map given explainedCases ≡ map wanted explainedCases
+unfolding lowest allBelow build sumBelow digitValue lineOk byteOf answerFrames tooShort mostFrames readText frameAt
+    typeOf itemOf rowOf memberOf componentOf fieldsFit orderOk start startsOf namesOk earlyOk indexOk checkFrames
+    readFile printed printedAfter listed typeIn equalTypes identical sameIn sameType canonicalTypeIn pointerBaseIn
+    rowIn eachPart vectorParts outputs framesBytes digitOf charOf wordBytes W.wordTable digits pieceBytes spelled
+    picked named scalarWords around vector brief within pointer arrayWords cooperativeWords className arrayedName
+    image whole manner reason refusal judgedWords said shown ending lineOf faultWords joined nextRow rowAt
+    linesOf
 worked = refl
 
 -- THE SIZES of a file's types: the same of `sizes_text`
@@ -80,7 +92,12 @@ abbrev wantedSizes : SizeCase → Printed × List ℕ
 wantedSizes c = left (lines (c .lines)) (c .room)
 
 sizes-worked : map givenSizes sizes ≡ map wantedSizes sizes
-unfolding lowest allBelow build sumBelow digitValue lineOk byteOf answerFrames tooShort mostFrames readText frameAt typeOf itemOf rowOf memberOf componentOf fieldsFit orderOk start startsOf namesOk earlyOk indexOk checkFrames readFile printed printedAfter typeIn digitOf charOf wordBytes W.table digits pieceBytes spelled picked named scalarWords around vector brief within pointer array cooperative className arrayedName image whole faultWords joined sizeWords sizeLineOf sizesOf framesOf measures measureIn arrayOf Sz.joined partsOf spanned structOf
+unfolding lowest allBelow build sumBelow digitValue lineOk byteOf answerFrames tooShort mostFrames readText frameAt
+    typeOf itemOf rowOf memberOf componentOf fieldsFit orderOk start startsOf namesOk earlyOk indexOk checkFrames
+    readFile printed printedAfter typeIn digitOf charOf wordBytes W.wordTable digits pieceBytes spelled picked named
+    scalarWords around vector brief within pointer arrayWords cooperativeWords className arrayedName image whole
+    faultWords joined sizeWords sizeLineOf sizesOf framesOf measures measureIn arrayOf Sz.joined partsOf
+    spanned structOf
 sizes-worked = refl
 
 -- THE RANGES of them: the same of `ranges_text`
@@ -98,5 +115,11 @@ abbrev wantedRanges : RangeCase → Printed × List ℕ
 wantedRanges c = left (lines (c .lines)) (c .room)
 
 ranges-worked : map givenRanges ranges ≡ map wantedRanges ranges
-unfolding lowest allBelow build sumBelow digitValue lineOk byteOf answerFrames tooShort mostFrames readText frameAt typeOf itemOf rowOf memberOf componentOf fieldsFit orderOk start startsOf namesOk earlyOk indexOk checkFrames readFile printed printedAfter typeIn digitOf charOf wordBytes W.table digits pieceBytes spelled picked named scalarWords around vector brief within pointer array cooperative className arrayedName image whole faultWords joined sizeWords spanWords sizeLineOf rangesOf framesOf arrayOf Sz.joined partsOf spanned structOf memberHolds holding holdsPending freshParts freshStruct measuresBy measureBy rangeIn faultySpan
+unfolding lowest allBelow build sumBelow digitValue lineOk byteOf answerFrames tooShort mostFrames readText frameAt
+    typeOf itemOf rowOf memberOf componentOf fieldsFit orderOk start startsOf namesOk earlyOk indexOk checkFrames
+    readFile printed printedAfter typeIn digitOf charOf wordBytes W.wordTable digits pieceBytes spelled picked named
+    scalarWords around vector brief within pointer arrayWords cooperativeWords className arrayedName image whole
+    faultWords joined sizeWords spanWords sizeLineOf rangesOf framesOf arrayOf Sz.joined partsOf spanned
+    structOf memberHolds holding holdsPending freshParts freshStruct measuresBy measureBy rangeIn
+    faultySpan
 ranges-worked = refl

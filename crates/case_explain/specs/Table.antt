@@ -12,7 +12,7 @@ pub data Room : Type 0 where
   over below : ℕ → Room
 
 -- a text, a limit of frames and a pass, all of its lines, and an output buffer's length
-pub record Case : Type 0 where
+pub record ExplainedCase : Type 0 where
   pub text : List String
   pub limit : ℕ
   pub pass : Pass
@@ -20,7 +20,7 @@ pub record Case : Type 0 where
   pub room : Room
 
 -- by the first pass, with just the room for them
-abbrev whole : List String → List String → Case
+abbrev whole : List String → List String → ExplainedCase
 whole t l = record { text = t; limit = maxFrames; pass = First; lines = l; room = over 0 }
 
 -- values of: a bool of four bytes, which has no name; a storage image; a pointer to a struct in storage; a struct
@@ -36,8 +36,8 @@ values =
     "04040300000000000000000000000000" ∷ []
 
 -- THE CASES
-abbrev pub table : List Case
-table =
+abbrev pub explainedCases : List ExplainedCase
+explainedCases =
     whole paper
     ("row 0  ptr<function, vec3<f32>>" ∷
     "row 1  value_ptr<function, f32>" ∷
@@ -63,10 +63,30 @@ table =
     ∷ whole ("0101" ∷ []) ("line 1: number 2, torn: not 32 digits and a line feed" ∷ [])
     ∷ whole [] []
     -- a text of eight lines, within seven frames; a limit of 0 counts as 1,024
-    ∷ record { text = values; limit = 7; pass = First; lines = "number 1, long: over 7 frames (231 bytes)" ∷ []; room = over 0 }
-    ∷ record { text = "0101" ∷ []; limit = 0; pass = First; lines = "line 1: number 2, torn: not 32 digits and a line feed" ∷ []; room = over 0 }
+    ∷ record {
+      text = values;
+      limit = 7;
+      pass = First;
+      lines = "number 1, long: over 7 frames (231 bytes)" ∷ [];
+      room
+          = over 0;
+    }
+    ∷ record {
+      text = "0101" ∷ [];
+      limit = 0;
+      pass = First;
+      lines
+          = "line 1: number 2, torn: not 32 digits and a line feed" ∷ [];
+      room = over 0;
+    }
     -- a value, by the second pass
-    ∷ record { text = "01010000020400000000000000000000" ∷ "04040000000000000000000000000000" ∷ []; limit = maxFrames; pass = Second; lines = "row 0  f32  (type 0)" ∷ []; room = over 0 }
+    ∷ record {
+      text = "01010000020400000000000000000000" ∷ "04040000000000000000000000000000" ∷ [];
+      limit = maxFrames;
+      pass = Second;
+      lines = "row 0  f32  (type 0)" ∷ [];
+      room = over 0;
+    }
     -- an i32 plus an f32, by the second pass
     ∷ record {
       text =
@@ -84,9 +104,30 @@ table =
       room = over 0;
     }
     -- bytes past the lines stay; one byte too few, and none at all, is number 3 and changes nothing
-    ∷ record { text = noCount; limit = maxFrames; pass = First; lines = "line 2: number 5, field: a byte is outside its values" ∷ []; room = over 3 }
-    ∷ record { text = noCount; limit = maxFrames; pass = First; lines = "line 2: number 5, field: a byte is outside its values" ∷ []; room = below 1 }
-    ∷ record { text = "0101" ∷ []; limit = maxFrames; pass = First; lines = "line 1: number 2, torn: not 32 digits and a line feed" ∷ []; room = below 54 }
+    ∷ record {
+      text = noCount;
+      limit = maxFrames;
+      pass = First;
+      lines
+          = "line 2: number 5, field: a byte is outside its values" ∷ [];
+      room = over 3;
+    }
+    ∷ record {
+      text = noCount;
+      limit = maxFrames;
+      pass = First;
+      lines
+          = "line 2: number 5, field: a byte is outside its values" ∷ [];
+      room = below 1;
+    }
+    ∷ record {
+      text = "0101" ∷ [];
+      limit = maxFrames;
+      pass = First;
+      lines
+          = "line 1: number 2, torn: not 32 digits and a line feed" ∷ [];
+      room = below 54;
+    }
     ∷ []
 
 -- A TEXT and the lines of its types' sizes, within a limit of frames, and an output buffer's length
@@ -131,8 +172,20 @@ sizes =
     ∷ sized [] []
     ∷ record { text = measured; limit = 7; lines = "number 1, long: over 7 frames (231 bytes)" ∷ []; room = over 0 }
     -- bytes past the lines stay; one byte too few is number 3 and changes nothing
-    ∷ record { text = "01010000020400000000000000000000" ∷ []; limit = maxFrames; lines = "type 0  f32  align 4, size 4" ∷ []; room = over 3 }
-    ∷ record { text = "01010000020400000000000000000000" ∷ []; limit = maxFrames; lines = "type 0  f32  align 4, size 4" ∷ []; room = below 1 }
+    ∷ record {
+      text = "01010000020400000000000000000000" ∷ [];
+      limit = maxFrames;
+      lines = "type 0  f32  align 4, size 4"
+          ∷ [];
+      room = over 3;
+    }
+    ∷ record {
+      text = "01010000020400000000000000000000" ∷ [];
+      limit = maxFrames;
+      lines = "type 0  f32  align 4, size 4"
+          ∷ [];
+      room = below 1;
+    }
     ∷ []
 
 -- A TEXT, least and greatest counts, and the lines of its types' ranges

@@ -1,1 +1,2 @@
-// No code: small texts and their lines for people stand in specs/Table.antt, and the one proof over them in proofs/Worked.antt.
+// No code: small texts and their lines for people stand in specs/Table.antt, and the one proof over them in
+// proofs/Worked.antt.

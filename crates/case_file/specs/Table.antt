@@ -1,4 +1,5 @@
--- Document 01, "Cases", P: worked cases, each the whole text and the whole output, written by hand from the document. Those after the first ten are more.
+-- Document 01, "Cases", P: worked cases, each the whole text and the whole output, written by hand from the document.
+-- Those after the first ten are more.
 use Prim.Native.Nat.{ℕ, _+_, _*_, _-_}
 use Prim.Native.String.{String}
 use mathlib.Core.Bool.{cond}
@@ -22,7 +23,7 @@ use Rattle.ir.specs.declared.VectorSize.the-variants as Vs
 use Rattle.frames.specs.declared.Frame.{Frame}
 use Rattle.frames.specs.Bytes.{frameAt}
 use Rattle.rule.specs.Answers.{number, given, told, count}
-use Rattle.explain_words.specs.Words.{characters}
+use Rattle.rule_explain.specs.Words.{characters}
 use Rattle.explain_words.specs.ForProofs.{lines}
 use Rattle.rule_file.specs.Typing.{RowGiven, VerdictGiven, noCompose}
 
@@ -44,16 +45,18 @@ frames (s ∷ ss) = paired (characters s) ++ frames ss
 abbrev frame : String → Frame
 frame s = frameAt (frames (s ∷ [])) 0
 
--- what is asked of a text: what the typing program prints; to read it; to type its rows, one row's type, and one compose's verdict, over a lent answer buffer;
--- whether two frames are the same type; the canonical form of a type, or its base
-pub data Asked : Type 0 where
-  print read : Asked
-  types : List ℕ → Asked
-  row verdict : ℕ → List ℕ → Asked
-  same : Frame → Frame → Asked
-  canonical base : ℕ → Asked
+-- what is asked of a text: what the typing program prints; to read it; to type its rows, one row's type, and one
+-- compose's verdict, over a lent answer buffer; whether two frames are the same type; the canonical form of a type, or
+-- its base
+pub data FileQuestion : Type 0 where
+  print read : FileQuestion
+  types : List ℕ → FileQuestion
+  row verdict : ℕ → List ℕ → FileQuestion
+  same : Frame → Frame → FileQuestion
+  canonical base : ℕ → FileQuestion
 
--- with the answer buffer after it, where one is lent; of the rows typed also how many frames are handed back, which `type_file` says
+-- with the answer buffer after it, where one is lent; of the rows typed also how many frames are handed back, which
+-- `type_file` says
 pub data Answered : Type 0 where
   printed : List ℕ → Answered
   outcome : Outcome → Answered
@@ -65,15 +68,15 @@ pub data Answered : Type 0 where
   baseIs : PointerBase → Answered
 
 -- a case: the text, the frame buffer lent and what is asked; the answer and the frame buffer after
-pub record Case : Type 0 where
+pub record FileCase : Type 0 where
   pub text : List ℕ
   pub lent : List ℕ
-  pub asked : Asked
+  pub asked : FileQuestion
   pub answer : Answered
   pub after : List ℕ
 
 -- what the typing program prints of a text; it lends buffers of its own
-abbrev prints : List ℕ → List String → Case
+abbrev prints : List ℕ → List String → FileCase
 prints t out = record { text = t; lent = []; asked = print; answer = printed (lines out); after = [] }
 
 -- the file whose rows the document types
@@ -134,8 +137,16 @@ composed =
     "0b1f0300040000000600000000000000" ∷ []
 
 -- a question about that file's rows, with an answer buffer of one byte more than it asks for
-abbrev ofComposes : Asked → Answered → Case
-ofComposes a answer = record { text = lines composes; lent = replicate 177 7; asked = a; answer = answer; after = frames composes ++ 7 ∷ [] }
+abbrev ofComposes : FileQuestion → Answered → FileCase
+ofComposes a answer =
+    record {
+      text = lines composes;
+      lent = replicate 177 7;
+      asked = a;
+      answer = answer;
+      after = frames composes
+          ++ 7 ∷ [];
+    }
 
 -- a constant array with count 0, after the scalar that it names
 abbrev pub noCount : List String
@@ -153,12 +164,19 @@ forms =
     "02000000000000000000000000000000" ∷ []
 
 -- two frames compared over that file
-abbrev compared : String → String → Sameness → Case
+abbrev compared : String → String → Sameness → FileCase
 compared l r answer =
-    record { text = lines forms; lent = replicate 81 7; asked = same (frame l) (frame r); answer = sameness answer; after = frames forms ++ 7 ∷ [] }
+    record {
+      text = lines forms;
+      lent = replicate 81 7;
+      asked = same (frame l)
+          (frame r);
+      answer = sameness answer;
+      after = frames forms ++ 7 ∷ [];
+    }
 
--- types 0 to 9: f32, vec3 of it, a pointer to type 0 in Function, one to type 1 in Private, kind 200, a pointer to it, the value pointers to f32 in Function and
--- to a vec3 of it in Uniform, an atomic of u32, a pointer to it in WorkGroup
+-- types 0 to 9: f32, vec3 of it, a pointer to type 0 in Function, one to type 1 in Private, kind 200, a pointer to it,
+-- the value pointers to f32 in Function and to a vec3 of it in Uniform, an atomic of u32, a pointer to it in WorkGroup
 abbrev pointers : List String
 pointers =
     "01010000020400000000000000000000" ∷
@@ -173,8 +191,16 @@ pointers =
     "01060800000002000000000000000000" ∷ []
 
 -- a question about that file's types
-abbrev ofPointers : Asked → Answered → Case
-ofPointers a answer = record { text = lines pointers; lent = replicate 161 7; asked = a; answer = answer; after = frames pointers ++ 7 ∷ [] }
+abbrev ofPointers : FileQuestion → Answered → FileCase
+ofPointers a answer =
+    record {
+      text = lines pointers;
+      lent = replicate 161 7;
+      asked = a;
+      answer = answer;
+      after = frames pointers
+          ++ 7 ∷ [];
+    }
 
 -- the fourteen kinds of type, two members, the eight kinds of item, the thirty-four kinds of row, three components
 abbrev file : List String
@@ -243,8 +269,8 @@ file =
 
 -- FILES THAT ARE NOT ACCEPTED
 
--- f32, a vec2 of it, row 0 a value of f32, row 1 a vec2 composed from row 0 twice: 6 frames, and 3 answers. A fault may stand in the vec2,
--- in row 0 or in the last component.
+-- f32, a vec2 of it, row 0 a value of f32, row 1 a vec2 composed from row 0 twice: 6 frames, and 3 answers. A fault may
+-- stand in the vec2, in row 0 or in the last component.
 abbrev pair : String → String → String → List String
 pair vec2 row0 last =
     "01010000020400000000000000000000" ∷
@@ -263,7 +289,8 @@ torn = pair "01020200020400000000000000000000" "0404000000000000000000000000000A
 
 -- number 4 at frame 5: a row after a component
 abbrev disordered : List String
-disordered = pair "01020200020400000000000000000000" "04040000000000000000000000000000" "04040000000000000000000000000000"
+disordered = pair "01020200020400000000000000000000" "04040000000000000000000000000000"
+    "04040000000000000000000000000000"
 
 -- number 5 at frame 1: a vector of 5
 abbrev unfit : List String
@@ -271,22 +298,38 @@ unfit = pair "01020500020400000000000000000000" "0404000000000000000000000000000
 
 -- number 6 at frame 5: a component that names its own compose
 abbrev misplaced : List String
-misplaced = pair "01020200020400000000000000000000" "04040000000000000000000000000000" "05000100000000000000000000000000"
+misplaced = pair "01020200020400000000000000000000" "04040000000000000000000000000000"
+    "05000100000000000000000000000000"
 
--- what `type_rows` (with `type_file`), `row_type` and `compose_verdict` do with a file that is not accepted ("Numbers handed back"): each gives
--- the file's number and place; no frame is handed back; the answer buffer `an` stays as it was; the frame buffer is `after`. Row 1 is a
--- compose, and row 9 none of the file's: that it is out of range is found out after the file is accepted, so it gets the file's number too.
-abbrev refused : List ℕ → List ℕ → List ℕ → Outcome → List ℕ → List Case
+-- what `type_rows` (with `type_file`), `row_type` and `compose_verdict` do with a file that is not accepted ("Numbers
+-- handed back"): each gives the file's number and place; no frame is handed back; the answer buffer `an` stays as it
+-- was; the frame buffer is `after`. Row 1 is a compose, and row 9 none of the file's: that it is out of range is found
+-- out after the file is accepted, so it gets the file's number too.
+abbrev refused : List ℕ → List ℕ → List ℕ → Outcome → List ℕ → List FileCase
 refused t lent an o after =
     record { text = t; lent = lent; asked = types an; answer = typesAre o 0 an; after = after }
     ∷ record { text = t; lent = lent; asked = row 1 an; answer = rowIs (RowGiven.notAccepted o) an; after = after }
     ∷ record { text = t; lent = lent; asked = row 9 an; answer = rowIs (RowGiven.notAccepted o) an; after = after }
-    ∷ record { text = t; lent = lent; asked = verdict 1 an; answer = verdictIs (VerdictGiven.notAccepted o) an; after = after }
-    ∷ record { text = t; lent = lent; asked = verdict 9 an; answer = verdictIs (VerdictGiven.notAccepted o) an; after = after }
+    ∷ record {
+      text = t;
+      lent = lent;
+      asked = verdict 1 an;
+      answer = verdictIs
+          (VerdictGiven.notAccepted o) an;
+      after = after;
+    }
+    ∷ record {
+      text = t;
+      lent = lent;
+      asked = verdict 9 an;
+      answer = verdictIs
+          (VerdictGiven.notAccepted o) an;
+      after = after;
+    }
     ∷ []
 
 -- 1 to 3 change no buffer; 4 to 6 write the frame buffer, whose byte past the frames stays
-abbrev refusals : List Case
+abbrev refusals : List FileCase
 refusals =
     -- 33,793 bytes, none of them in a whole line: 1 comes before 2
     refused (replicate 33793 10) (replicate 97 7) (replicate 49 9) (Long 1024) (replicate 97 7)
@@ -313,13 +356,14 @@ refusals =
       asked = types (replicate 49 9);
       answer =
           typesAre (Accepted 6) 3
-          (frames ("08000000000000000000000000000000" ∷ "08000100000000000000000000000000" ∷ "0b000100000000000000000000000000" ∷ []) ++ 9 ∷ []);
+          (frames ("08000000000000000000000000000000" ∷ "08000100000000000000000000000000"
+          ∷ "0b000100000000000000000000000000" ∷ []) ++ 9 ∷ []);
       after = frames sound ++ 7 ∷ [];
     }
     ∷ []
 
-abbrev pub table : List Case
-table =
+abbrev pub fileCases : List FileCase
+fileCases =
     -- the document's file, and its six lines
     prints (lines paper)
     ("09060100000000000000000000000000" ∷
@@ -353,13 +397,31 @@ table =
     ∷ compared "08000200000000000000000000000000" "08000300000000000000000000000000" Different
     -- MORE: the buffers of the empty file, of the array and of the 1,025 lines
     ∷ record { text = []; lent = 7 ∷ []; asked = read; answer = outcome (Accepted 0); after = 7 ∷ [] }
-    ∷ record { text = lines noCount; lent = replicate 33 7; asked = read; answer = outcome (Field 1); after = frames noCount ++ 7 ∷ [] }
-    ∷ record { text = lines (replicate 1025 "01010000020400000000000000000000"); lent = 7 ∷ []; asked = read; answer = outcome (Long 1024); after = 7 ∷ [] }
-    -- rows over buffers that are lent: all, one, and one compose; a row that the file does not have, and one that is no compose, leave the answer buffer
+    ∷ record {
+      text = lines noCount;
+      lent = replicate 33 7;
+      asked = read;
+      answer = outcome
+          (Field 1);
+      after = frames noCount ++ 7 ∷ [];
+    }
+    ∷ record {
+      text = lines
+          (replicate 1025 "01010000020400000000000000000000");
+      lent = 7 ∷ [];
+      asked = read;
+      answer = outcome
+          (Long 1024);
+      after = 7 ∷ [];
+    }
+    -- rows over buffers that are lent: all, one, and one compose; a row that the file does not have, and one that is no
+    -- compose, leave the answer buffer
     ∷ ofComposes (types (replicate 97 9)) (typesAre (Accepted 11) 6 (frames composed ++ 9 ∷ []))
-    ∷ ofComposes (row 3 (replicate 97 9)) (rowIs (RowGiven.answer (told (given (number (record { 0 = 2 }))))) (frames composed ++ 9 ∷ []))
+    ∷ ofComposes (row 3 (replicate 97 9))
+    (rowIs (RowGiven.answer (told (given (number (record { 0 = 2 }))))) (frames composed ++ 9 ∷ []))
     ∷ ofComposes (row 4 (replicate 97 9)) (rowIs RowGiven.noRow (replicate 97 9))
-    ∷ ofComposes (verdict 3 (replicate 97 9)) (verdictIs (VerdictGiven.verdict (told (count 4 6))) (frames composed ++ 9 ∷ []))
+    ∷ ofComposes (verdict 3 (replicate 97 9))
+    (verdictIs (VerdictGiven.verdict (told (count 4 6))) (frames composed ++ 9 ∷ []))
     ∷ ofComposes (verdict 1 (replicate 97 9)) (verdictIs noCompose (replicate 97 9))
     ∷ ofComposes (verdict 4 (replicate 97 9)) (verdictIs VerdictGiven.noRow (replicate 97 9))
     -- the value pointer of a pointer to a scalar or vector, in its space; every other type is its own, by its number
@@ -367,11 +429,19 @@ table =
     ∷ ofPointers (canonical 3) (canonicalIs (Ct.Form (Tr.Value (Ti.ValuePointer (Ov.Some Vs.Tri) F32 Sp.Private))))
     ∷ ofPointers (canonical 9) (canonicalIs (Ct.Form (Tr.Handle (record { 0 = 9 }))))
     ∷ ofPointers (canonical 6) (canonicalIs (Ct.Form (Tr.Handle (record { 0 = 6 }))))
-    -- 22 where the type, or a pointer's base, is of unknown kind; 6 for a number out of range; the file's own number first
+    -- 22 where the type, or a pointer's base, is of unknown kind; 6 for a number out of range; the file's own number
+    -- first
     ∷ ofPointers (canonical 4) (canonicalIs Ct.Newer)
     ∷ ofPointers (canonical 5) (canonicalIs Ct.Newer)
     ∷ ofPointers (canonical 10) (canonicalIs Ct.Index)
-    ∷ record { text = lines noCount; lent = replicate 33 7; asked = canonical 10; answer = canonicalIs (Ct.NotAccepted (Field 1)); after = frames noCount ++ 7 ∷ [] }
+    ∷ record {
+      text = lines noCount;
+      lent = replicate 33 7;
+      asked = canonical 10;
+      answer = canonicalIs
+          (Ct.NotAccepted (Field 1));
+      after = frames noCount ++ 7 ∷ [];
+    }
     -- the base: a number, also where its kind is unknown; of a value pointer a scalar or a vector by value; no pointer
     ∷ ofPointers (base 2) (baseIs (Pb.Base (Tr.Handle (record { 0 = 0 }))))
     ∷ ofPointers (base 5) (baseIs (Pb.Base (Tr.Handle (record { 0 = 4 }))))
@@ -380,10 +450,31 @@ table =
     ∷ ofPointers (base 0) (baseIs Pb.NotPointer)
     ∷ ofPointers (base 4) (baseIs Pb.Newer)
     ∷ ofPointers (base 10) (baseIs Pb.Index)
-    ∷ record { text = lines noCount; lent = replicate 33 7; asked = base 10; answer = baseIs (Pb.NotAccepted (Field 1)); after = frames noCount ++ 7 ∷ [] }
+    ∷ record {
+      text = lines noCount;
+      lent = replicate 33 7;
+      asked = base 10;
+      answer = baseIs
+          (Pb.NotAccepted (Field 1));
+      after = frames noCount ++ 7 ∷ [];
+    }
     -- the paper's file is read to its last row
-    ∷ record { text = lines paper; lent = replicate 176 7; asked = read; answer = outcome (Accepted 11); after = frames paper }
+    ∷ record {
+      text = lines paper;
+      lent = replicate 176 7;
+      asked = read;
+      answer = outcome
+          (Accepted 11);
+      after = frames paper;
+    }
     -- a frame of each kind
-    ∷ record { text = lines file; lent = replicate 976 7; asked = read; answer = outcome (Accepted 61); after = frames file }
+    ∷ record {
+      text = lines file;
+      lent = replicate 976 7;
+      asked = read;
+      answer = outcome
+          (Accepted 61);
+      after = frames file;
+    }
     -- files that are not accepted
     ∷ refusals

@@ -1,5 +1,6 @@
--- The worked examples: of each, reading the text, the answer buffer that `type_rows` leaves, the comparisons of `same_type`, the later reader of the choice, and the
--- readings give what stands in its tables. Both sides compute to the same. Assumes nothing.
+-- The worked examples: of each, reading the text, the answer buffer that `type_rows` leaves, the comparisons of
+-- `same_type`, the later reader of the choice, and the readings give what stands in its tables. Both sides compute to
+-- the same.
 use Prim.Native.Nat.{ℕ, _*_}
 use mathlib.Core.Path.{_≡_, refl}
 use mathlib.Core.List.{List, [], _∷_, _++_, map}
@@ -38,7 +39,7 @@ use Rattle.rule_file.specs.Types.{sameTypes}
 use Rattle.rule_file.specs.Typing.{answersAfter}
 use Rattle.law_later_readers.specs.Reader.{rowBytes, verdictBytes, saidBytes, comparedBytes, theirs, meets}
 use Rattle.law_later_readers.specs.Ours.{framesFor, answersFor}
-use Rattle.case_later.specs.Tables.{Asked, row, verdict, Two, Line, Example}
+use Rattle.case_later.specs.Tables.{LaterQuestion, row, verdict, Two, LaterLine, Example}
 use Rattle.case_later.specs.Worked as Worked
 use Rattle.case_later.specs.Chosen as Chosen
 
@@ -50,10 +51,11 @@ module _ (e : Example) where
   -- THE LATER READER'S; a row that is no compose has no verdict
 
   abbrev laterVerdict : ℕ → Option (Rule Judgement) → List ℕ
-  laterVerdict m (some rule) = verdictBytes m (theirs First fr (e .choice) m (chosenJudgement (e .choice .verdicts m)) rule)
+  laterVerdict m (some rule) = verdictBytes m
+      (theirs First fr (e .choice) m (chosenJudgement (e .choice .verdicts m)) rule)
   laterVerdict m none = []
 
-  abbrev byLater : Asked → List ℕ
+  abbrev byLater : LaterQuestion → List ℕ
   byLater (row m) = rowBytes (theirs First fr (e .choice) m (rowAnswerOf (e .choice .rows m)) (typing First m))
   byLater (verdict m) = laterVerdict m (verdictRule (see fr) m)
 
@@ -63,36 +65,37 @@ module _ (e : Example) where
   metByVerdict m (some rule) = meets First fr m rule
   metByVerdict m none = none
 
-  abbrev metBy : Asked → Option Place
+  abbrev metBy : LaterQuestion → Option Place
   metBy (row m) = meets First fr m (typing First m)
   metBy (verdict m) = metByVerdict m (verdictRule (see fr) m)
 
   -- OF TWO FRAMES, a whole line: ours by `sameTypes`, which the contract of `same_type` cites
-  abbrev compared : Two → Line Two
+  abbrev compared : Two → LaterLine Two
   compared q =
       let rule = handed (typeAnswerOf (q .left)) (typeAnswerOf (q .right)) in
       record {
         asked = q;
-        ours = saidBytes (samenessSaid (sameTypes maxFrames (e .text) (length (framesFor (e .text))) (q .left) (q .right)));
+        ours = saidBytes (samenessSaid
+            (sameTypes maxFrames (e .text) (length (framesFor (e .text))) (q .left) (q .right)));
         theirs = comparedBytes (theirs First fr (e .choice) 0 (e .choice .same (q .left) (q .right)) rule);
         meets = meets First fr 0 rule;
       }
 
-  -- ALL OF IT: reading the text; the answer buffer, by `answersAfter`, which the contract of `type_rows` cites; the later reader's answers; what their readings
-  -- meet; the comparisons
+  -- ALL OF IT: reading the text; the answer buffer, by `answersAfter`, which the contract of `type_rows` cites; the
+  -- later reader's answers; what their readings meet; the comparisons
   abbrev Whole : Type 0
-  Whole = Outcome × List ℕ × List (List ℕ) × List (Option Place) × List (Line Two)
+  Whole = Outcome × List ℕ × List (List ℕ) × List (Option Place) × List (LaterLine Two)
 
   abbrev computed : Whole
   computed = (
     readFile maxFrames (e .text) (16 * lineCount (e .text)) (Lent (answerBytes (e .text))),
     answersAfter First maxFrames (e .text) (length (framesFor (e .text))) (answersFor (e .text)),
-    map (λ (l : Line Asked). byLater (l .asked)) (e .answers),
-    map (λ (l : Line Asked). metBy (l .asked)) (e .answers),
-    map (λ (l : Line Two). compared (l .asked)) (e .comparisons),
+    map (λ (l : LaterLine LaterQuestion). byLater (l .asked)) (e .answers),
+    map (λ (l : LaterLine LaterQuestion). metBy (l .asked)) (e .answers),
+    map (λ (l : LaterLine Two). compared (l .asked)) (e .comparisons),
   )
 
-  abbrev oursOf : List (Line Asked) → List ℕ
+  abbrev oursOf : List (LaterLine LaterQuestion) → List ℕ
   oursOf [] = []
   oursOf (l ∷ ls) = l .ours ++ oursOf ls
 
@@ -100,8 +103,8 @@ module _ (e : Example) where
   written = (
     Accepted (e .frames),
     oursOf (e .answers),
-    map (λ (l : Line Asked). l .theirs) (e .answers),
-    map (λ (l : Line Asked). l .meets) (e .answers),
+    map (λ (l : LaterLine LaterQuestion). l .theirs) (e .answers),
+    map (λ (l : LaterLine LaterQuestion). l .meets) (e .answers),
     e .comparisons,
   )
 
@@ -109,10 +112,16 @@ module _ (e : Example) where
   IsAsWritten = computed ≡ written
 
 worked : IsAsWritten Worked.example
-unfolding lowest allBelow build sumBelow digitValue digitOf lineOk byteOf charOf answerFrames tooShort mostFrames readText frameAt typeOf itemOf rowOf memberOf componentOf fieldsFit orderOk start startsOf namesOk earlyOk indexOk checkFrames readFile typeIn rowIn listed equalTypes identical sameIn sameType eachPart vectorParts outputs framesBytes sameTypes answersAfter
+unfolding lowest allBelow build sumBelow digitValue digitOf lineOk byteOf charOf answerFrames tooShort mostFrames
+    readText frameAt typeOf itemOf rowOf memberOf componentOf fieldsFit orderOk start startsOf namesOk earlyOk indexOk
+    checkFrames readFile typeIn rowIn listed equalTypes identical sameIn sameType eachPart vectorParts outputs
+    framesBytes sameTypes answersAfter
 worked = refl
 
 -- and with chosen answers that no rule of ours makes
 chosen-worked : IsAsWritten Chosen.example
-unfolding lowest allBelow build sumBelow digitValue digitOf lineOk byteOf charOf answerFrames tooShort mostFrames readText frameAt typeOf itemOf rowOf memberOf componentOf fieldsFit orderOk start startsOf namesOk earlyOk indexOk checkFrames readFile typeIn rowIn listed equalTypes identical sameIn sameType eachPart vectorParts outputs framesBytes sameTypes answersAfter
+unfolding lowest allBelow build sumBelow digitValue digitOf lineOk byteOf charOf answerFrames tooShort mostFrames
+    readText frameAt typeOf itemOf rowOf memberOf componentOf fieldsFit orderOk start startsOf namesOk earlyOk indexOk
+    checkFrames readFile typeIn rowIn listed equalTypes identical sameIn sameType eachPart vectorParts outputs
+    framesBytes sameTypes answersAfter
 chosen-worked = refl

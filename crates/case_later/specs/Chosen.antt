@@ -1,15 +1,21 @@
--- A second worked example, written by hand from document 01 ("A row's type", its last paragraphs): a later reader that chooses answers which no rule of ours makes. Each is
--- passed on as it stands by a rule that looks into nothing. A type among them that is looked into counts as one of unknown kind: there the row's own choice stands, and in a
--- verdict's comparison the whole verdict is the chosen one. A refusal and a 22 among them are passed on before any look, and count as such in a verdict.
+-- A second worked example, written by hand from document 01 ("A row's type", its last paragraphs): a later reader that
+-- chooses answers which no rule of ours makes. Each is passed on as it stands by a rule that looks into nothing. A type
+-- among them that is looked into counts as one of unknown kind: there the row's own choice stands, and in a verdict's
+-- comparison the whole verdict is the chosen one. A refusal and a 22 among them are passed on before any look, and
+-- count as such in a verdict.
 use Prim.Native.Nat.{ℕ}
 use mathlib.Core.Bool.{cond}
 use mathlib.Core.List.{List, [], _∷_, _++_}
 use lib.Dec.{eqb}
 use Rattle.text.specs.Lines.{textOf}
 use Rattle.rule.specs.Answers.{component, told, alike}
-use Rattle.frames.specs.Written.{full, short, plain, marked, indexed, binary, compose, part, numbered, scalar, vector, refusal}
+use Rattle.frames.specs.Written.{full, short, plainRow, marked, indexed, binary, compose, part, numbered, scalar}
+use Rattle.frames.specs.Written.{vector}
+use Rattle.frames.specs.Written.{refusal}
 use Rattle.law_later_readers.specs.Reader.{Choice}
-use Rattle.case_later.specs.Tables.{frame, Asked, row, verdict, Two, Line, known, newer, atRow, judged, two, Example}
+use Rattle.case_later.specs.Tables.{frame, LaterQuestion, row, verdict, Two, LaterLine, known, newer, atRow}
+use Rattle.case_later.specs.Tables.{verdictOfRow, two}
+use Rattle.case_later.specs.Tables.{Example}
 
 abbrev types : List ℕ
 types =
@@ -25,20 +31,21 @@ members = short 2 0 0 0 0 0 0 0 ++ short 2 0 4 0 0 0 0 0
 abbrev rows : List ℕ
 rows =
     -- 0 and 1: a zero of type 0, and one of type 2
-    plain 4 0 ++ plain 4 2
+    plainRow 4 0 ++ plainRow 4 2
     -- 2: a row of kind 99. 3: the negation of it. 4: component 0 of it
-    ++ plain 99 0 ++ plain 17 2 ++ indexed 7 2 0
+    ++ plainRow 99 0 ++ plainRow 17 2 ++ indexed 7 2 0
     -- 5: a Math row. 6: the negation of it. 7: component 0 of row 6. 8: rows 5 and 2 multiplied
-    ++ plain 22 0 ++ plain 17 5 ++ indexed 7 6 0 ++ binary 2 5 2
+    ++ plainRow 22 0 ++ plainRow 17 5 ++ indexed 7 6 0 ++ binary 2 5 2
     -- 9: a Math row. 10: rows 9 and 0 added. 11: a vector of two from row 9 (Splat)
-    ++ plain 22 0 ++ binary 0 9 0 ++ marked 8 9 2
+    ++ plainRow 22 0 ++ binary 0 9 0 ++ marked 8 9 2
     -- 12: a Math row. 13: a Select that accepts it. 14: its load
-    ++ plain 22 0 ++ plain 19 12 ++ plain 13 12
+    ++ plainRow 22 0 ++ plainRow 19 12 ++ plainRow 13 12
     -- 15: a Math row. 16: the negation of it. 17: component 0 of row 16
-    ++ plain 22 0 ++ plain 17 15 ++ indexed 7 16 0
+    ++ plainRow 22 0 ++ plainRow 17 15 ++ indexed 7 16 0
     -- 18: a Math row. 19: a derivative of it. 20: component 0 of it
-    ++ plain 22 0 ++ plain 20 18 ++ indexed 7 18 0
-    -- 21: type 3 from rows 0 and 1. 22: type 3 from rows 6 and 2. 23: type 1 from row 13. 24: type 1 from rows 0 and 16. 25: type 5 from row 19. 26: type 1 from row 3
+    ++ plainRow 22 0 ++ plainRow 20 18 ++ indexed 7 18 0
+    -- 21: type 3 from rows 0 and 1. 22: type 3 from rows 6 and 2. 23: type 1 from row 13. 24: type 1 from rows 0 and
+    -- 16. 25: type 5 from row 19. 26: type 1 from row 3
     ++ compose 3 2 0 ++ compose 3 2 2 ++ compose 1 1 4 ++ compose 1 2 5 ++ compose 5 1 7 ++ compose 1 1 8
 
 abbrev components : List ℕ
@@ -77,7 +84,8 @@ record ForRow : Type 0 where
 abbrev forRow : ℕ → List ℕ → ForRow
 forRow m b = record { number = m; answer = b }
 
--- for the rows of newer kinds, and for the rows that look into a type among these; the others are not asked for, as their rules come to nothing newer
+-- for the rows of newer kinds, and for the rows that look into a type among these; the others are not asked for, as
+-- their rules come to nothing newer
 abbrev chosenRows : List ForRow
 chosenRows =
     forRow 2 chosenRefusal
@@ -98,14 +106,19 @@ answerFor (x ∷ l) m = cond (eqb (x .number) m) (x .answer) (answerFor l m)
 
 -- every verdict is one with a number of its own, on row 7
 abbrev chosenVerdict : List ℕ
-chosenVerdict = judged 7 99 0
+chosenVerdict = verdictOfRow 7 99 0
 
 abbrev choice : Choice
-choice = record { rows = λ m. frame (answerFor chosenRows m); verdicts = λ m. frame chosenVerdict; same = λ a b. told alike }
+choice = record {
+  rows = λ m. frame
+      (answerFor chosenRows m);
+  verdicts = λ m. frame chosenVerdict;
+  same = λ a b. told alike;
+}
 
 -- THE TABLES
 
-abbrev answers : List (Line Asked)
+abbrev answers : List (LaterLine LaterQuestion)
 answers =
     known (row 0) (numbered 0)
     ∷ known (row 1) (numbered 2)
@@ -131,31 +144,32 @@ answers =
     ∷ newer (row 15) (refusal 22 15) chosen22 (atRow 15)
     ∷ newer (row 16) (refusal 22 15) chosen22 (atRow 15)
     ∷ newer (row 17) (refusal 22 15) chosen22 (atRow 15)
-    -- a struct as a value: passed on; looked into, it is of unknown kind, as a comparison gives it 5, and its member is not found
+    -- a struct as a value: passed on; looked into, it is of unknown kind, as a comparison gives it 5, and its member is
+    -- not found
     ∷ newer (row 18) (refusal 22 18) structValue (atRow 18)
     ∷ newer (row 19) (refusal 22 18) structValue (atRow 18)
     ∷ newer (row 20) (refusal 22 18) (refusal 99 5) (atRow 18)
     -- component 0 is identical to type 0; the comparison of component 1 looks into type 2, of unknown kind
     ∷ known (row 21) (numbered 3)
-    ∷ newer (verdict 21) (judged 21 22 1) chosenVerdict (component 1)
+    ∷ newer (verdict 21) (verdictOfRow 21 22 1) chosenVerdict (component 1)
     -- the comparison of component 0 looks into the value with a bad byte; component 1, which is refused, is not come to
     ∷ known (row 22) (numbered 3)
-    ∷ newer (verdict 22) (judged 22 22 0) chosenVerdict (component 0)
+    ∷ newer (verdict 22) (verdictOfRow 22 22 0) chosenVerdict (component 0)
     -- a part of a vector is looked into: a number out of range
     ∷ known (row 23) (numbered 1)
-    ∷ newer (verdict 23) (judged 23 22 0) chosenVerdict (component 0)
+    ∷ newer (verdict 23) (verdictOfRow 23 22 0) chosenVerdict (component 0)
     -- a chosen 22 as a component is 22 at that component
     ∷ known (row 24) (numbered 1)
-    ∷ newer (verdict 24) (judged 24 22 1) (judged 24 22 1) (component 1)
+    ∷ newer (verdict 24) (verdictOfRow 24 22 1) (verdictOfRow 24 22 1) (component 1)
     -- the member's type, 4, is the number of a struct: another type, without a look into the struct as a value
     ∷ known (row 25) (numbered 5)
-    ∷ newer (verdict 25) (judged 25 22 0) (judged 25 32 0) (component 0)
+    ∷ newer (verdict 25) (verdictOfRow 25 22 0) (verdictOfRow 25 32 0) (component 0)
     -- a chosen refusal as a component is 33
     ∷ known (row 26) (numbered 1)
-    ∷ newer (verdict 26) (judged 26 22 0) (judged 26 33 0) (component 0)
+    ∷ newer (verdict 26) (verdictOfRow 26 22 0) (verdictOfRow 26 33 0) (component 0)
     ∷ []
 
-abbrev comparisons : List (Line Two)
+abbrev comparisons : List (LaterLine Two)
 comparisons =
     -- two frames handed in get their 5 or 6 before any look, whatever the choice is
     known (two badByte (numbered 2)) (refusal 5 0)

@@ -1,4 +1,5 @@
--- Every row of the worked files, and the files' acceptance, is what the definitions give: both sides compute to the same. Assumes nothing.
+-- Every row of the worked files, and the files' acceptance, is what the definitions give: both sides compute to the
+-- same.
 use Prim.Native.Nat.{ℕ}
 use mathlib.Core.Path.{_≡_, refl}
 use mathlib.Core.List.{List, map}
@@ -19,18 +20,21 @@ use Rattle.rule.specs.Things.{listed, see}
 use Rattle.rule.specs.InOrder.{answers}
 use Rattle.rule_rows.specs.declared.Pass.the-variants as Pa
 use Rattle.rule_rows.specs.Typed.{typing}
-use Rattle.case_rows.specs.Lines.{Case, fileOf, wanted}
-use Rattle.case_rows.specs.Cases.{table}
+use Rattle.case_rows.specs.Lines.{RowCase, fileOf, wantedAnswers}
+use Rattle.case_rows.specs.Cases.{rowCases}
 
 -- the answers of a file's first n rows, as bytes
 abbrev given : List ℕ → ℕ → List (List ℕ)
 given file n = map (λ (a : Result Typed). bytesOf (rowFrame a)) (answers (see file) (typing Pa.First) (λ m. newer) n)
 
-worked : map (λ (c : Case). given (fileOf c) (length (wanted c))) table ≡ map wanted table
-unfolding listed typeIn rowIn frameAt typeOf memberOf itemOf rowOf componentOf start startsOf lowest allBelow build sumBelow
+worked : map (λ (c : RowCase). given (fileOf c) (length (wantedAnswers c))) rowCases ≡ map wantedAnswers rowCases
+unfolding listed typeIn rowIn frameAt typeOf memberOf itemOf rowOf componentOf start startsOf lowest allBelow build
+    sumBelow
 worked = refl
 
 -- each file passes checks 4 to 6
-accepted : map (λ (c : Case). checkFrames (fileOf c)) table ≡ map (λ (c : Case). Accepted (frameCount (fileOf c))) table
-unfolding lowest allBelow build sumBelow frameAt typeOf itemOf rowOf memberOf componentOf fieldsFit orderOk start startsOf namesOk earlyOk indexOk checkFrames
+accepted : map (λ (c : RowCase). checkFrames (fileOf c)) rowCases
+    ≡ map (λ (c : RowCase). Accepted (frameCount (fileOf c))) rowCases
+unfolding lowest allBelow build sumBelow frameAt typeOf itemOf rowOf memberOf componentOf fieldsFit orderOk start
+    startsOf namesOk earlyOk indexOk checkFrames
 accepted = refl

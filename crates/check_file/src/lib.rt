@@ -18,8 +18,6 @@ use frames::Frame;
 use frames::frame_at;
 use frames::frame_count;
 use frames_rows::item_of;
-use ir::ComponentNumber;
-use ir::MemberNumber;
 use ir::RowNumber;
 use ir::TypeNumber;
 use ir::numbers::is_compose;
@@ -87,9 +85,9 @@ fn members_of(s: Starts, n: TypeNumber, f: Frame) -> Held
     requires { ⌜ s .members ≤ maxFrames ⌝ }
     ensures { λ r. ⌜ r ≡ membersOf s n f ⌝ }
 {
-    let first = MemberNumber(f.named());
+    let first = f.first_member();
     let from = s.members + (first.0 as usize);
-    let to = least(from + (f.second() as usize), s.constants);
+    let to = least(from + (f.count() as usize), s.constants);
     Held::Parts {
         from,
         to,
@@ -102,9 +100,9 @@ fn components_of(s: Starts, n: RowNumber, f: Frame) -> Held
     requires { ⌜ s .components ≤ maxFrames ⌝ }
     ensures { λ r. ⌜ r ≡ componentsOf s n f ⌝ }
 {
-    let first = ComponentNumber(f.last());
+    let first = f.first_component();
     let from = s.components + (first.0 as usize);
-    let to = least(from + (f.second() as usize), s.end);
+    let to = least(from + (f.count() as usize), s.end);
     Held::Parts {
         from,
         to,
@@ -127,7 +125,8 @@ fn held_by(s: Starts, k: usize, f: Frame) -> Held
     Held::Nothing
 }
 
-// Whether a part is earlier than its owner: the type of a member than the struct, and the row of a component than the compose.
+// Whether a part is earlier than its owner: the type of a member than the struct, and the row of a component than the
+// compose.
 fn is_early(owner: Owner, f: Frame) -> bool
     ensures { λ r. ⌜ r ≡ isEarly owner f ⌝ }
 {

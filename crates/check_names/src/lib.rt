@@ -25,7 +25,8 @@ ghost use lib.Dec.{leb, ltb};
 ghost use Rattle.frames.specs.Bytes.{half};
 ghost use Rattle.frames.specs.Forms.{rowAs, rowOf};
 ghost use Rattle.archive.specs.Starts.{memberCount, componentCount};
-ghost use Rattle.archive.specs.Names.{isType, sizeNames, typeNames, typeFormNames, resultNames, itemNames, isEarlier, queryNames, relationalNames, rowFormNames};
+ghost use Rattle.archive.specs.Names.{isType, sizeNames, typeNames, typeFormNames, resultNames, itemNames, isEarlier};
+ghost use Rattle.archive.specs.Names.{queryNames, relationalNames, rowFormNames};
 
 // Row m is earlier than row n.
 pub fn is_earlier(n: RowNumber, m: RowNumber) -> bool
@@ -130,16 +131,16 @@ fn compose_names(s: Starts, ty: TypeNumber, count: u16, first: ComponentNumber) 
 fn names_earlier(n: RowNumber, f: Frame) -> bool
     ensures { λ r. ⌜ r ≡ isEarlier n (record { 0 = half f 2 }) ⌝ }
 {
-    let m = f.named();
-    is_earlier(n, RowNumber(m))
+    let m = f.operand();
+    is_earlier(n, m)
 }
 
 // Bytes 2 and 3 name a type.
 fn names_type(s: Starts, f: Frame) -> bool
     ensures { λ r. ⌜ r ≡ isType s (record { 0 = half f 2 }) ⌝ }
 {
-    let t = f.named();
-    is_type(s, TypeNumber(t))
+    let t = f.ty();
+    is_type(s, t)
 }
 
 // Bytes 2 and 3 name an item of the frames from `first` up to `last`.
@@ -160,19 +161,14 @@ fn kind_names(s: Starts, n: RowNumber, kind: RowKind, f: Frame) -> bool
         RowKind::GlobalVariable => names_item(s.globals, s.arguments, f),
         RowKind::LocalVariable => names_item(s.locals, s.functions, f),
         RowKind::CallResult => names_item(s.functions, s.intersections, f),
-        RowKind::Compose => compose_names(
-            s,
-            TypeNumber(f.named()),
-            f.second(),
-            ComponentNumber(f.last()),
-        ),
-        RowKind::ImageQuery => query_names(n, RowNumber(f.named()), ImageQuery::from_number(f.b6)),
+        RowKind::Compose => compose_names(s, f.ty(), f.count(), f.first_component()),
+        RowKind::ImageQuery => query_names(n, f.operand(), ImageQuery::from_number(f.b6)),
         RowKind::Relational => relational_names(
             n,
             RelationalFunction::from_number(f.b6),
-            RowNumber(f.named()),
+            f.operand(),
         ),
-        RowKind::Binary => names_earlier(n, f) & is_earlier(n, RowNumber(f.second())),
+        RowKind::Binary => names_earlier(n, f) & is_earlier(n, f.right()),
         RowKind::ZeroValue
         | RowKind::AtomicResult
         | RowKind::WorkGroupUniformLoadResult

@@ -1,4 +1,4 @@
--- A file within two limits (document 02, request 7) has the same lines for people at either. From `over-alike`. Assumes nothing.
+-- A file within two limits (document 02, request 7) has the same lines for people at either. From `over-alike`.
 use Prim.Native.Nat.{ℕ, _*_, _≤_}
 use mathlib.Core.Path.{_≡_, ap}
 use mathlib.Core.List.{List}
@@ -9,14 +9,16 @@ use Rattle.text.specs.Reading.{mostFrames}
 use Rattle.archive.specs.Starts.{startsOf}
 use Rattle.rule_rows.specs.declared.Pass.{Pass}
 use Rattle.rule_ranges.specs.Counts.{Counts}
-use Rattle.rule_file.proofs.Alike.{over-alike}
-use Rattle.explain_file.specs.Explained.{allOf, faultLines, fileLines, linesOf, explained}
-use Rattle.explain_file.specs.Sized.{fileSizes, sizesOf, sized, rangesIn, rangesOf, ranged}
+use Rattle.law_file.proofs.Alike.{over-alike}
+use Rattle.rule_explain.specs.Explained.{allOf, faultLines, fileLines, linesOf, explained}
+use Rattle.rule_explain.specs.Sized.{fileSizes, sizesOf, sized, rangesIn, rangesOf, ranged}
 
-pub explained-alike : (pass : Pass) (limit other : ℕ) (t : List ℕ) → length t ≤ 33 * mostFrames limit → length t ≤ 33 * mostFrames other
+pub explained-alike : (pass : Pass) (limit other : ℕ) (t : List ℕ) → length t ≤ 33 * mostFrames limit
+    → length t ≤ 33 * mostFrames other
     → explained pass limit t ≡ explained pass other t
 unfolding linesOf
-explained-alike pass limit other t a b = ap allOf (over-alike limit other t a b faultLines (fileLines pass) maxFrameBytes (Lent maxAnswerBytes))
+explained-alike pass limit other t a b = ap allOf
+    (over-alike limit other t a b faultLines (fileLines pass) maxFrameBytes (Lent maxAnswerBytes))
 
 -- and so have the sizes of its types, and their ranges
 pub sized-alike : (limit other : ℕ) (t : List ℕ) → length t ≤ 33 * mostFrames limit → length t ≤ 33 * mostFrames other
@@ -29,4 +31,5 @@ pub ranged-alike : (least greatest : Counts) (limit other : ℕ) (t : List ℕ) 
     → ranged limit least greatest t ≡ ranged other least greatest t
 unfolding rangesOf
 ranged-alike least greatest limit other t a b =
-    ap allOf (over-alike limit other t a b faultLines (λ (fr : List ℕ). rangesIn fr (startsOf fr) least greatest) maxFrameBytes NotLent)
+    ap allOf (over-alike limit other t a b faultLines
+    (λ (fr : List ℕ). rangesIn fr (startsOf fr) least greatest) maxFrameBytes NotLent)

@@ -1,5 +1,5 @@
--- ALL OF IT FITS: `maxExplainedBytes` hold the whole text for people of every file, which has at most two lines of at most 142 bytes for each frame. From the length of a line and the number of frames
--- handed back. Assumes nothing.
+-- ALL OF IT FITS: `maxExplainedBytes` hold the whole text for people of every file, which has at most two lines of at
+-- most 142 bytes for each frame. From the length of a line and the number of frames handed back.
 use Prim.Native.Nat.{ℕ, _≤_}
 use native.Mathlib.Omega.{arith}
 use mathlib.Core.Path.{_≡_, refl}
@@ -25,11 +25,13 @@ use Rattle.type_sizes.proofs.Written.{frames-long}
 use Rattle.rule_rows.specs.declared.Pass.{Pass}
 use Rattle.rule_answers.specs.Outputs.{outputBytes}
 use Rattle.rule_file.specs.File.{overFile, readFile}
-use Rattle.rule_file.proofs.Laws.{count-decoded, accepted-when}
-use Rattle.rule_file.proofs.Printed.{few-outputs}
+use Rattle.law_file.proofs.Laws.{count-decoded, accepted-when}
+use Rattle.law_file.proofs.Printed.{few-outputs}
 use Rattle.explain_lines.proofs.Long.{line-long, fault-long, size-line-long, span-long}
-use Rattle.explain_file.specs.Explained.{allOf, rowAt, lineAt, faultLines, fileLines, linesOf, explained, maxExplainedBytes}
-use Rattle.explain_file.specs.Sized.{sizeLineAt, sizeLines, fileSizes, sizesOf, sized, spanLines, orSpan, rangesIn, rangesOf, ranged, maxSizedBytes}
+use Rattle.rule_explain.specs.Explained.{allOf, rowAt, lineAt, faultLines, fileLines, linesOf, explained}
+use Rattle.rule_explain.specs.Explained.{maxExplainedBytes}
+use Rattle.rule_explain.specs.Sized.{sizeLineAt, sizeLines, fileSizes, sizesOf, sized, spanLines, orSpan}
+use Rattle.rule_explain.specs.Sized.{rangesIn, rangesOf, ranged, maxSizedBytes}
 use Rattle.explain_file.proofs.Fitting.{joined-long}
 
 -- the line of a fault
@@ -40,11 +42,16 @@ pub explained-fits : (pass : Pass) (limit : ℕ) (t : List ℕ) → length (expl
 unfolding linesOf
 explained-fits pass limit t = go (readFile limit t maxFrameBytes (Lent maxAnswerBytes)) refl
   where
-    go : (o : Outcome) → readFile limit t maxFrameBytes (Lent maxAnswerBytes) ≡ o → length (allOf (overFile faultLines (fileLines pass) t o)) ≤ maxExplainedBytes
+    go : (o : Outcome) → readFile limit t maxFrameBytes (Lent maxAnswerBytes) ≡ o
+        → length (allOf (overFile faultLines (fileLines pass) t o)) ≤ maxExplainedBytes
     go (Accepted n) e =
         let fr = decoded t n in
         let an = outputBytes pass fr in
-        omega (arith, joined-long (lineAt fr an) 142 (frameCount an) (λ k. line-long fr (rowAt an k) (frameAt an k)), few-outputs pass limit t maxFrameBytes maxAnswerBytes n e)
+        omega (
+          arith,
+          joined-long (lineAt fr an) 142 (frameCount an) (λ k. line-long fr (rowAt an k) (frameAt an k)),
+          few-outputs pass limit t maxFrameBytes maxAnswerBytes n e,
+        )
     go (Long m) e = omega (arith, fault-line (Long m))
     go (Torn k) e = omega (arith, fault-line (Torn k))
     go Short e = omega (arith, fault-line Short)
@@ -92,12 +99,15 @@ overrides-few limit t f n e =
     rw (count-decoded t n) (count-small (accepted-when limit t f NotLent n .0 e .readable)) in
     omega (arith, few, begins (decoded t n) 771 .within)
 
-pub ranged-fits : (limit : ℕ) (least greatest : Counts) (t : List ℕ) → length (ranged limit least greatest t) ≤ maxSizedBytes
+pub ranged-fits : (limit : ℕ) (least greatest : Counts) (t : List ℕ)
+    → length (ranged limit least greatest t) ≤ maxSizedBytes
 unfolding rangesOf
 ranged-fits limit least greatest t = go (readFile limit t maxFrameBytes NotLent) refl
   where
     by-span : (fr : List ℕ) (f : Found) → typeCount (startsOf fr) ≤ maxFrames
-        → length (allOf (orSpan f (sizeLines fr (framesOf (rangeFrame fr (startsOf fr) least greatest) (typeCount (startsOf fr)))))) ≤ maxSizedBytes
+        → length (allOf (orSpan f
+        (sizeLines fr (framesOf (rangeFrame fr (startsOf fr) least greatest) (typeCount (startsOf fr)))))) ≤
+        maxSizedBytes
     by-span fr (At o) h = omega (arith, joined-long (spanLines o .line) 142 1 (λ k. span-long o))
     by-span fr Nothing h =
         let s = startsOf fr in
@@ -110,7 +120,8 @@ ranged-fits limit least greatest t = go (readFile limit t maxFrameBytes NotLent)
         )
 
     go : (o : Outcome) → readFile limit t maxFrameBytes NotLent ≡ o
-        → length (allOf (overFile faultLines (λ (fr : List ℕ). rangesIn fr (startsOf fr) least greatest) t o)) ≤ maxSizedBytes
+        → length (allOf (overFile faultLines (λ (fr : List ℕ). rangesIn fr (startsOf fr) least greatest) t o)) ≤
+        maxSizedBytes
     go (Accepted n) e =
         by-span (decoded t n) (faultySpan (startsOf (decoded t n)) least greatest) (few-types limit t maxFrameBytes n e)
     go (Long m) e = omega (arith, fault-line (Long m))

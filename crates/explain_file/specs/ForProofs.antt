@@ -3,7 +3,7 @@ use Prim.Native.Nat.{ℕ}
 use mathlib.Core.Path.{_≡_}
 use mathlib.Core.List.{List, _++_}
 use lib.ListN.{length, drop}
-use Rattle.explain_file.specs.Explained.{Lines, allOf}
+use Rattle.rule_explain.specs.Explained.{Lines, allOf}
 
 -- all lines, r bytes, are written at the front of a buffer o, and the other bytes stay
 abbrev pub Shown : Lines → List ℕ → ℕ → List ℕ → Type 0

@@ -13,6 +13,7 @@ use explain_lines::lines::put_line;
 use explain_lines::lines::put_size;
 use explain_lines::lines::put_span;
 use explain_words::copy;
+use file_read::first_frames;
 use file_read::frames_in;
 use file_read::read_file;
 use file_rows::type_file;
@@ -34,10 +35,12 @@ ghost use lib.ListN.{length};
 ghost use Rattle.answers.specs.Limit.{maxFrames, maxFrameBytes, maxAnswerBytes};
 ghost use Rattle.answers.specs.Numbers.{printedSaid};
 ghost use Rattle.rule_file.specs.Printed.{printed, printedAfter};
-ghost use Rattle.explain_file.specs.Explained.{nextRow, maxExplainedBytes, answerLines, faultLines, linesOf, explained};
+ghost use Rattle.rule_explain.specs.Explained.{nextRow, maxExplainedBytes, answerLines, faultLines, linesOf};
+ghost use Rattle.rule_explain.specs.Explained.{explained};
 ghost use Rattle.archive.specs.Starts.{typeCount, overrideCount};
 ghost use Rattle.rule_ranges.specs.Ranges.{countsOf};
-ghost use Rattle.explain_file.specs.Sized.{sizeLines, sizesOf, sized, spanLines, rangesIn, rangesOf, ranged, maxSizedBytes};
+ghost use Rattle.rule_explain.specs.Sized.{sizeLines, sizesOf, sized, spanLines, rangesIn, rangesOf, ranged};
+ghost use Rattle.rule_explain.specs.Sized.{maxSizedBytes};
 ghost use Rattle.explain_file.specs.ForProofs.{Shown};
 
 // The bytes that the lines of any file fit into, at most 142 each.
@@ -110,9 +113,8 @@ fn explain_with(
     match frames_in(read) {
         OptionUsize::None => explain_fault(read, line, out),
         OptionUsize::Some(n) => {
-            let m = 16 * n;
-            let e = 16 * typed.outputs;
-            explain_answers(&frames[..m], &answers[..e], line, out)
+            let fr = first_frames(frames, n);
+            explain_answers(fr, first_frames(answers, typed.outputs), line, out)
         }
     }
 }
@@ -129,13 +131,14 @@ fn print(lines: &[u8], out: &mut [u8]) -> Printed
     Printed::Bytes(lines.len())
 }
 
-// Explains a file: writes its lines, and gives how many bytes they are; where the output buffer is too small it gives number 3 and changes nothing. MAX_EXPLAINED_BYTES are room
-// for any file's (`explained-fits`, proofs/Fits.antt).
+// Explains a file: writes its lines, and gives how many bytes they are; where the output buffer is too small it gives
+// number 3 and changes nothing. MAX_EXPLAINED_BYTES are room for any file's (`explained-fits`, proofs/Fits.antt).
 pub fn explain_text(text: &[u8], limit: u32, pass: Pass, out: &mut [u8]) -> Printed
     ensures outcome { λ r. ⌜ r ≡ printed (explained pass limit (now (text .entry))) (length (now (out .entry))) ⌝ }
     ensures said { λ r. ⌜ printedSaid r
         ≡ printedSaid (printed (explained pass limit (now (text .entry))) (length (now (out .entry)))) ⌝ }
-    ensures out { λ r. ⌜ now (out .exit) ≡ printedAfter (explained pass limit (now (text .entry))) (now (out .entry)) ⌝ }
+    ensures out { λ r. ⌜ now (out .exit)
+        ≡ printedAfter (explained pass limit (now (text .entry))) (now (out .entry)) ⌝ }
 {
     let mut frames = [0u8; MAX_FRAME_BYTES];
     let mut answers = [0u8; MAX_ANSWER_BYTES];
@@ -192,20 +195,21 @@ fn sizes_with(
     match frames_in(read) {
         OptionUsize::None => explain_fault(read, line, out),
         OptionUsize::Some(n) => {
-            let m = 16 * n;
-            let s = find_starts(&frames[..m]);
-            measure_all(&frames[..m], s, sizes);
-            let e = 16 * s.members;
-            size_lines(&frames[..m], &sizes[..e], line, out)
+            let fr = first_frames(frames, n);
+            let s = find_starts(fr);
+            measure_all(fr, s, sizes);
+            size_lines(fr, first_frames(sizes, s.members), line, out)
         }
     }
 }
 
-// The sizes of a file's types: writes a line for each, and gives how many bytes they are; where the output buffer is too small it gives number 3 and changes nothing. MAX_SIZED_BYTES
-// are room for any file's (`sized-fits`, proofs/Fits.antt).
+// The sizes of a file's types: writes a line for each, and gives how many bytes they are; where the output buffer is
+// too small it gives number 3 and changes nothing. MAX_SIZED_BYTES are room for any file's (`sized-fits`,
+// proofs/Fits.antt).
 pub fn sizes_text(text: &[u8], limit: u32, out: &mut [u8]) -> Printed
     ensures outcome { λ r. ⌜ r ≡ printed (sized limit (now (text .entry))) (length (now (out .entry))) ⌝ }
-    ensures said { λ r. ⌜ printedSaid r ≡ printedSaid (printed (sized limit (now (text .entry))) (length (now (out .entry)))) ⌝ }
+    ensures said { λ r. ⌜ printedSaid r
+        ≡ printedSaid (printed (sized limit (now (text .entry))) (length (now (out .entry)))) ⌝ }
     ensures out { λ r. ⌜ now (out .exit) ≡ printedAfter (sized limit (now (text .entry))) (now (out .entry)) ⌝ }
 {
     let mut frames = [0u8; MAX_FRAME_BYTES];
@@ -275,9 +279,8 @@ fn ranges_with(
     match frames_in(read) {
         OptionUsize::None => explain_fault(read, line, out),
         OptionUsize::Some(n) => {
-            let m = 16 * n;
-            let s = find_starts(&frames[..m]);
-            range_lines(&frames[..m], s, least, greatest, sizes, line, out)
+            let fr = first_frames(frames, n);
+            range_lines(fr, find_starts(fr), least, greatest, sizes, line, out)
         }
     }
 }

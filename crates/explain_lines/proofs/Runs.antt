@@ -1,17 +1,18 @@
--- Pieces with empty words after them are the same bytes; three runs, one after the other, are one. From the laws of runs of bytes. Assumes nothing.
+-- Pieces with empty words after them are the same bytes; three runs, one after the other, are one. From the laws of
+-- runs of bytes.
 use Prim.Native.Nat.{ℕ, zero, suc, _+_, _≤_}
 use native.Mathlib.Omega.{arith}
 use mathlib.Core.Path.{_≡_, refl, sym, ap, _∙_}
 use mathlib.Core.List.{List, [], _∷_, _++_}
 use lib.ListN.{length, length-append}
-use Rattle.explain_words.specs.Words.{table, wordBytes}
-use Rattle.explain_words.specs.Lines.{pieceBytes, spelled}
+use Rattle.rule_explain.specs.Words.{wordTable, wordBytes}
+use Rattle.rule_explain.specs.Lines.{pieceBytes, spelled}
 use Rattle.explain_words.specs.ForProofs.{written}
 use Rattle.explain_words.proofs.Writing.{join, spelled-more}
 use Rattle.explain_lines.specs.ForProofs.{filled}
 
 no-bytes : pieceBytes 0 ≡ []
-unfolding pieceBytes wordBytes table
+unfolding pieceBytes wordBytes wordTable
 no-bytes = refl
 
 empty : (k : ℕ) → spelled (filled k []) ≡ []
@@ -25,13 +26,16 @@ spelled-filled zero l = refl
 spelled-filled (suc k) [] = ap (λ (l : List ℕ). l ++ spelled (filled k [])) no-bytes ∙ empty k
 spelled-filled (suc k) (p ∷ l) = ap (λ (r : List ℕ). pieceBytes p ++ r) (spelled-filled k l)
 
-pub three : (o₀ o₁ o₂ o₃ x y z : List ℕ) (a s r : ℕ) → a ≡ 0 + length x → s ≡ a + length y → r ≡ s + length z → r ≤ length o₀
-    → o₁ ≡ written o₀ 0 x → o₂ ≡ written o₁ a y → o₃ ≡ written o₂ s z → (r ≡ length (x ++ y ++ z)) × (o₃ ≡ written o₀ 0 (x ++ y ++ z))
+pub three : (o₀ o₁ o₂ o₃ x y z : List ℕ) (a s r : ℕ) → a ≡ 0 + length x → s ≡ a + length y → r ≡ s + length z
+    → r ≤ length o₀
+    → o₁ ≡ written o₀ 0 x → o₂ ≡ written o₁ a y → o₃ ≡ written o₂ s z → (r ≡ length (x ++ y ++ z))
+    × (o₃ ≡ written o₀ 0 (x ++ y ++ z))
 three o₀ o₁ o₂ o₃ x y z a s r ea es er h e₁ e₂ e₃ =
     let xy : length (x ++ y) ≡ length x + length y = length-append x y in
     let sum : s ≡ 0 + length (x ++ y) = omega arith in
     let two : o₂ ≡ written o₀ 0 (x ++ y) =
-    e₂ ∙ ap (λ (k : ℕ). written o₁ k y) ea ∙ ap (λ (o : List ℕ). written o (0 + length x) y) e₁ ∙ join o₀ x y 0 (omega arith) in (
+    e₂ ∙ ap (λ (k : ℕ). written o₁ k y) ea ∙ ap (λ (o : List ℕ). written o (0 + length x) y) e₁
+    ∙ join o₀ x y 0 (omega arith) in (
       omega (arith, length-append (x ++ y) z),
       e₃ ∙ ap (λ (k : ℕ). written o₂ k z) sum ∙ ap (λ (o : List ℕ). written o (0 + length (x ++ y)) z) two
           ∙ join o₀ (x ++ y) z 0 (omega arith),

@@ -1,5 +1,2 @@
-pub mod Answers
 pub mod LinesForProofs
-pub mod Sizes
-pub mod Types
 pub mod ForProofs

@@ -6,7 +6,8 @@ use lib.Dec.{ltb}
 use lib.ListN.{length}
 use Rattle.explain_words.specs.ForProofs.{written}
 
--- a line made at the front of a buffer of at least 1,296 bytes, which are enough for any: 27 pieces of at most 48 bytes. A smaller buffer stays as it was.
+-- a line made at the front of a buffer of at least 1,296 bytes, which are enough for any: 27 pieces of at most 48
+-- bytes. A smaller buffer stays as it was.
 unfoldable pub madeIn : List ℕ → List ℕ → List ℕ
 madeIn o l = cond (ltb (length o) 1296) o (written o 0 l)
 

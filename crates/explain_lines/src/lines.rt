@@ -1,4 +1,5 @@
-// What the lines of answers, verdicts and faults say (specs/Answers.antt), and of types' sizes (specs/Sizes.antt), and their bytes.
+// What the lines of answers, verdicts and faults say (specs/Answers.antt), and of types' sizes (specs/Sizes.antt), and
+// their bytes.
 use super::types::pick;
 use super::types::whole;
 use explain_words::num;
@@ -13,10 +14,11 @@ ghost use mathlib.Core.List.{_++_};
 ghost use Prim.Native.Nat.{_+_, _≤_};
 ghost use lib.ListN.{length, take, drop};
 ghost use Rattle.explain_lines.specs.ForProofs.{filled};
-ghost use Rattle.explain_lines.specs.Answers.{manner, reason, refusal, judged, said, shown, ending, lineOf, faultWords, faultOf};
-ghost use Rattle.explain_words.specs.Lines.{spelled};
+ghost use Rattle.rule_explain.specs.Answers.{manner, reason, refusal, judgedWords, said, shown, ending, lineOf};
+ghost use Rattle.rule_explain.specs.Answers.{faultWords, faultLine};
+ghost use Rattle.rule_explain.specs.Lines.{spelled};
 ghost use Rattle.explain_words.specs.ForProofs.{written};
-ghost use Rattle.explain_lines.specs.Sizes.{sizeWords, sizeLineOf, spanOf};
+ghost use Rattle.rule_explain.specs.Sizes.{sizeWords, sizeLineOf, spanOf};
 ghost use Rattle.explain_lines.specs.LinesForProofs.{madeIn, madeLong};
 
 fn manner(flag: u8) -> u64
@@ -167,7 +169,7 @@ fn refusal(f: Frame) -> [u64; 16]
 }
 
 fn judged(f: Frame) -> [u64; 16]
-    ensures { λ r. ⌜ r ≡ filled 16 (judged f) ⌝ }
+    ensures { λ r. ⌜ r ≡ filled 16 (judgedWords f) ⌝ }
 {
     let n = f.b1;
     if n == 0 {
@@ -347,7 +349,8 @@ fn put_runs(head: &[u64], body: &[u64], end: &[u64], line: &mut [u8]) -> usize
     put_pieces(end, line, b)
 }
 
-// Writes the line of an answer or verdict at the front of a buffer, and gives its length. A buffer of fewer than 1,296 bytes, which are enough for any line, stays as it was.
+// Writes the line of an answer or verdict at the front of a buffer, and gives its length. A buffer of fewer than 1,296
+// bytes, which are enough for any line, stays as it was.
 pub fn put_line(frames: &[u8], row: RowNumber, f: Frame, line: &mut [u8]) -> usize
     ensures { λ r. ⌜ (r ≡ madeLong (now (line .entry)) (lineOf (now (frames .entry)) row f))
         × (r ≤ 1296)
@@ -403,9 +406,9 @@ fn fault_words(f: Frame) -> [u64; 8]
 
 // The same of the line of a file that is not accepted.
 pub fn put_fault(f: Frame, line: &mut [u8]) -> usize
-    ensures { λ r. ⌜ (r ≡ madeLong (now (line .entry)) (faultOf f))
+    ensures { λ r. ⌜ (r ≡ madeLong (now (line .entry)) (faultLine f))
         × (r ≤ 1296)
-        × (now (line .exit) ≡ madeIn (now (line .entry)) (faultOf f)) ⌝ }
+        × (now (line .exit) ≡ madeIn (now (line .entry)) (faultLine f)) ⌝ }
 {
     if line.len() < 1296 {
         return 0;
@@ -459,8 +462,8 @@ fn size_words(f: Frame) -> [u64; 8]
     ]
 }
 
-// Writes the line of type n, whose size the frame says, at the front of a buffer, and gives its length. A buffer of fewer than 1,296 bytes, which are enough for any line, stays
-// as it was.
+// Writes the line of type n, whose size the frame says, at the front of a buffer, and gives its length. A buffer of
+// fewer than 1,296 bytes, which are enough for any line, stays as it was.
 pub fn put_size(frames: &[u8], n: TypeNumber, f: Frame, line: &mut [u8]) -> usize
     ensures { λ r. ⌜ (r ≡ madeLong (now (line .entry)) (sizeLineOf (now (frames .entry)) n f))
         × (r ≤ 1296)

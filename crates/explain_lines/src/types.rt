@@ -1,6 +1,5 @@
-// A type in WGSL's spelling (specs/Types.antt), as pieces (explain_words/specs/Lines.antt), from the bytes of its frame.
-use super::ScalarWords;
-use super::Short;
+// A type in WGSL's spelling (specs/Types.antt), as pieces (rule_explain/specs/Lines.antt), from the bytes of its
+// frame.
 use explain_words::num;
 use explain_words::table;
 use frames::Frame;
@@ -8,11 +7,15 @@ use frames::frame_at;
 use ir::Scalar;
 use ir::TypeNumber;
 use ir::Width;
+use rule_explain::ScalarWords;
+use rule_explain::Short;
 ghost use mathlib.Core.Path.{_≡_};
 ghost use mathlib.Core.Bool.{cond};
 ghost use mathlib.Core.List.{[], _∷_};
 ghost use Prim.Native.Nat.{_+_};
-ghost use Rattle.explain_lines.specs.Types.{picked, isScalar, named, bytesOf, scalarWords, around, byNumber, vector, isBrief, brief, within, pointer, array, cooperative, className, arrayedName, image, unknownKind, inside, whole};
+ghost use Rattle.rule_explain.specs.Types.{picked, isScalar, named, bytesOf, scalarWords, around, byNumber};
+ghost use Rattle.rule_explain.specs.Types.{vector, isBrief, brief, within, pointer, arrayWords, cooperativeWords};
+ghost use Rattle.rule_explain.specs.Types.{className, arrayedName, image, unknownKind, inside, whole};
 ghost use Rattle.explain_lines.specs.ForProofs.{filled};
 
 // A byte's number, as a piece.
@@ -262,7 +265,7 @@ fn pointer(lead: u64, s: Short, space: u8, access: u8) -> [u64; 16]
 }
 
 fn array(lead: u64, s: Short, form: u8, count: u32) -> [u64; 16]
-    ensures { λ r. ⌜ r ≡ filled 16 (array lead s form count) ⌝ }
+    ensures { λ r. ⌜ r ≡ filled 16 (arrayWords lead s form count) ⌝ }
 {
     let n = num(count);
     if form == 0 {
@@ -350,7 +353,7 @@ fn plain(s: Short, a: u64, b: u64) -> [u64; 16]
 }
 
 fn cooperative(f: Frame) -> [u64; 16]
-    ensures { λ r. ⌜ r ≡ filled 16 (cooperative f) ⌝ }
+    ensures { λ r. ⌜ r ≡ filled 16 (cooperativeWords f) ⌝ }
 {
     let s = around(
         table::COOPERATIVE,

@@ -1,4 +1,5 @@
--- How long pieces are: a number has at most ten bytes, a word no more than the longest of those that it is one of. By the laws of lists. Assumes nothing.
+-- How long pieces are: a number has at most ten bytes, a word no more than the longest of those that it is one of. By
+-- the laws of lists.
 use Prim.Native.Nat.{ℕ, zero, suc, _+_, _-_, _/_, _%_, _≤_, _<_, max}
 use native.Mathlib.Decide.{decLt}
 use native.Mathlib.Omega.{arith}
@@ -8,14 +9,15 @@ use mathlib.Core.List.{List, [], _∷_, _++_}
 use lib.Dec.{ltb}
 use lib.ListN.{length, length-append}
 use borrow.Author.Tests.{le-ltb}
-use Rattle.explain_words.specs.Lines.{num, digits, pieceBytes, spelled}
+use Rattle.rule_explain.specs.Lines.{num, digits, pieceBytes, spelled}
 
 digits-long : (k n : ℕ) → length (digits k n) ≤ k
 unfolding digits
 digits-long zero n = omega arith
 digits-long (suc k) n = either (ltb n 10) (digits-long k (n / 10))
   where
-    either : (b : Bool) → length (digits k (n / 10)) ≤ k → length (cond b [] (digits k (n / 10)) ++ (48 + n % 10) ∷ []) ≤ suc k
+    either : (b : Bool) → length (digits k (n / 10)) ≤ k
+        → length (cond b [] (digits k (n / 10)) ++ (48 + n % 10) ∷ []) ≤ suc k
     either true ih = omega arith
     either false ih = omega (arith, length-append (digits k (n / 10)) ((48 + n % 10) ∷ []))
 

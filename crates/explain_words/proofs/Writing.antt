@@ -1,13 +1,15 @@
--- Bytes written into a buffer, one run after the other; the digits of a number, from its last; pieces, from the first. By the laws of lists. Assumes nothing.
+-- Bytes written into a buffer, one run after the other; the digits of a number, from its last; pieces, from the first.
+-- By the laws of lists.
 use Prim.Native.Nat.{ℕ, zero, suc, _+_, _*_, _-_, _/_, _%_, _≤_, _<_}
 use native.Mathlib.Numerals.{add-one}
 use native.Mathlib.Omega.{arith}
 use mathlib.Core.Path.{_≡_, refl, sym, ap, _∙_}
 use mathlib.Core.List.{List, [], _∷_, _++_, append-assoc, append-nil}
 use lib.ListN.{length, take, drop, getD, set, length-append, length-take, length-drop}
-use lib.Seq.{take-at, drop-at, drop-drop, drop-append-add, set-split, length-take-le, append-snoc, take-suc, take-length}
+use lib.Seq.{take-at, drop-at, drop-drop, drop-append-add, set-split, length-take-le, append-snoc, take-suc}
+use lib.Seq.{take-length}
 use borrow.Author.Tests.{lt-ltb, le-ltb, le-leb}
-use Rattle.explain_words.specs.Lines.{digits, pieceBytes, spelled}
+use Rattle.rule_explain.specs.Lines.{digits, pieceBytes, spelled}
 use Rattle.explain_words.specs.ForProofs.{written, putIn, putPieces, placeAfter}
 
 -- what stands before the end of a run
@@ -17,7 +19,8 @@ head-long o b at h = length-append (take at o) b ∙ ap (λ (k : ℕ). k + lengt
 -- a run leaves the buffer's length
 pub written-long : (o b : List ℕ) (at : ℕ) → at + length b ≤ length o → length (written o at b) ≡ length o
 written-long o b at h =
-    length-append (take at o ++ b) (drop (at + length b) o) ∙ ap (λ (k : ℕ). k + length (drop (at + length b) o)) (head-long o b at (omega arith))
+    length-append (take at o ++ b) (drop (at + length b) o)
+    ∙ ap (λ (k : ℕ). k + length (drop (at + length b) o)) (head-long o b at (omega arith))
     ∙ omega (arith, length-drop (at + length b) o)
 
 -- nothing written
@@ -30,7 +33,8 @@ written-none o at = let z : at + 0 ≡ at = omega arith in rw (z, append-nil) (s
     whole (suc n) (x ∷ l) = ap (λ (r : List ℕ). x ∷ r) (whole n l)
 
 -- a run, and one more where it ends, are one run
-pub join : (o x y : List ℕ) (at : ℕ) → at + length x ≤ length o → written (written o at x) (at + length x) y ≡ written o at (x ++ y)
+pub join : (o x y : List ℕ) (at : ℕ) → at + length x ≤ length o → written (written o at x) (at + length x) y
+    ≡ written o at (x ++ y)
 join o x y at h =
     let p = take at o ++ x in
     let r = drop (at + length x) o in
@@ -38,15 +42,18 @@ join o x y at h =
     let front : take (at + length x) (p ++ r) ≡ p = take-at p r (at + length x) e in
     let more : at + length x + length y ≡ at + length (x ++ y) = omega (arith, length-append x y) in
     let back : drop (at + length x + length y) (p ++ r) ≡ drop (at + length (x ++ y)) o =
-    ap (λ (k : ℕ). drop (k + length y) (p ++ r)) (sym e) ∙ drop-append-add p r (length y) ∙ drop-drop (length y) (at + length x) o
+    ap (λ (k : ℕ). drop (k + length y) (p ++ r)) (sym e) ∙ drop-append-add p r (length y)
+    ∙ drop-drop (length y) (at + length x) o
     ∙ ap (λ (k : ℕ). drop k o) more in
-    ap (λ (l : List ℕ). l ++ y ++ drop (at + length x + length y) (p ++ r)) front ∙ ap (λ (l : List ℕ). p ++ y ++ l) back
+    ap (λ (l : List ℕ). l ++ y ++ drop (at + length x + length y) (p ++ r)) front
+    ∙ ap (λ (l : List ℕ). p ++ y ++ l) back
     ∙ ap (λ (l : List ℕ). l ++ drop (at + length (x ++ y)) o) (append-assoc (take at o) x y)
 
 -- DIGITS, from the last
 
 front : (buf : List ℕ) (k v : ℕ) → k < length buf → drop k (set buf k v) ≡ v ∷ drop (suc k) buf
-front buf k v h = rw (set-split buf k v h) (drop-at (take k buf) (v ∷ drop (suc k) buf) k (length-take-le k buf (omega arith)))
+front buf k v h = rw (set-split buf k v h)
+    (drop-at (take k buf) (v ∷ drop (suc k) buf) k (length-take-le k buf (omega arith)))
 
 -- the first digit is written
 pub ends : (i r : ℕ) (buf d : List ℕ) → 0 < i → i ≤ length buf → r < 10 → d ≡ digits i r ++ drop i buf
@@ -87,13 +94,16 @@ pub spelled-more : (xs ys : List ℕ) → spelled (xs ++ ys) ≡ spelled xs ++ s
 unfolding spelled
 spelled-more [] ys = refl
 spelled-more (x ∷ xs) ys =
-    ap (λ (l : List ℕ). pieceBytes x ++ l) (spelled-more xs ys) ∙ sym (append-assoc (pieceBytes x) (spelled xs) (spelled ys))
+    ap (λ (l : List ℕ). pieceBytes x ++ l) (spelled-more xs ys)
+    ∙ sym (append-assoc (pieceBytes x) (spelled xs) (spelled ys))
 
-pub spelled-one : (ps : List ℕ) (i : ℕ) → i < length ps → spelled (take (i + 1) ps) ≡ spelled (take i ps) ++ pieceBytes (getD ps i 0)
+pub spelled-one : (ps : List ℕ) (i : ℕ) → i < length ps → spelled (take (i + 1) ps) ≡ spelled (take i ps)
+    ++ pieceBytes (getD ps i 0)
 unfolding spelled
 spelled-one ps i h =
     rw (add-one, take-suc ps i 0 h)
-    (spelled-more (take i ps) (getD ps i 0 ∷ []) ∙ ap (λ (l : List ℕ). spelled (take i ps) ++ l) (append-nil (pieceBytes (getD ps i 0))))
+    (spelled-more (take i ps) (getD ps i 0 ∷ [])
+    ∙ ap (λ (l : List ℕ). spelled (take i ps) ++ l) (append-nil (pieceBytes (getD ps i 0))))
 
 pub spelled-none : (ps : List ℕ) → [] ≡ spelled (take 0 ps)
 unfolding spelled
@@ -105,7 +115,8 @@ pub put-fits : (o b : List ℕ) (at : ℕ) → at + length b ≤ length o → pu
 unfolding putIn
 put-fits o b at h = rw (le-leb _ _ h)
 
-pub pieces-fit : (o ps last : List ℕ) (at r : ℕ) → at + 48 * length ps ≤ length o → r ≡ placeAfter o at ps → last ≡ putPieces o at ps
+pub pieces-fit : (o ps last : List ℕ) (at r : ℕ) → at + 48 * length ps ≤ length o → r ≡ placeAfter o at ps → last
+    ≡ putPieces o at ps
     → (r ≡ at + length (spelled ps)) × (last ≡ written o at (spelled ps))
 unfolding putPieces placeAfter
 pieces-fit o ps last at r h er el = (er ∙ rw (le-leb _ _ h), el ∙ rw (le-leb _ _ h))

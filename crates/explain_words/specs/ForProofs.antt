@@ -1,12 +1,13 @@
--- Not part of any public statement: for proofs and code only. Bytes and pieces put into a buffer, and the lines of worked cases.
+-- Not part of any public statement: for proofs and code only. Bytes and pieces put into a buffer, and the lines of
+-- worked cases.
 use Prim.Native.Nat.{ℕ, _+_, _*_}
 use Prim.Native.String.{String}
 use mathlib.Core.List.{List, [], _∷_, _++_}
 use mathlib.Core.Bool.{cond}
 use lib.Dec.{leb}
 use lib.ListN.{length, take, drop}
-use Rattle.explain_words.specs.Words.{characters}
-use Rattle.explain_words.specs.Lines.{spelled}
+use Rattle.rule_explain.specs.Words.{characters}
+use Rattle.rule_explain.specs.Lines.{spelled}
 
 -- lines, each with its line feed
 abbrev pub lines : List String → List ℕ

@@ -1,13 +1,13 @@
-// Pieces written as bytes: a piece below 4096 is a word of the table, every other a number in decimal (specs/Lines.antt). A word has at most 48 bytes, a number at
-// most ten.
+// Pieces written as bytes: a piece below 4096 is a word of the table, every other a number in decimal
+// (specs/Lines.antt). A word has at most 48 bytes, a number at most ten.
 pub mod table;
 
 use table::STARTS;
 ghost use mathlib.Core.Path.{_≡_};
 ghost use Prim.Native.Nat.{_+_, _*_, _-_, _≤_, _<_};
 ghost use lib.ListN.{length, take, drop};
-ghost use Rattle.explain_words.specs.Words.{wordBytes};
-ghost use Rattle.explain_words.specs.Lines.{decimal, pieceBytes, spelled};
+ghost use Rattle.rule_explain.specs.Words.{wordBytes};
+ghost use Rattle.rule_explain.specs.Lines.{decimal, pieceBytes, spelled};
 ghost use Rattle.explain_words.specs.ForProofs.{written, putIn, placeAfter, putPieces};
 
 // The piece that is a number.

@@ -1,5 +1,5 @@
-// The words of the lines for people, run together, and where each begins (specs/Words.antt has them one by one). A name that stands for several (as SPACE) is the
-// number of the first; the others follow it.
+// The words of the lines for people, run together, and where each begins (specs/Words.antt has them one by one). A name
+// that stands for several (as SPACE) is the number of the first; the others follow it.
 
 pub const COUNT: usize = 163;
 

@@ -1,5 +1,5 @@
--- Room for what all rows hand back, as the code finds it: counted by the bytes of the rows' frames, one for each row and
--- one more for a compose. From the laws of one row. Assumes nothing.
+-- Room for what all rows hand back, as the code finds it: counted by the bytes of the rows' frames, one for each row
+-- and one more for a compose. From the laws of one row.
 use Prim.Native.Nat.{ℕ, zero, suc, _+_, _*_, _/_, _≤_, _<_}
 use native.Mathlib.Omega.{arith}
 use mathlib.Core.Path.{_≡_, refl, sym, ap, _∙_}
@@ -22,32 +22,41 @@ use Rattle.rule_rows.specs.declared.Pass.{Pass}
 use Rattle.rule_compose.specs.Rows.{verdictRule, judged}
 use Rattle.rule_answers.specs.Outputs.{verdictFrames, rowFrames, outputs, outputBytes}
 use Rattle.rule_answers.specs.ForProofs.{placesOf}
-use Rattle.rule_answers.proofs.Bytes.{bytes-length}
+use Rattle.law_answers.proofs.Bytes.{bytes-length}
 use Rattle.rule_file.specs.Typing.{answersWritten}
 use Rattle.rule_file.specs.ForProofs.{Room}
-use Rattle.rule_file.proofs.Row.{compose-rule, no-rule}
+use Rattle.law_file.proofs.Row.{compose-rule, no-rule}
 use Rattle.file_answers.specs.Rows.{hasRoom}
 use Rattle.file_answers.specs.ForProofs.{handsBack, allHandBack}
 
 module _ (pass : Pass) (fr : List ℕ) where
   -- what a row hands back
-  row-counted : (m : ℕ) → m < rowCount (startsOf fr) → length (rowFrames pass (see fr) m) ≡ handsBack (frameAt fr (startsOf fr .rows + m))
+  row-counted : (m : ℕ) → m < rowCount (startsOf fr) → length (rowFrames pass (see fr) m)
+      ≡ handsBack (frameAt fr (startsOf fr .rows + m))
   row-counted m here = go (eqb (frameAt fr (startsOf fr .rows + m) .b1) 5) refl
     where
-      go : (b : Bool) → eqb (frameAt fr (startsOf fr .rows + m) .b1) 5 ≡ b → length (rowFrames pass (see fr) m) ≡ cond b 2 1
-      go true e = ap (λ (v : Option (Rule Judgement)). suc (length (verdictFrames m (judged pass (see fr) m v)))) (compose-rule fr m here (eqb-true _ 5 e))
-      go false e = ap (λ (v : Option (Rule Judgement)). suc (length (verdictFrames m (judged pass (see fr) m v)))) (no-rule fr m here (eqb-false _ 5 e))
+      go : (b : Bool) → eqb (frameAt fr (startsOf fr .rows + m) .b1) 5 ≡ b → length (rowFrames pass (see fr) m)
+          ≡ cond b 2 1
+      go true e = ap (λ (v : Option (Rule Judgement)). suc (length (verdictFrames m (judged pass (see fr) m v))))
+          (compose-rule fr m here (eqb-true _ 5 e))
+      go false e = ap (λ (v : Option (Rule Judgement)). suc (length (verdictFrames m (judged pass (see fr) m v))))
+          (no-rule fr m here (eqb-false _ 5 e))
 
   -- and the first n
   pub counted : (n : ℕ) → n ≤ rowCount (startsOf fr) → length (outputs pass (see fr) n) ≡ allHandBack fr n
   unfolding outputs sumBelow
   counted zero h = refl
   counted (suc n) h =
-      length-append (outputs pass (see fr) n) (rowFrames pass (see fr) n) ∙ omega (arith, counted n (omega arith), row-counted n (omega arith))
+      length-append (outputs pass (see fr) n) (rowFrames pass (see fr) n)
+      ∙ omega (arith, counted n (omega arith), row-counted n (omega arith))
 
   -- all of them, in bytes
   pub bytes-counted : length (outputBytes pass fr) ≡ 16 * allHandBack fr (rowCount (startsOf fr))
-  bytes-counted = omega (arith, bytes-length (outputs pass (see fr) (rowCount (startsOf fr))), counted (rowCount (startsOf fr)) (omega arith))
+  bytes-counted = omega (
+    arith,
+    bytes-length (outputs pass (see fr) (rowCount (startsOf fr))),
+    counted (rowCount (startsOf fr)) (omega arith),
+  )
 
   -- the code's count k, against a buffer of a bytes
   module _ (a k : ℕ) (s : Starts) (es : s ≡ startsOf fr) (ek : k ≡ allHandBack fr (rowCount s)) where
@@ -64,7 +73,11 @@ module _ (pass : Pass) (fr : List ℕ) where
     pub room-there : Room pass fr a → rowCount (startsOf fr) ≤ p → hasRoom pass fr a p ≡ true
     unfolding hasRoom
     room-there r h =
-        rw (le-leb (frameCount fr) maxFrames (r .few), le-leb (rowCount (startsOf fr)) p h, le-leb (length (outputBytes pass fr)) a (r .answers))
+        rw (
+          le-leb (frameCount fr) maxFrames (r .few),
+          le-leb (rowCount (startsOf fr)) p h,
+          le-leb (length (outputBytes pass fr)) a (r .answers),
+        )
 
     -- a test that fails
     never : (b : Bool) → (b && false) ≡ false
@@ -82,7 +95,8 @@ module _ (pass : Pass) (fr : List ℕ) where
     pub no-answers : a < length (outputBytes pass fr) → hasRoom pass fr a p ≡ false
     unfolding hasRoom
     no-answers h =
-        rw (lt-leb (length (outputBytes pass fr)) a h, never (leb (rowCount (startsOf fr)) p)) (never (leb (frameCount fr) maxFrames))
+        rw (lt-leb (length (outputBytes pass fr)) a h, never (leb (rowCount (startsOf fr)) p))
+        (never (leb (frameCount fr) maxFrames))
 
 -- what `answer_rows` gives and leaves
 abbrev pub Filled : Pass → List ℕ → List ℕ → List ℕ → ℕ → List ℕ → List ℕ → Bool → Type 0
@@ -95,7 +109,8 @@ pub not-filled : (pass : Pass) (fr an pl : List ℕ) → hasRoom pass fr (length
     → Filled pass fr an pl 0 an pl (hasRoom pass fr (length an) (length pl))
 not-filled pass fr an pl e = rw e (refl, (refl, refl))
 
-pub filled : (pass : Pass) (fr an pl last out : List ℕ) (s : Starts) (r : ℕ) → hasRoom pass fr (length an) (length pl) ≡ true → s ≡ startsOf fr
+pub filled : (pass : Pass) (fr an pl last out : List ℕ) (s : Starts) (r : ℕ) → hasRoom pass fr (length an) (length pl)
+    ≡ true → s ≡ startsOf fr
     → r ≡ length (outputs pass (see fr) (rowCount s))
     → last ≡ answersWritten pass an fr
     → out ≡ placesOf pass fr (rowCount s) ++ drop (rowCount s) pl
@@ -103,8 +118,10 @@ pub filled : (pass : Pass) (fr an pl last out : List ℕ) (s : Starts) (r : ℕ)
 filled pass fr an pl last out s r e es a b c = rw e (rw es at a, (b, rw es at c))
 
 -- where there is room, by where the families begin
-pub all-filled : (pass : Pass) (fr an pl : List ℕ) (r : ℕ) (last out : List ℕ) (s : Starts) → Room pass fr (length an) → rowCount (startsOf fr) ≤ length pl
+pub all-filled : (pass : Pass) (fr an pl : List ℕ) (r : ℕ) (last out : List ℕ) (s : Starts) → Room pass fr (length an)
+    → rowCount (startsOf fr) ≤ length pl
     → s ≡ startsOf fr
     → Filled pass fr an pl r last out (hasRoom pass fr (length an) (length pl))
-    → (r ≡ length (outputs pass (see fr) (rowCount s))) × ((last ≡ answersWritten pass an fr) × (out ≡ placesOf pass fr (rowCount s) ++ drop (rowCount s) pl))
+    → (r ≡ length (outputs pass (see fr) (rowCount s)))
+    × ((last ≡ answersWritten pass an fr) × (out ≡ placesOf pass fr (rowCount s) ++ drop (rowCount s) pl))
 all-filled pass fr an pl r last out s room h es f = rw es (rw (room-there pass fr (length an) (length pl) room h) at f)

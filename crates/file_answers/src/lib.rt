@@ -11,9 +11,7 @@ use frames::frame_count;
 use frames::put_frame;
 use frames_answers::write::answer_frame;
 use frames_answers::write::verdict_frame;
-use ir::ComponentNumber;
 use ir::RowNumber;
-use ir::TypeNumber;
 use ir::numbers::is_compose;
 use row_typifier::resolve::type_row;
 use rule_rows::Pass;
@@ -66,18 +64,10 @@ pub fn judge_row(frames: &[u8], s: Starts, answers: &[u8], places: &[u16], f: Fr
         ≡ judgedBy (now (frames .entry)) s (now (answers .entry)) (now (places .entry))
         (composeRule (now (frames .entry)) s f) ⌝ }
 {
-    let ty = f.named();
-    let first = f.last();
-    let count = f.second();
-    judge(
-        frames,
-        s,
-        answers,
-        places,
-        TypeNumber(ty),
-        ComponentNumber(first),
-        count,
-    )
+    let ty = f.ty();
+    let first = f.first_component();
+    let count = f.count();
+    judge(frames, s, answers, places, ty, first, count)
 }
 
 // Writes a row's answer as frame `at`, and after it the verdict if the row is a compose; gives the frame after them.

@@ -17,10 +17,10 @@ use ir::RowNumber;
 use rule_ranges::TypeRange;
 use rule_rows::Pass;
 use rule_sizes::TypeSize;
+use size_steps::table::measure_frame;
 use size_steps::table::measure_number;
 use size_steps::table::range_frame;
 use size_steps::table::range_number;
-use size_steps::table::said_frame;
 use size_steps::table::span_frame;
 use text_decode::room::short_read;
 ghost use mathlib.Core.Path.{_≡_};
@@ -30,9 +30,11 @@ ghost use Rattle.frames.specs.Bytes.{putFrame};
 ghost use Rattle.frames.specs.Out.{refusedFrame, outcomeFrame, rowTypeSaid, composeVerdictSaid, oneFrame};
 ghost use Rattle.rule_sizes.specs.Sizes.{sizeSaid, sizeSaidFrame};
 ghost use Rattle.rule_ranges.specs.Ranges.{typeRangeSaid, rangeSaidFrame};
-ghost use Rattle.rule_file.specs.Exported.{outcomeNumber, noRoom, oneNumber, saidNumber, saidFrame, typeSaidNumber, typeSaidFrame, passOf, handedFrame};
+ghost use Rattle.rule_file.specs.Exported.{outcomeNumber, noRoom, oneNumber, saidNumber, saidFrame, typeSaidNumber};
+ghost use Rattle.rule_file.specs.Exported.{typeSaidFrame, passOf, handedFrame};
 
-// A number handed in, as a row's or a type's number has it: no file has 65,535 of either, so a greater one is out of range as that is.
+// A number handed in, as a row's or a type's number has it: no file has 65,535 of either, so a greater one is out of
+// range as that is.
 pub fn clamped(n: u32) -> u16
     ensures { λ r. ⌜ r ≡ min n 65535 ⌝ }
 {
@@ -79,42 +81,40 @@ fn outcome_number(o: Outcome) -> u32
     }
 }
 
+// Puts a frame at the front of the out-slice, and gives a number.
+fn put(out: &mut [u8], f: Frame, number: u32) -> u32
+    ensures { λ r. ⌜ (r ≡ number) × (now (out .exit) ≡ putFrame (now (out .entry)) 0 f) ⌝ }
+{
+    put_frame(out, 0, f);
+    number
+}
+
 // What reading or typing a file gives.
 pub fn put_outcome(out: &mut [u8], o: Outcome) -> u32
     ensures { λ r. ⌜ (r ≡ outcomeNumber o) × (now (out .exit) ≡ putFrame (now (out .entry)) 0 (outcomeFrame o)) ⌝ }
 {
-    put_frame(out, 0, outcome_frame(o));
-    outcome_number(o)
+    put(out, outcome_frame(o), outcome_number(o))
 }
 
-// Number 5, 6 or 22, each with place 0.
-fn put_field(out: &mut [u8]) -> u32
-    ensures { λ r. ⌜ (r ≡ 5) × (now (out .exit) ≡ putFrame (now (out .entry)) 0 (refusedFrame (at 5 0))) ⌝ }
-{
-    put_frame(out, 0, outcome_frame(Outcome::Field { frame: 0 }));
-    5
-}
-
+// Number 6 or 22, each with place 0.
 fn put_index(out: &mut [u8]) -> u32
-    ensures { λ r. ⌜ (r ≡ notThere .number) × (now (out .exit) ≡ putFrame (now (out .entry)) 0 (refusedFrame notThere)) ⌝ }
+    ensures { λ r. ⌜ (r ≡ notThere .number)
+        × (now (out .exit) ≡ putFrame (now (out .entry)) 0 (refusedFrame notThere)) ⌝ }
 {
-    put_frame(out, 0, outcome_frame(Outcome::Index { frame: 0 }));
-    6
+    put(out, outcome_frame(Outcome::Index { frame: 0 }), 6)
 }
 
 fn put_newer(out: &mut [u8]) -> u32
     ensures { λ r. ⌜ (r ≡ 22) × (now (out .exit) ≡ putFrame (now (out .entry)) 0 (refusedFrame (at 22 0))) ⌝ }
 {
-    put_frame(out, 0, newer_frame(RowNumber(0)));
-    22
+    put(out, newer_frame(RowNumber(0)), 22)
 }
 
 // The frame of number 0, and what is said by the number returned.
 fn put_zero(out: &mut [u8], said: u32) -> u32
     ensures { λ r. ⌜ (r ≡ said) × (now (out .exit) ≡ putFrame (now (out .entry)) 0 (refusedFrame noRefusal)) ⌝ }
 {
-    put_frame(out, 0, outcome_frame(Outcome::Accepted { frames: 0 }));
-    said
+    put(out, outcome_frame(Outcome::Accepted { frames: 0 }), said)
 }
 
 // A row's answer.
@@ -123,10 +123,7 @@ pub fn put_row(out: &mut [u8], given: RowType) -> u32
     ensures out { λ r. ⌜ now (out .exit) ≡ putFrame (now (out .entry)) 0 (oneFrame (rowTypeSaid given)) ⌝ }
 {
     match given {
-        RowType::Answered(a) => {
-            put_frame(out, 0, answer_frame(a));
-            0
-        }
+        RowType::Answered(a) => put(out, answer_frame(a), 0),
         RowType::Index => put_index(out),
         RowType::NotAccepted(o) => put_outcome(out, o),
     }
@@ -138,10 +135,7 @@ pub fn put_verdict(out: &mut [u8], row: RowNumber, given: ComposeVerdict) -> u32
     ensures out { λ r. ⌜ now (out .exit) ≡ putFrame (now (out .entry)) 0 (oneFrame (composeVerdictSaid row given)) ⌝ }
 {
     match given {
-        ComposeVerdict::Judged(v) => {
-            put_frame(out, 0, verdict_frame(row, v));
-            0
-        }
+        ComposeVerdict::Judged(v) => put(out, verdict_frame(row, v), 0),
         ComposeVerdict::NotCompose => put_index(out),
         ComposeVerdict::Index => put_index(out),
         ComposeVerdict::NotAccepted(o) => put_outcome(out, o),
@@ -157,7 +151,7 @@ pub fn put_sameness(out: &mut [u8], given: Sameness) -> u32
         Sameness::Same => put_zero(out, 0),
         Sameness::Different => put_zero(out, 256),
         Sameness::Newer => put_newer(out),
-        Sameness::Field => put_field(out),
+        Sameness::Field => put(out, outcome_frame(Outcome::Field { frame: 0 }), 5),
         Sameness::Index => put_index(out),
         Sameness::NotAccepted(o) => put_outcome(out, o),
     }
@@ -169,10 +163,7 @@ pub fn put_canonical(out: &mut [u8], given: CanonicalType) -> u32
     ensures out { λ r. ⌜ now (out .exit) ≡ putFrame (now (out .entry)) 0 (typeSaidFrame (canonicalSaid given)) ⌝ }
 {
     match given {
-        CanonicalType::Form(t) => {
-            put_frame(out, 0, resolution_frame(t));
-            0
-        }
+        CanonicalType::Form(t) => put(out, resolution_frame(t), 0),
         CanonicalType::Newer => put_newer(out),
         CanonicalType::Index => put_index(out),
         CanonicalType::NotAccepted(o) => put_outcome(out, o),
@@ -185,10 +176,7 @@ pub fn put_base(out: &mut [u8], given: PointerBase) -> u32
     ensures out { λ r. ⌜ now (out .exit) ≡ putFrame (now (out .entry)) 0 (typeSaidFrame (baseSaid given)) ⌝ }
 {
     match given {
-        PointerBase::Base(t) => {
-            put_frame(out, 0, resolution_frame(t));
-            0
-        }
+        PointerBase::Base(t) => put(out, resolution_frame(t), 0),
         PointerBase::NotPointer => put_zero(out, 257),
         PointerBase::Newer => put_newer(out),
         PointerBase::Index => put_index(out),
@@ -202,10 +190,7 @@ pub fn put_size(out: &mut [u8], given: TypeSize) -> u32
     ensures out { λ r. ⌜ now (out .exit) ≡ putFrame (now (out .entry)) 0 (sizeSaidFrame (sizeSaid given)) ⌝ }
 {
     match given {
-        TypeSize::Measured(m) => {
-            put_frame(out, 0, said_frame(m));
-            measure_number(m)
-        }
+        TypeSize::Measured(m) => put(out, measure_frame(m), measure_number(m)),
         TypeSize::Index => put_index(out),
         TypeSize::NotAccepted(o) => put_outcome(out, o),
     }
@@ -217,14 +202,8 @@ pub fn put_range(out: &mut [u8], given: TypeRange) -> u32
     ensures out { λ r. ⌜ now (out .exit) ≡ putFrame (now (out .entry)) 0 (rangeSaidFrame (typeRangeSaid given)) ⌝ }
 {
     match given {
-        TypeRange::Ranged(g) => {
-            put_frame(out, 0, range_frame(g));
-            range_number(g)
-        }
-        TypeRange::Span { place } => {
-            put_frame(out, 0, span_frame(place));
-            45
-        }
+        TypeRange::Ranged(g) => put(out, range_frame(g), range_number(g)),
+        TypeRange::Span { place } => put(out, span_frame(place), 45),
         TypeRange::Index => put_index(out),
         TypeRange::NotAccepted(o) => put_outcome(out, o),
     }

@@ -2,6 +2,7 @@
 use answers::MAX_ANSWER_BYTES;
 use answers::MAX_FRAME_BYTES;
 use answers::Printed;
+use file_read::first_frames;
 use file_read::frames_in;
 use file_rows::type_file;
 use frames::put_frame;
@@ -54,17 +55,15 @@ fn type_lines(
     match frames_in(read) {
         OptionUsize::None => {
             put_frame(answers, 0, outcome_frame(read));
-            put_lines(&answers[..16], out)
+            put_lines(first_frames(answers, 1), out)
         }
-        OptionUsize::Some(_) => {
-            let e = 16 * typed.outputs;
-            put_lines(&answers[..e], out)
-        }
+        OptionUsize::Some(_) => put_lines(first_frames(answers, typed.outputs), out),
     }
 }
 
 // Types a file within a limit and by a pass, and writes the lines of what is handed back, and gives how many bytes they
-// are; where the output buffer is too small it gives number 3 and changes nothing. MAX_LINE_BYTES are room for any file's.
+// are; where the output buffer is too small it gives number 3 and changes nothing. MAX_LINE_BYTES are room for any
+// file's.
 pub fn type_text(text: &[u8], limit: u32, pass: Pass, out: &mut [u8]) -> Printed
     ensures outcome { λ r. ⌜ r ≡ printed (typedText pass limit (now (text .entry))) (length (now (out .entry))) ⌝ }
     ensures said { λ r. ⌜ printedSaid r

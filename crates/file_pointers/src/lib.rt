@@ -1,7 +1,9 @@
-// Pointer forms over a file: the canonical form of a type, and a pointer's base. Each checks the file first (document 01, "Numbers handed back").
+// Pointer forms over a file: the canonical form of a type, and a pointer's base. Each checks the file first (document
+// 01, "Numbers handed back").
 use answers::CanonicalType;
 use answers::PointerBase;
 use archive_access::families::find_starts;
+use file_read::first_frames;
 use file_read::frames_in;
 use file_read::read_file;
 use ir::TypeNumber;
@@ -11,7 +13,7 @@ ghost use lib.ListN.{length};
 ghost use Rattle.answers.specs.Numbers.{canonicalSaid, baseSaid};
 ghost use Rattle.text.specs.declared.AnswerRoom.the-variants.{NotLent};
 ghost use Rattle.rule_file.specs.File.{framesAfter};
-ghost use Rattle.file_pointers.specs.Forms.{canonicalType, pointerBaseType};
+ghost use Rattle.rule_file.specs.Forms.{canonicalType, pointerBaseType};
 
 // The canonical form of type n: the value pointer, or n itself. The frame buffer is as `read_file` leaves it.
 pub fn canonical_form(text: &[u8], limit: u32, frames: &mut [u8], n: TypeNumber) -> CanonicalType
@@ -24,9 +26,8 @@ pub fn canonical_form(text: &[u8], limit: u32, frames: &mut [u8], n: TypeNumber)
     match frames_in(read) {
         OptionUsize::None => CanonicalType::NotAccepted(read),
         OptionUsize::Some(k) => {
-            let m = 16 * k;
-            let s = find_starts(&frames[..m]);
-            type_methods::by_number::canonical_type(&frames[..m], s, n)
+            let fr = first_frames(frames, k);
+            type_methods::by_number::canonical_type(fr, find_starts(fr), n)
         }
     }
 }
@@ -42,9 +43,8 @@ pub fn pointer_base(text: &[u8], limit: u32, frames: &mut [u8], n: TypeNumber) -
     match frames_in(read) {
         OptionUsize::None => PointerBase::NotAccepted(read),
         OptionUsize::Some(k) => {
-            let m = 16 * k;
-            let s = find_starts(&frames[..m]);
-            type_methods::by_number::pointer_base(&frames[..m], s, n)
+            let fr = first_frames(frames, k);
+            type_methods::by_number::pointer_base(fr, find_starts(fr), n)
         }
     }
 }

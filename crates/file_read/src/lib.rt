@@ -8,7 +8,8 @@ use rule_file::OptionUsize;
 use text::AnswerRoom;
 use text_decode::read_text;
 ghost use mathlib.Core.Path.{_≡_};
-ghost use lib.ListN.{length};
+ghost use Prim.Native.Nat.{_*_};
+ghost use lib.ListN.{length, take};
 ghost use Rattle.answers.specs.Numbers.{outcomeValues, samenessSaid};
 ghost use Rattle.text.specs.declared.AnswerRoom.the-variants.{NotLent};
 ghost use Rattle.rule_file.specs.File.{readFile, fileSaid, framesAfter};
@@ -29,8 +30,21 @@ pub fn frames_in(o: Outcome) -> OptionUsize
     }
 }
 
-// Checks 1 to 6 within a limit of frames, 1 to 1,024, any other counting as 1,024, with the length of the answer buffer where one is lent. Numbers 1 to 3 change no buffer; otherwise the frames stand
-// at the front of the frame buffer, and its bytes past them stay.
+// The first n frames of a buffer; all of it where it has fewer.
+pub fn first_frames(frames: &[u8], n: usize) -> &[u8]
+    ensures { λ r. ⌜ now r ≡ take (16 * n) (now (frames .entry)) ⌝ }
+{
+    if n <= frames.len() / 16 {
+        let m = 16 * n;
+        &frames[..m]
+    } else {
+        frames
+    }
+}
+
+// Checks 1 to 6 within a limit of frames, 1 to 1,024, any other counting as 1,024, with the length of the answer buffer
+// where one is lent. Numbers 1 to 3 change no buffer; otherwise the frames stand at the front of the frame buffer, and
+// its bytes past them stay.
 pub fn read_with(text: &[u8], limit: u32, frames: &mut [u8], room: AnswerRoom) -> Outcome
     ensures outcome { λ r. ⌜ r ≡ readFile limit (now (text .entry)) (length (now (frames .entry))) room ⌝ }
     ensures said { λ r. ⌜ outcomeValues r ≡ fileSaid limit (now (text .entry)) (length (now (frames .entry))) room ⌝ }
@@ -39,23 +53,22 @@ pub fn read_with(text: &[u8], limit: u32, frames: &mut [u8], room: AnswerRoom) -
     let read = read_text(text, limit, frames, room);
     match frames_in(read) {
         OptionUsize::None => read,
-        OptionUsize::Some(n) => {
-            let m = 16 * n;
-            check_frames(&frames[..m])
-        }
+        OptionUsize::Some(n) => check_frames(first_frames(frames, n)),
     }
 }
 
 // Whether a file is accepted, or the number and place of its fault.
 pub fn read_file(text: &[u8], limit: u32, frames: &mut [u8]) -> Outcome
     ensures outcome { λ r. ⌜ r ≡ readFile limit (now (text .entry)) (length (now (frames .entry))) NotLent ⌝ }
-    ensures said { λ r. ⌜ outcomeValues r ≡ fileSaid limit (now (text .entry)) (length (now (frames .entry))) NotLent ⌝ }
+    ensures said { λ r. ⌜ outcomeValues r
+        ≡ fileSaid limit (now (text .entry)) (length (now (frames .entry))) NotLent ⌝ }
     ensures frames { λ r. ⌜ now (frames .exit) ≡ framesAfter limit (now (text .entry)) (now (frames .entry)) NotLent ⌝ }
 {
     read_with(text, limit, frames, AnswerRoom::NotLent)
 }
 
-// Whether two answers of a file, as frames of family 8 or 9, are the same type. The frame buffer is as `read_file` leaves it.
+// Whether two answers of a file, as frames of family 8 or 9, are the same type. The frame buffer is as `read_file`
+// leaves it.
 pub fn same_type(text: &[u8], limit: u32, frames: &mut [u8], left: Frame, right: Frame) -> Sameness
     ensures outcome { λ r. ⌜ r ≡ sameTypes limit (now (text .entry)) (length (now (frames .entry))) left right ⌝ }
     ensures said { λ r. ⌜ samenessSaid r
@@ -66,9 +79,8 @@ pub fn same_type(text: &[u8], limit: u32, frames: &mut [u8], left: Frame, right:
     match frames_in(read) {
         OptionUsize::None => Sameness::NotAccepted(read),
         OptionUsize::Some(n) => {
-            let m = 16 * n;
-            let s = find_starts(&frames[..m]);
-            type_methods::handed::same_type(&frames[..m], s, left, right)
+            let fr = first_frames(frames, n);
+            type_methods::handed::same_type(fr, find_starts(fr), left, right)
         }
     }
 }

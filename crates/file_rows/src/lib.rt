@@ -8,6 +8,7 @@ use archive_access::families::is_row;
 use archive_access::families::row_count;
 use file_answers::answer_rows;
 use file_answers::judge_row;
+use file_read::first_frames;
 use file_read::frames_in;
 use file_read::read_with;
 use frames::frame_at;
@@ -29,7 +30,9 @@ ghost use Rattle.answers.specs.Numbers.{outcomeValues};
 ghost use Rattle.frames.specs.Out.{rowTypeSaid, composeVerdictSaid};
 ghost use Rattle.rule_answers.specs.Outputs.{outputBytes};
 ghost use Rattle.rule_file.specs.File.{readFile, fileSaid, framesAfter};
-ghost use Rattle.rule_file.specs.Typing.{answersWritten, answersAfter, HandsBack, toGiven, rowGiven, rowType, rowSaid, answersAfterRow, toVerdict, verdictGiven, ifJudged, composeVerdict, verdictSaid, answersAfterVerdict};
+ghost use Rattle.rule_file.specs.Typing.{answersWritten, answersAfter, HandsBack, toGiven, rowGiven, rowType, rowSaid};
+ghost use Rattle.rule_file.specs.Typing.{answersAfterRow, toVerdict, verdictGiven, ifJudged, composeVerdict};
+ghost use Rattle.rule_file.specs.Typing.{verdictSaid, answersAfterVerdict};
 ghost use Rattle.rule_file.specs.ForProofs.{Ready};
 
 // Answers every row, and gives how many frames are written.
@@ -85,8 +88,9 @@ fn judge_one(pass: Pass, frames: &[u8], answers: &mut [u8], row: RowNumber) -> C
     }
 }
 
-// Types every row of a file by the rules of a pass, and judges every compose over those answers. The frame buffer is as `read_file` leaves it; of an accepted file the answers and verdicts, 16 bytes each, stand
-// at the front of the answer buffer, and its bytes past them stay. Of a file that is not accepted nothing is handed back.
+// Types every row of a file by the rules of a pass, and judges every compose over those answers. The frame buffer is as
+// `read_file` leaves it; of an accepted file the answers and verdicts, 16 bytes each, stand at the front of the answer
+// buffer, and its bytes past them stay. Of a file that is not accepted nothing is handed back.
 pub fn type_file(
     text: &[u8],
     limit: u32,
@@ -104,8 +108,7 @@ pub fn type_file(
             outputs: 0,
         },
         OptionUsize::Some(n) => {
-            let m = 16 * n;
-            let k = answer_all(pass, &frames[..m], answers);
+            let k = answer_all(pass, first_frames(frames, n), answers);
             TypedFile {
                 outcome: read,
                 outputs: k,
@@ -135,7 +138,8 @@ pub fn type_rows(
     typed.outcome
 }
 
-// The answer of one row, with the buffers as `type_rows` leaves them. The answer buffer is unchanged where the file does not have the row.
+// The answer of one row, with the buffers as `type_rows` leaves them. The answer buffer is unchanged where the file
+// does not have the row.
 pub fn row_type(
     text: &[u8],
     limit: u32,
@@ -157,14 +161,12 @@ pub fn row_type(
     let read = read_with(text, limit, frames, AnswerRoom::Lent(answers.len()));
     match frames_in(read) {
         OptionUsize::None => RowType::NotAccepted(read),
-        OptionUsize::Some(n) => {
-            let m = 16 * n;
-            answer_one(pass, &frames[..m], answers, row)
-        }
+        OptionUsize::Some(n) => answer_one(pass, first_frames(frames, n), answers, row),
     }
 }
 
-// The verdict on one compose, with the buffers as `type_rows` leaves them. The answer buffer is unchanged where the file has no such row, or the row is no compose.
+// The verdict on one compose, with the buffers as `type_rows` leaves them. The answer buffer is unchanged where the
+// file has no such row, or the row is no compose.
 pub fn compose_verdict(
     text: &[u8],
     limit: u32,
@@ -174,21 +176,20 @@ pub fn compose_verdict(
     row: RowNumber,
 ) -> ComposeVerdict
     ensures outcome { λ r. ⌜ toVerdict r
-        ≡ composeVerdict pass limit (now (text .entry)) (length (now (frames .entry))) (length (now (answers .entry))) row ⌝ }
+        ≡ composeVerdict pass limit (now (text .entry)) (length (now (frames .entry)))
+        (length (now (answers .entry))) row ⌝ }
     ensures said { λ r. ⌜ composeVerdictSaid row r
         ≡ verdictSaid row (composeVerdict pass limit (now (text .entry)) (length (now (frames .entry)))
         (length (now (answers .entry))) row) ⌝ }
     ensures frames { λ r. ⌜ now (frames .exit)
         ≡ framesAfter limit (now (text .entry)) (now (frames .entry)) (Lent (length (now (answers .entry)))) ⌝ }
     ensures answers { λ r. ⌜ now (answers .exit)
-        ≡ answersAfterVerdict pass limit (now (text .entry)) (length (now (frames .entry))) (now (answers .entry)) row ⌝ }
+        ≡ answersAfterVerdict pass limit (now (text .entry)) (length (now (frames .entry)))
+        (now (answers .entry)) row ⌝ }
 {
     let read = read_with(text, limit, frames, AnswerRoom::Lent(answers.len()));
     match frames_in(read) {
         OptionUsize::None => ComposeVerdict::NotAccepted(read),
-        OptionUsize::Some(n) => {
-            let m = 16 * n;
-            judge_one(pass, &frames[..m], answers, row)
-        }
+        OptionUsize::Some(n) => judge_one(pass, first_frames(frames, n), answers, row),
     }
 }

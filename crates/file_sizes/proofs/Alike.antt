@@ -1,5 +1,5 @@
--- A file within two limits (document 02, request 7): sizes and ranges are given alike at either, and the frame buffer is
--- left alike. From `over-alike`. Assumes nothing.
+-- A file within two limits (document 02, request 7): sizes and ranges are given alike at either, and the frame buffer
+-- is left alike. From `over-alike`.
 use Prim.Native.Nat.{ℕ, _*_, _≤_}
 use mathlib.Core.Path.{_≡_}
 use mathlib.Core.List.{List}
@@ -15,11 +15,12 @@ use Rattle.rule_sizes.specs.Sizes.{typeSizeIn}
 use Rattle.rule_ranges.specs.declared.TypeRange.the-variants as Tr
 use Rattle.rule_ranges.specs.Ranges.{countsOf, typeRangeIn}
 use Rattle.rule_file.specs.File.{framesAfter}
-use Rattle.rule_file.proofs.Alike.{over-alike}
-use Rattle.file_sizes.specs.Sizes.{typeSize}
-use Rattle.file_sizes.specs.Ranges.{sizeRange, framesRanged}
+use Rattle.law_file.proofs.Alike.{over-alike}
+use Rattle.rule_file_sizes.specs.Sizes.{typeSize}
+use Rattle.rule_file_sizes.specs.Ranges.{sizeRange, framesRanged}
 
-module _ (limit other : ℕ) (t : List ℕ) (a : length t ≤ 33 * mostFrames limit) (b : length t ≤ 33 * mostFrames other) (f : ℕ) (n : TypeNumber) where
+module _ (limit other : ℕ) (t : List ℕ) (a : length t ≤ 33 * mostFrames limit) (b : length t ≤ 33 * mostFrames other)
+    (f : ℕ) (n : TypeNumber) where
   pub size-alike : typeSize limit t f n ≡ typeSize other t f n
   unfolding typeSize
   size-alike = over-alike limit other t a b Ts.NotAccepted (λ (fr : List ℕ). typeSizeIn fr (startsOf fr) n) f NotLent
@@ -30,9 +31,11 @@ module _ (limit other : ℕ) (t : List ℕ) (a : length t ≤ 33 * mostFrames li
     range-alike =
         rw (
           alike-within limit other t 0 NotLent a b,
-          over-alike limit other t a b Tr.NotAccepted (λ (fr : List ℕ). typeRangeIn fr (startsOf fr) (countsOf least) (countsOf greatest) n) f NotLent,
+          over-alike limit other t a b Tr.NotAccepted
+              (λ (fr : List ℕ). typeRangeIn fr (startsOf fr) (countsOf least) (countsOf greatest) n) f NotLent,
         )
 
-    pub range-frames-alike : (fr : List ℕ) → framesRanged limit t fr least greatest ≡ framesRanged other t fr least greatest
+    pub range-frames-alike : (fr : List ℕ) → framesRanged limit t fr least greatest
+        ≡ framesRanged other t fr least greatest
     unfolding framesRanged framesAfter
     range-frames-alike fr = rw (alike-within limit other t (length fr) NotLent a b)

@@ -1,5 +1,4 @@
 -- What `type_range` rests on: an accepted file has at most 1,024 types and overrides. From the laws of reading a file.
--- Assumes nothing.
 use Prim.Native.Nat.{ℕ, _*_, _≤_}
 use native.Mathlib.Omega.{arith}
 use mathlib.Core.Path.{_≡_}
@@ -17,8 +16,8 @@ use Rattle.archive.proofs.Ranks.{begins}
 use Rattle.rule_file.specs.declared.OptionUsize.the-variants as Ou
 use Rattle.rule_file.specs.File.{readFile, framesAfter}
 use Rattle.rule_file.specs.ForProofs.{framesIn}
-use Rattle.rule_file.proofs.Laws.{count-decoded, accepted-when}
-use Rattle.rule_file.proofs.Over.{read, part-is}
+use Rattle.law_file.proofs.Laws.{count-decoded, accepted-when}
+use Rattle.law_file.proofs.Over.{read, part-is}
 
 -- the starts of 1,024 frames
 starts-few : (fr : List ℕ) → frameCount fr ≤ 1024
@@ -33,7 +32,8 @@ pub few-starts : (limit : ℕ) (t fr last : List ℕ) (room : AnswerRoom) (n : �
 few-starts limit t fr last room n r er el en s es =
     rw (es, part-is limit t fr last room n r er el en)
     (starts-few (decoded t n)
-    (rw (count-decoded t n) (count-small (accepted-when limit t (length fr) room n .0 (read limit t fr last room n r er el en) .readable))))
+    (rw (count-decoded t n)
+    (count-small (accepted-when limit t (length fr) room n .0 (read limit t fr last room n r er el en) .readable))))
 
 -- by whether a table is too small
 pub is-short : {A : Type 0} (b : Bool) (x y : A) → b ≡ true → x ≡ cond b x y

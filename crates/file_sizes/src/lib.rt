@@ -3,6 +3,7 @@
 use archive::Starts;
 use archive_access::families::find_starts;
 use archive_access::families::is_type;
+use file_read::first_frames;
 use file_read::frames_in;
 use file_read::read_file;
 use ir::TypeNumber;
@@ -22,23 +23,23 @@ ghost use Rattle.rule_sizes.specs.Sizes.{sizeSaid};
 ghost use Rattle.rule_file.specs.File.{framesAfter};
 ghost use Rattle.archive.specs.Starts.{typeCount, overrideCount};
 ghost use Rattle.rule_ranges.specs.Ranges.{countsOf, typeRangeIn, typeRangeSaid};
-ghost use Rattle.file_sizes.specs.Sizes.{typeSize};
-ghost use Rattle.file_sizes.specs.Ranges.{sizeRange, framesRanged};
+ghost use Rattle.rule_file_sizes.specs.Sizes.{typeSize};
+ghost use Rattle.rule_file_sizes.specs.Ranges.{sizeRange, framesRanged};
 
 // Alignment and size of type n, or 42, 43 or 44 with the lowest faulty type; 6 where there is no such type. The frame
 // buffer is as `read_file` leaves it.
 pub fn type_size(text: &[u8], limit: u32, frames: &mut [u8], n: TypeNumber) -> TypeSize
     ensures outcome { λ r. ⌜ r ≡ typeSize limit (now (text .entry)) (length (now (frames .entry))) n ⌝ }
-    ensures said { λ r. ⌜ sizeSaid r ≡ sizeSaid (typeSize limit (now (text .entry)) (length (now (frames .entry))) n) ⌝ }
+    ensures said { λ r. ⌜ sizeSaid r
+        ≡ sizeSaid (typeSize limit (now (text .entry)) (length (now (frames .entry))) n) ⌝ }
     ensures frames { λ r. ⌜ now (frames .exit) ≡ framesAfter limit (now (text .entry)) (now (frames .entry)) NotLent ⌝ }
 {
     let read = read_file(text, limit, frames);
     match frames_in(read) {
         OptionUsize::None => TypeSize::NotAccepted(read),
         OptionUsize::Some(k) => {
-            let m = 16 * k;
-            let s = find_starts(&frames[..m]);
-            type_sizes::type_size(&frames[..m], s, n)
+            let fr = first_frames(frames, k);
+            type_sizes::type_size(fr, find_starts(fr), n)
         }
     }
 }
@@ -89,9 +90,8 @@ pub fn size_range(
     match frames_in(outcome) {
         OptionUsize::None => TypeRange::NotAccepted(outcome),
         OptionUsize::Some(k) => {
-            let m = 16 * k;
-            let s = find_starts(&frames[..m]);
-            type_range(&frames[..m], s, least, greatest, n)
+            let fr = first_frames(frames, k);
+            type_range(fr, find_starts(fr), least, greatest, n)
         }
     }
 }

@@ -1,4 +1,4 @@
--- Number 5 by family: a frame of a family is within its values exactly when it is within those of its layout. Assumes nothing.
+-- Number 5 by family: a frame of a family is within its values exactly when it is within those of its layout.
 use Prim.Native.Nat.{ℕ}
 use mathlib.Core.Path.{_≡_, ap}
 use mathlib.Core.Bool.{Bool, true, _&&_}

@@ -1,6 +1,6 @@
--- A field whose bytes are within its values writes, from what it reads, the bytes that it was read from. A frame whose bytes are within
--- the values of a layout is the one that the layout writes from what it reads: each byte is written by a field that takes it, or is zero.
--- Assumes nothing.
+-- A field whose bytes are within its values writes, from what it reads, the bytes that it was read from. A frame whose
+-- bytes are within the values of a layout is the one that the layout writes from what it reads: each byte is written by
+-- a field that takes it, or is zero.
 use Prim.Native.Nat.{ℕ, zero, suc, _+_, _*_, _-_, _≤_, _<_}
 use native.Mathlib.Nat.{zero-add}
 use native.Mathlib.Omega.{arith}
@@ -12,13 +12,22 @@ use lib.Dec.{leb, ltb, eqb}
 use lib.ListN.{length, getD}
 use borrow.Author.Tests.{ltb-true, leb-true, eqb-true, ne-eqb}
 use Rattle.ir.proofs.Tables.{at-place}
-use Rattle.ir.proofs.Numbered.{vectorSize-number, cooperativeRole-number, scalarKind-number, width-number, imageDimension-number, storageFormat-number, literal-number, binaryOperator-number, relationalFunction-number, imageQuery-number}
+use Rattle.ir.proofs.Numbered.{vectorSize-number, cooperativeRole-number, scalarKind-number, width-number}
+use Rattle.ir.proofs.Numbered.{imageDimension-number, storageFormat-number, literal-number, binaryOperator-number}
+use Rattle.ir.proofs.Numbered.{relationalFunction-number, imageQuery-number}
 use Rattle.ir.specs.declared.AddressSpace.the-variants as Sp
-use Rattle.ir.specs.Numbers.{vectorSizeOf, vectorSizeNumber, cooperativeSizeOf, cooperativeSizeNumber, scalarKindOf, scalarKindNumber, widthOf, widthNumber, flagOf, flagNumber, accessOf, accessNumber, spaces, spaceOf, spaceNumber, spaceAccess}
+use Rattle.ir.specs.Numbers.{vectorSizeOf, vectorSizeNumber, cooperativeSizeOf, cooperativeSizeNumber, scalarKindOf}
+use Rattle.ir.specs.Numbers.{scalarKindNumber, widthOf, widthNumber, flagOf, flagNumber, accessOf, accessNumber, spaces}
+use Rattle.ir.specs.Numbers.{spaceOf, spaceNumber, spaceAccess}
 use Rattle.frames.specs.declared.Frame.{Frame}
 use Rattle.frames.specs.Bytes.{bytesOf, byte, half, word, framed}
-use Rattle.frames.specs.Fields.{Field, vectorSize, optionSize, cooperativeSize, role, scalarKind, dimension, flag, literal, operator, number, wide, scalar, space, arraySize, class, result, query, relational, convert}
-use Rattle.frames.specs.Fields.{among, takes, read, fits, write, isSize, isSpace, isArraySize, isClass, isOption, isConvert, optionSizeOf, optionSizeNumber, arraySizeOf, formNumber, formCount, classOf, classBytes, resultOf, resultBytes, convertOf, convertBytes, halfByte, wordByte}
+use Rattle.frames.specs.Fields.{Field, vectorSize, optionSize, cooperativeSize, role, scalarKind, dimension, flag}
+use Rattle.frames.specs.Fields.{literal, operator, number, wide, scalar, space, arraySize, class, result, query}
+use Rattle.frames.specs.Fields.{relational, convert}
+use Rattle.frames.specs.Fields.{among, takes, read, fits, write, isSize, isSpace, isArraySize, isClass, isOption}
+use Rattle.frames.specs.Fields.{isConvert, optionSizeOf, optionSizeNumber, arraySizeOf, formNumber, formCount}
+use Rattle.frames.specs.Fields.{classOf, classBytes, resultOf, resultBytes, convertOf, convertBytes, halfByte}
+use Rattle.frames.specs.Fields.{wordByte}
 use Rattle.frames.specs.Fields.{fields, ValsOf, readEach, readAll, taken, places, allOf, fitsAll, writeEach, laid}
 
 -- every byte of a frame is below 256
@@ -74,7 +83,8 @@ half-at f w i j h = go (byte f i) (byte f (i + 1)) (w i) (w (i + 1)) j h ∙ at 
 
 word-at : (f : Frame) → Below f → (i j : ℕ) → j < 4 → wordByte (word f i) j ≡ byte f (i + j)
 word-at f w i j h =
-    go (byte f i) (byte f (i + 1)) (byte f (i + 2)) (byte f (i + 3)) (w i) (w (i + 1)) (w (i + 2)) (w (i + 3)) j h ∙ at i j h
+    go (byte f i) (byte f (i + 1)) (byte f (i + 2)) (byte f (i + 3)) (w i) (w (i + 1)) (w (i + 2)) (w (i + 3)) j h
+    ∙ at i j h
   where
     go : (a b c d : ℕ) → a < 256 → b < 256 → c < 256 → d < 256 → (j : ℕ) → j < 4
         → wordByte (a + b * 256 + c * 65536 + d * 16777216) j ≡ getD (a ∷ b ∷ c ∷ d ∷ []) j 0
@@ -84,7 +94,8 @@ word-at f w i j h =
     go a b c d p q r s (suc (suc (suc zero))) h = omega arith
     go a b c d p q r s (suc (suc (suc (suc j)))) h = absurd (omega arith)
 
-    at : (i j : ℕ) → j < 4 → getD (byte f i ∷ byte f (i + 1) ∷ byte f (i + 2) ∷ byte f (i + 3) ∷ []) j 0 ≡ byte f (i + j)
+    at : (i j : ℕ) → j < 4 → getD (byte f i ∷ byte f (i + 1) ∷ byte f (i + 2) ∷ byte f (i + 3) ∷ []) j 0
+        ≡ byte f (i + j)
     at i zero h = let e : i ≡ i + 0 = omega arith in ap (byte f) e
     at i (suc zero) h = refl
     at i (suc (suc zero)) h = refl
@@ -92,7 +103,8 @@ word-at f w i j h =
     at i (suc (suc (suc (suc j)))) h = absurd (omega arith)
 
 -- what stands at each of the n places from i on, counted from there
-offset : (f : Frame) (i n : ℕ) (g : ℕ → ℕ) → ((j : ℕ) → j < n → g j ≡ byte f (i + j)) → (k : ℕ) → among i n k ≡ true → g (k - i) ≡ byte f k
+offset : (f : Frame) (i n : ℕ) (g : ℕ → ℕ) → ((j : ℕ) → j < n → g j ≡ byte f (i + j)) → (k : ℕ) → among i n k ≡ true
+    → g (k - i) ≡ byte f k
 offset f i n g e k t =
     let h = within i n k t in
     let p : i ≤ k = h .0 in
@@ -101,7 +113,8 @@ offset f i n g e k t =
     e (k - i) (omega arith) ∙ ap (byte f) z
 
 -- the same with one place m apart from these
-apart : (f : Frame) (m i n a : ℕ) (g : ℕ → ℕ) → (m < i) ⊎ (i + n ≤ m) → a ≡ byte f m → ((j : ℕ) → j < n → g j ≡ byte f (i + j)) → (k : ℕ)
+apart : (f : Frame) (m i n a : ℕ) (g : ℕ → ℕ) → (m < i) ⊎ (i + n ≤ m) → a ≡ byte f m
+    → ((j : ℕ) → j < n → g j ≡ byte f (i + j)) → (k : ℕ)
     → (eqb k m || among i n k) ≡ true → cond (eqb k m) a (g (k - i)) ≡ byte f k
 apart f m i n a g o p e k t = go o (either (eqb k m) (among i n k) t)
   where
@@ -170,7 +183,8 @@ access-number (suc (suc (suc (suc (suc (suc (suc zero))))))) h = refl
 access-number (suc (suc (suc (suc (suc (suc (suc (suc a)))))))) h = absurd (omega arith)
 
 space-number : (s a : ℕ) → isSpace s a ≡ true → spaceNumber (spaceOf s a) ≡ s
-space-number s a h = let q = both (ltb s 10) _ h in at-place spaceNumber Sp.Function (spaces a) 0 refl s (ltb-true s 10 (q .0)) ∙ zero-add s
+space-number s a h = let q = both (ltb s 10) _ h in
+    at-place spaceNumber Sp.Function (spaces a) 0 refl s (ltb-true s 10 (q .0)) ∙ zero-add s
 
 space-access : (s a : ℕ) → isSpace s a ≡ true → spaceAccess (spaceOf s a) ≡ a
 space-access zero a h = sym (eqb-true a 0 h)
@@ -190,7 +204,8 @@ space-access (suc (suc (suc (suc (suc (suc (suc (suc (suc (suc s)))))))))) a h =
     absurd (omega arith)
 
 past-form : (m n : ℕ) → 3 ≤ m → isArraySize m n ≡ true → ⊥
-past-form m n l h = never (rw (ne-eqb m 0 (λ z. omega arith), ne-eqb m 1 (λ z. omega arith), ne-eqb m 2 (λ z. omega arith)) at h)
+past-form m n l h = never
+    (rw (ne-eqb m 0 (λ z. omega arith), ne-eqb m 1 (λ z. omega arith), ne-eqb m 2 (λ z. omega arith)) at h)
 
 form-number : (m n : ℕ) → isArraySize m n ≡ true → formNumber (arraySizeOf m n) ≡ m
 form-number zero n h = refl
@@ -221,24 +236,29 @@ class-number (suc (suc zero)) b5 b6 b7 h =
 class-number (suc (suc (suc zero))) b5 b6 b7 h =
     let q = both (ltb b5 41) _ h in
     let r = both (eqb b6 0) (ltb b7 8) (q .1) in
-    four _ _ refl (storageFormat-number b5 (ltb-true b5 41 (q .0))) (sym (eqb-true b6 0 (r .0))) (access-number b7 (ltb-true b7 8 (r .1)))
+    four _ _ refl (storageFormat-number b5 (ltb-true b5 41 (q .0))) (sym (eqb-true b6 0 (r .0)))
+    (access-number b7 (ltb-true b7 8 (r .1)))
 class-number (suc (suc (suc (suc c)))) b5 b6 b7 h = absurd (never h)
 
 result-number : (a b m : ℕ) → a < 256 → b < 256 → isOption m (a + b * 256) ≡ true → (j : ℕ) → j < 3
     → getD (resultBytes (resultOf m (record { 0 = a + b * 256 }))) j 0 ≡ getD (a ∷ b ∷ m ∷ []) j 0
 result-number a b zero p q h = let z = eqb-true (a + b * 256) 0 h in three _ _ (omega arith) (omega arith) refl
 result-number a b (suc zero) p q h = three _ _ (omega arith) (omega arith) refl
-result-number a b (suc (suc m)) p q h = let l = ltb-true (suc (suc m)) 2 (both (ltb (suc (suc m)) 2) _ h .0) in absurd (omega arith)
+result-number a b (suc (suc m)) p q h = let l = ltb-true (suc (suc m)) 2 (both (ltb (suc (suc m)) 2) _ h .0) in
+    absurd (omega arith)
 
-convert-number : (m n : ℕ) → isConvert m n ≡ true → (j : ℕ) → j < 2 → getD (convertBytes (convertOf m n)) j 0 ≡ getD (m ∷ n ∷ []) j 0
+convert-number : (m n : ℕ) → isConvert m n ≡ true → (j : ℕ) → j < 2 → getD (convertBytes (convertOf m n)) j 0
+    ≡ getD (m ∷ n ∷ []) j 0
 convert-number zero n h = two _ _ refl (sym (eqb-true n 0 h))
 convert-number (suc zero) n h = two _ _ refl (width-number n h)
-convert-number (suc (suc m)) n h = let l = ltb-true (suc (suc m)) 2 (both (ltb (suc (suc m)) 2) _ h .0) in absurd (omega arith)
+convert-number (suc (suc m)) n h = let l = ltb-true (suc (suc m)) 2 (both (ltb (suc (suc m)) 2) _ h .0) in
+    absurd (omega arith)
 
 -- THE LAW OF A FIELD
 
 -- a field whose bytes are within its values writes, from what it reads, each byte that it takes
-pub write-read : (x : Field) (f : Frame) → Below f → fits x f ≡ true → (k : ℕ) → takes x k ≡ true → write x (read x f) k ≡ byte f k
+pub write-read : (x : Field) (f : Frame) → Below f → fits x f ≡ true → (k : ℕ) → takes x k ≡ true → write x (read x f) k
+    ≡ byte f k
 write-read (vectorSize i) f w h k t = size-number (byte f i) h ∙ ap (byte f) (sym (eqb-true k i t))
 write-read (optionSize i) f w h k t = optionSize-number (byte f i) h ∙ ap (byte f) (sym (eqb-true k i t))
 write-read (cooperativeSize i) f w h k t = cooperative-number (byte f i) h ∙ ap (byte f) (sym (eqb-true k i t))
@@ -249,18 +269,21 @@ write-read (dimension i) f w h k t =
     imageDimension-number (byte f i) (leb-true 1 _ (q .0)) (ltb-true _ 5 (q .1)) ∙ ap (byte f) (sym (eqb-true k i t))
 write-read (flag i) f w h k t = flag-number (byte f i) h ∙ ap (byte f) (sym (eqb-true k i t))
 write-read (literal i) f w h k t = literal-number (byte f i) (ltb-true _ 12 h) ∙ ap (byte f) (sym (eqb-true k i t))
-write-read (operator i) f w h k t = binaryOperator-number (byte f i) (ltb-true _ 18 h) ∙ ap (byte f) (sym (eqb-true k i t))
+write-read (operator i) f w h k t = binaryOperator-number (byte f i) (ltb-true _ 18 h)
+    ∙ ap (byte f) (sym (eqb-true k i t))
 write-read (number i) f w h k t = offset f i 2 (halfByte (half f i)) (half-at f w i) k t
 write-read (wide i) f w h k t = offset f i 4 (wordByte (word f i)) (word-at f w i) k t
 write-read scalar f w h k t =
     let q = both (ltb (f .b4) 6) _ h in
     offset f 4 2 _
-    (two (λ (j : ℕ). getD (scalarKindNumber (scalarKindOf (f .b4)) ∷ widthNumber (widthOf (f .b5)) ∷ []) j 0) (λ (j : ℕ). byte f (4 + j))
+    (two (λ (j : ℕ). getD (scalarKindNumber (scalarKindOf (f .b4)) ∷ widthNumber (widthOf (f .b5)) ∷ []) j 0)
+    (λ (j : ℕ). byte f (4 + j))
     (scalarKind-number (f .b4) (ltb-true _ 6 (q .0))) (width-number (f .b5) (q .1)))
     k t
 write-read space f w h k t =
     offset f 6 2 _
-    (two (λ (j : ℕ). getD (spaceNumber (read space f) ∷ spaceAccess (read space f) ∷ []) j 0) (λ (j : ℕ). byte f (6 + j))
+    (two (λ (j : ℕ). getD (spaceNumber (read space f) ∷ spaceAccess (read space f) ∷ []) j 0)
+    (λ (j : ℕ). byte f (6 + j))
     (space-number (f .b6) (f .b7) h) (space-access (f .b6) (f .b7) h))
     k t
 write-read arraySize f w h k t =
@@ -271,7 +294,8 @@ write-read class f w h k t =
     offset f 4 4 _
     (λ j l.
     class-number (f .b4) (f .b5) (f .b6) (f .b7) h j l
-    ∙ four (λ (i : ℕ). getD (f .b4 ∷ f .b5 ∷ f .b6 ∷ f .b7 ∷ []) i 0) (λ (i : ℕ). byte f (4 + i)) refl refl refl refl j l)
+    ∙ four (λ (i : ℕ). getD (f .b4 ∷ f .b5 ∷ f .b6 ∷ f .b7 ∷ []) i 0)
+    (λ (i : ℕ). byte f (4 + i)) refl refl refl refl j l)
     k t
 write-read result f w h k t =
     offset f 2 3 _
@@ -281,13 +305,16 @@ write-read result f w h k t =
     k t
 write-read query f w h k t =
     let q = both (ltb (byte f 6) 4) _ h in
-    apart f 6 2 2 _ (halfByte (half f 2)) (inr (omega arith)) (imageQuery-number _ (ltb-true _ 4 (q .0))) (half-at f w 2) k t
+    apart f 6 2 2 _ (halfByte (half f 2)) (inr (omega arith)) (imageQuery-number _ (ltb-true _ 4 (q .0)))
+    (half-at f w 2) k t
 write-read relational f w h k t =
     let q = both (ltb (byte f 6) 4) _ h in
-    apart f 6 2 2 _ (halfByte (half f 2)) (inr (omega arith)) (relationalFunction-number _ (ltb-true _ 4 (q .0))) (half-at f w 2) k t
+    apart f 6 2 2 _ (halfByte (half f 2)) (inr (omega arith)) (relationalFunction-number _ (ltb-true _ 4 (q .0)))
+    (half-at f w 2) k t
 write-read convert f w h k t =
     offset f 7 2 _
-    (λ j l. convert-number (f .b7) (f .b8) h j l ∙ two (λ (i : ℕ). getD (f .b7 ∷ f .b8 ∷ []) i 0) (λ (i : ℕ). byte f (7 + i)) refl refl j l)
+    (λ j l. convert-number (f .b7) (f .b8) h j l
+    ∙ two (λ (i : ℕ). getD (f .b7 ∷ f .b8 ∷ []) i 0) (λ (i : ℕ). byte f (7 + i)) refl refl j l)
     k t
 
 -- A WHOLE FRAME
@@ -329,7 +356,8 @@ by-test true x y r p q = p refl
 by-test false x y r p q = q refl
 
 -- a byte that a field of the list takes is written again
-taken-back : (f : Frame) → Below f → (l : List Field) → allOf (map (λ (x : Field). fits x f) l) ≡ true → (k : ℕ) → taken l k ≡ true
+taken-back : (f : Frame) → Below f → (l : List Field) → allOf (map (λ (x : Field). fits x f) l) ≡ true → (k : ℕ)
+    → taken l k ≡ true
     → writeEach l (readEach l f) k ≡ byte f k
 taken-back f w [] h k t = absurd (never t)
 taken-back f w (x ∷ l) h k t =
@@ -343,11 +371,13 @@ untaken (x ∷ l) v k t =
     by-test (takes x k) _ _ _ (λ e. absurd (never (sym (rw e at t)))) (λ e. untaken l (v .1) k (rw e at t))
 
 -- each place after the family and the kind
-each-back : (f : Frame) → Below f → (l : List Field) → fitsAll (fields l) f ≡ true → (k : ℕ) → (taken l k || eqb (byte f k) 0) ≡ true
+each-back : (f : Frame) → Below f → (l : List Field) → fitsAll (fields l) f ≡ true → (k : ℕ)
+    → (taken l k || eqb (byte f k) 0) ≡ true
     → writeEach l (readEach l f) k ≡ byte f k
 each-back f w l h k t = go (taken l k) refl
   where
-    q : (allOf (map (λ (x : Field). fits x f) l) ≡ true) × (allOf (map (λ (k : ℕ). taken l k || eqb (byte f k) 0) places) ≡ true)
+    q : (allOf (map (λ (x : Field). fits x f) l) ≡ true)
+        × (allOf (map (λ (k : ℕ). taken l k || eqb (byte f k) 0) places) ≡ true)
     q = all-before (map (λ (x : Field). fits x f) l) _ h
 
     go : (b : Bool) → taken l k ≡ b → writeEach l (readEach l f) k ≡ byte f k
@@ -359,7 +389,8 @@ pub laid-back : (l : List Field) (f : Frame) → Below f → fitsAll (fields l) 
     → laid (byte f 0) (byte f 1) (fields l) (readAll (fields l) f) ≡ f
 laid-back l f w h = same-bytes _ (byte f) each
   where
-    q : (allOf (map (λ (x : Field). fits x f) l) ≡ true) × (allOf (map (λ (k : ℕ). taken l k || eqb (byte f k) 0) places) ≡ true)
+    q : (allOf (map (λ (x : Field). fits x f) l) ≡ true)
+        × (allOf (map (λ (k : ℕ). taken l k || eqb (byte f k) 0) places) ≡ true)
     q = all-before (map (λ (x : Field). fits x f) l) _ h
 
     each : (i : ℕ) → i < 16 → getD (byte f 0 ∷ byte f 1 ∷ []) i (writeEach l (readEach l f) i) ≡ byte f i
@@ -369,4 +400,5 @@ laid-back l f w h = same-bytes _ (byte f) each
         let n : i < 14 = omega arith in
         let e : getD places i 0 ≡ suc (suc i) = at-place (λ (k : ℕ). k) 0 places 2 refl i n ∙ omega arith in
         each-back f w l h (suc (suc i))
-        (subst (λ (k : ℕ). (taken l k || eqb (byte f k) 0) ≡ true) e (all-at (λ (k : ℕ). taken l k || eqb (byte f k) 0) places (q .1) i n))
+        (subst (λ (k : ℕ). (taken l k || eqb (byte f k) 0) ≡ true) e
+        (all-at (λ (k : ℕ). taken l k || eqb (byte f k) 0) places (q .1) i n))

@@ -1,5 +1,4 @@
 -- A frame that was put into a buffer is read at its place, every other frame is as it was, and so is the length.
--- Assumes nothing.
 use Prim.Native.Nat.{ℕ, _+_, _*_, _-_, _≤_, _<_}
 use native.Mathlib.Decide.{decLt}
 use native.Mathlib.Omega.{arith}
@@ -25,20 +24,25 @@ module _ (s : List ℕ) (p : ℕ) (f : Frame) (fits : p + 16 ≤ length s) where
 
   length-placed : length (placed s p f) ≡ length s
   length-placed =
-      let e : length (bytesOf f ++ drop (p + 16) s) ≡ 16 + length (drop (p + 16) s) = length-append (bytesOf f) (drop (p + 16) s) in
-      ap length grouped ∙ length-append (take p s) (bytesOf f ++ drop (p + 16) s) ∙ omega (arith, e, before, length-drop (p + 16) s)
+      let e : length (bytesOf f ++ drop (p + 16) s)
+      ≡ 16 + length (drop (p + 16) s) = length-append (bytesOf f) (drop (p + 16) s) in
+      ap length grouped ∙ length-append (take p s) (bytesOf f ++ drop (p + 16) s)
+      ∙ omega (arith, e, before, length-drop (p + 16) s)
 
   from-p : (i : ℕ) → getD (placed s p f) (p + i) 0 ≡ getD (bytesOf f ++ drop (p + 16) s) i 0
   from-p i =
       let e : p + i ≡ length (take p s) + i = omega (arith, before) in
-      ap (λ (l : List ℕ). getD l (p + i) 0) grouped ∙ ap (λ (n : ℕ). getD (take p s ++ (bytesOf f ++ drop (p + 16) s)) n 0) e ∙ getD-append-add (take p s) (bytesOf f ++ drop (p + 16) s) i 0
+      ap (λ (l : List ℕ). getD l (p + i) 0) grouped
+      ∙ ap (λ (n : ℕ). getD (take p s ++ (bytesOf f ++ drop (p + 16) s)) n 0) e
+      ∙ getD-append-add (take p s) (bytesOf f ++ drop (p + 16) s) i 0
 
   inside : (i : ℕ) → i < 16 → getD (placed s p f) (p + i) 0 ≡ byte f i
   inside i h = from-p i ∙ List·getD-append (bytesOf f) (drop (p + 16) s) 0 i h
 
   below : (i : ℕ) → i < p → getD (placed s p f) i 0 ≡ getD s i 0
   below i h =
-      ap (λ (l : List ℕ). getD l i 0) grouped ∙ List·getD-append (take p s) (bytesOf f ++ drop (p + 16) s) 0 i (omega (arith, before))
+      ap (λ (l : List ℕ). getD l i 0) grouped
+      ∙ List·getD-append (take p s) (bytesOf f ++ drop (p + 16) s) 0 i (omega (arith, before))
       ∙ getD-take p s i 0 h
 
   above : (i : ℕ) → p + 16 ≤ i → getD (placed s p f) i 0 ≡ getD s i 0
@@ -46,7 +50,8 @@ module _ (s : List ℕ) (p : ℕ) (f : Frame) (fits : p + 16 ≤ length s) where
       let m : ℕ = i - (p + 16) in
       let e : i ≡ p + (16 + m) = omega arith in
       let g : p + 16 + m ≡ i = omega arith in
-      ap (λ (n : ℕ). getD (placed s p f) n 0) e ∙ from-p (16 + m) ∙ getD-append-add (bytesOf f) (drop (p + 16) s) m 0 ∙ getD-drop (p + 16) s m 0
+      ap (λ (n : ℕ). getD (placed s p f) n 0) e ∙ from-p (16 + m) ∙ getD-append-add (bytesOf f) (drop (p + 16) s) m 0
+      ∙ getD-drop (p + 16) s m 0
       ∙ ap (λ (n : ℕ). getD s n 0) g
 
 -- a buffer's length stays
@@ -64,7 +69,8 @@ unfolding frameAt putFrame
 put-same s k f l =
     let h : 16 * k + 16 ≤ length s = omega arith in
     let e : k < frameCount (placed s (16 * k) f) = omega (arith, length-placed s (16 * k) f h) in
-    rw (lt-ltb k (frameCount s) l, lt-ltb k (frameCount (placed s (16 * k) f)) e) (same-bytes _ (byte f) (inside s (16 * k) f h))
+    rw (lt-ltb k (frameCount s) l, lt-ltb k (frameCount (placed s (16 * k) f)) e)
+    (same-bytes _ (byte f) (inside s (16 * k) f h))
 
 -- a byte of another frame
 elsewhere : (s : List ℕ) (k : ℕ) (f : Frame) (j : ℕ) → 16 * k + 16 ≤ length s → (j ≡ k → ⊥) → (i : ℕ) → i < 16
@@ -109,7 +115,19 @@ from-below s w p =
                 w (p + 5),
                 (
                   w (p + 6),
-                  (w (p + 7), (w (p + 8), (w (p + 9), (w (p + 10), (w (p + 11), (w (p + 12), (w (p + 13), (w (p + 14), (w (p + 15), tt))))))))),
+                  (
+                    w (p + 7),
+                    (
+                      w (p + 8),
+                      (
+                        w (p + 9),
+                        (
+                          w (p + 10),
+                          (w (p + 11), (w (p + 12), (w (p + 13), (w (p + 14), (w (p + 15), tt))))),
+                        ),
+                      ),
+                    ),
+                  ),
                 ),
               ),
             ),
@@ -119,7 +137,8 @@ from-below s w p =
     )
 
 zeros : Each (bytesOf zeroFrame)
-zeros = let z : 0 < 256 = omega arith in (z, (z, (z, (z, (z, (z, (z, (z, (z, (z, (z, (z, (z, (z, (z, (z, tt))))))))))))))))
+zeros = let z : 0 < 256 = omega arith in
+    (z, (z, (z, (z, (z, (z, (z, (z, (z, (z, (z, (z, (z, (z, (z, (z, tt))))))))))))))))
 
 -- a frame of a buffer of bytes has bytes
 pub below-at : (s : List ℕ) → ((i : ℕ) → getD s i 0 < 256) → (k : ℕ) → Below (frameAt s k)

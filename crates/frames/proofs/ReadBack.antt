@@ -1,10 +1,11 @@
--- What is handed back is read as what was handed back: each number's bytes give the number, and each case's number gives the case.
--- Assumes nothing.
+-- What is handed back is read as what was handed back: each number's bytes give the number, and each case's number
+-- gives the case.
 use Prim.Native.Nat.{ℕ, _+_, _*_, _/_, _%_}
 use native.Mathlib.Omega.{arith}
 use mathlib.Core.Path.{_≡_, refl, ap}
 use borrow.Author.Tests.{ne-eqb}
-use Rattle.ir.proofs.Numbered.{vectorSize-back, cooperativeSize-back, cooperativeRole-back, scalarKind-back, width-back, imageDimension-back, storageFormat-back, flag-back, access-back, space-back}
+use Rattle.ir.proofs.Numbered.{vectorSize-back, cooperativeSize-back, cooperativeRole-back, scalarKind-back, width-back}
+use Rattle.ir.proofs.Numbered.{imageDimension-back, storageFormat-back, flag-back, access-back, space-back}
 use Rattle.ir.specs.declared.RowNumber.{RowNumber}
 use Rattle.ir.specs.declared.VectorSize.the-variants as Vs
 use Rattle.ir.specs.declared.OptionVectorSize.{OptionVectorSize}
@@ -33,7 +34,8 @@ pub half-back : (n : ℕ) → n % 256 + n / 256 * 256 ≡ n
 half-back n = omega arith
 
 -- the four bytes of a number give it again
-pub word-back : (n : ℕ) → n % 256 + n / 256 % 256 * 256 + n / 256 / 256 % 256 * 65536 + n / 256 / 256 / 256 * 16777216 ≡ n
+pub word-back : (n : ℕ) → n % 256 + n / 256 % 256 * 256 + n / 256 / 256 % 256 * 65536 + n / 256 / 256 / 256 * 16777216
+    ≡ n
 word-back n = omega arith
 
 option-back : (n : OptionVectorSize) → optionSizeOf (optionSizeNumber n) ≡ n
@@ -43,7 +45,9 @@ option-back (Os.Some Vs.Tri) = refl
 option-back (Os.Some Vs.Quad) = refl
 
 size-back : (z : ArraySize)
-    → arraySizeOf (formNumber z) (formCount z % 256 + formCount z / 256 % 256 * 256 + formCount z / 256 / 256 % 256 * 65536 + formCount z / 256 / 256 / 256 * 16777216) ≡ z
+    → arraySizeOf (formNumber z)
+    (formCount z % 256 + formCount z / 256 % 256 * 256 + formCount z / 256 / 256 % 256 * 65536 + formCount z / 256 /
+    256 / 256 * 16777216) ≡ z
 size-back (As.Constant n) = ap As.Constant (word-back n)
 size-back (As.Pending o) = rw (word-back (o .0))
 size-back As.Dynamic = refl
@@ -53,15 +57,24 @@ pub type-back : (t : TypeInner) (family : ℕ) → typeOf (typeFrame family t) �
 unfolding typeOf
 type-back (Ti.Scalar s) family = rw (scalarKind-back (s .kind), width-back (s .width))
 type-back (Ti.Vector n s) family = rw (vectorSize-back n, scalarKind-back (s .kind), width-back (s .width))
-type-back (Ti.Matrix c r s) family = rw (vectorSize-back c, vectorSize-back r, scalarKind-back (s .kind), width-back (s .width))
+type-back (Ti.Matrix c r s) family
+    = rw (vectorSize-back c, vectorSize-back r, scalarKind-back (s .kind), width-back (s .width))
 type-back (Ti.CooperativeMatrix c r s o) family =
-    rw (cooperativeSize-back c, cooperativeSize-back r, scalarKind-back (s .kind), width-back (s .width), cooperativeRole-back o)
+    rw (
+      cooperativeSize-back c,
+      cooperativeSize-back r,
+      scalarKind-back (s .kind),
+      width-back (s .width),
+      cooperativeRole-back o,
+    )
 type-back (Ti.Atomic s) family = rw (scalarKind-back (s .kind), width-back (s .width))
 type-back (Ti.Pointer b p) family = rw (half-back (b .0), space-back p)
-type-back (Ti.ValuePointer n s p) family = rw (option-back n, scalarKind-back (s .kind), width-back (s .width), space-back p)
+type-back (Ti.ValuePointer n s p) family
+    = rw (option-back n, scalarKind-back (s .kind), width-back (s .width), space-back p)
 type-back (Ti.Array b z t) family = rw (half-back (b .0), size-back z, word-back t)
 type-back (Ti.Struct m n t) family = rw (half-back (m .0), half-back n, word-back t)
-type-back (Ti.Image d a (Ic.Sampled k m)) family = rw (imageDimension-back d, flag-back a, scalarKind-back k, flag-back m)
+type-back (Ti.Image d a (Ic.Sampled k m)) family
+    = rw (imageDimension-back d, flag-back a, scalarKind-back k, flag-back m)
 type-back (Ti.Image d a (Ic.Depth m)) family = rw (imageDimension-back d, flag-back a, flag-back m)
 type-back (Ti.Image d a Ic.External) family = rw (imageDimension-back d, flag-back a)
 type-back (Ti.Image d a (Ic.Storage f x)) family =
@@ -91,8 +104,10 @@ answer-back (An.Refused Re.MissingSpecialType) = refl
 answer-back (An.Refused Re.Mismatch) = refl
 answer-back (An.Newer r) = rw (half-back (r .0))
 
--- a verdict's frame reads as the verdict; a newer component's index is not hex ffffffff, which stands for the composed type
-pub verdict-back : (r : RowNumber) (v : Verdict) → (v ≡ Vd.NewerComponent 0xffff_ffff → ⊥) → verdictOf (verdictFrame r v) ≡ v
+-- a verdict's frame reads as the verdict; a newer component's index is not hex ffffffff, which stands for the composed
+-- type
+pub verdict-back : (r : RowNumber) (v : Verdict) → (v ≡ Vd.NewerComponent 0xffff_ffff → ⊥)
+    → verdictOf (verdictFrame r v) ≡ v
 unfolding verdictOf
 verdict-back r Vd.Passes h = refl
 verdict-back r Vd.ComposedType h = refl

@@ -1,13 +1,14 @@
--- Two frames of one family that are within the values of their layouts, and that read as the same type, row, item, member or
--- component, are the same frame: what a frame reads as gives its kind and its layout's values again, and these give the frame
--- (FieldBack.antt). Assumes nothing.
+-- Two frames of one family that are within the values of their layouts, and that read as the same type, row, item,
+-- member or component, are the same frame: what a frame reads as gives its kind and its layout's values again, and
+-- these give the frame (FieldBack.antt).
 use Prim.Native.Nat.{ℕ, _<_}
 use native.Mathlib.Decide.{decLt}
 use native.Mathlib.Omega.{arith}
 use mathlib.Core.Path.{_≡_, refl, sym, ap, _∙_}
 use mathlib.Core.Bool.{true}
 use mathlib.Core.Logic.{inr}
-use Rattle.ir.proofs.Numbered.{typeKind-number, itemKind-number, rowKind-number, unknown-type, unknown-item, unknown-row}
+use Rattle.ir.proofs.Numbered.{typeKind-number, itemKind-number, rowKind-number, unknown-type, unknown-item}
+use Rattle.ir.proofs.Numbered.{unknown-row}
 use Rattle.ir.specs.declared.TypeKind.{TypeKind}
 use Rattle.ir.specs.declared.TypeKind.the-variants as Tk
 use Rattle.ir.specs.declared.TypeForm.{TypeForm}
@@ -34,7 +35,8 @@ abbrev Fielded : Layout → Type 0
 Fielded free = ⊥
 Fielded (fields l) = Unit {0}
 
-layout-back : (l : Layout) → Fielded l → (f : Frame) → Below f → fitsAll l f ≡ true → laid (byte f 0) (byte f 1) l (readAll l f) ≡ f
+layout-back : (l : Layout) → Fielded l → (f : Frame) → Below f → fitsAll l f ≡ true
+    → laid (byte f 0) (byte f 1) l (readAll l f) ≡ f
 layout-back free p f w h = absurd p
 layout-back (fields l) p f w h = laid-back l f w h
 
@@ -89,13 +91,15 @@ type-below b n = go (decLt b 15)
     go (no l) = absurd (n (unknown-type b .1 (inr (omega arith))))
 
 -- a frame that fits, of a known kind, is what the type that it reads as is written as
-pub type-again : (f : Frame) → Below f → (typeKindOf (byte f 1) ≡ Tk.Unknown → ⊥) → fitsAll (typeLayout (typeKindOf (byte f 1))) f ≡ true
+pub type-again : (f : Frame) → Below f → (typeKindOf (byte f 1) ≡ Tk.Unknown → ⊥)
+    → fitsAll (typeLayout (typeKindOf (byte f 1))) f ≡ true
     → formFrame (byte f 0) (typeOf f) ≡ f
 unfolding typeOf
 type-again f w n h =
     let k = typeKindOf (byte f 1) in
     made-type k n (byte f 0) (readAll (typeLayout k) f)
-    ∙ ap (λ (b : ℕ). laid (byte f 0) b (typeLayout k) (readAll (typeLayout k) f)) (typeKind-number (byte f 1) (type-below (byte f 1) n))
+    ∙ ap (λ (b : ℕ). laid (byte f 0) b (typeLayout k) (readAll (typeLayout k) f))
+    (typeKind-number (byte f 1) (type-below (byte f 1) n))
     ∙ layout-back (typeLayout k) (type-fielded k n) f w h
 
 -- frames of one family that read as the same known type are the same
@@ -103,7 +107,8 @@ pub same-type : (f g : Frame) → Below f → Below g → byte f 0 ≡ byte g 0 
     → (typeKindOf (byte g 1) ≡ Tk.Unknown → ⊥) → fitsAll (typeLayout (typeKindOf (byte f 1))) f ≡ true
     → fitsAll (typeLayout (typeKindOf (byte g 1))) g ≡ true → typeOf f ≡ typeOf g → f ≡ g
 same-type f g v w e m n h q t =
-    sym (type-again f v m h) ∙ ap (λ (b : ℕ). formFrame b (typeOf f)) e ∙ ap (formFrame (byte g 0)) t ∙ type-again g w n q
+    sym (type-again f v m h) ∙ ap (λ (b : ℕ). formFrame b (typeOf f)) e ∙ ap (formFrame (byte g 0)) t
+    ∙ type-again g w n q
 
 -- ROWS
 
@@ -203,14 +208,18 @@ unfolding rowOf
 row-again f w n h =
     let k = rowKindOf (byte f 1) in
     made-row k (n .0) (byte f 0) (readAll (rowLayout k) f)
-    ∙ ap (λ (b : ℕ). laid (byte f 0) b (rowLayout k) (readAll (rowLayout k) f)) (rowKind-number (byte f 1) (row-below (byte f 1) (n .0)))
+    ∙ ap (λ (b : ℕ). laid (byte f 0) b (rowLayout k) (readAll (rowLayout k) f))
+    (rowKind-number (byte f 1) (row-below (byte f 1) (n .0)))
     ∙ layout-back (rowLayout k) (row-fielded k n) f w h
 
 -- frames of one family that read as the same row, known and not Math, are the same
-pub same-row : (f g : Frame) → Below f → Below g → byte f 0 ≡ byte g 0 → Typed (rowKindOf (byte f 1)) → Typed (rowKindOf (byte g 1))
-    → fitsAll (rowLayout (rowKindOf (byte f 1))) f ≡ true → fitsAll (rowLayout (rowKindOf (byte g 1))) g ≡ true → rowOf f ≡ rowOf g → f ≡ g
+pub same-row : (f g : Frame) → Below f → Below g → byte f 0 ≡ byte g 0 → Typed (rowKindOf (byte f 1))
+    → Typed (rowKindOf (byte g 1))
+    → fitsAll (rowLayout (rowKindOf (byte f 1))) f ≡ true → fitsAll (rowLayout (rowKindOf (byte g 1))) g ≡ true
+    → rowOf f ≡ rowOf g → f ≡ g
 same-row f g v w e m n h q t =
-    sym (row-again f v m h) ∙ ap (λ (b : ℕ). rowFormFrame b (rowOf f)) e ∙ ap (rowFormFrame (byte g 0)) t ∙ row-again g w n q
+    sym (row-again f v m h) ∙ ap (λ (b : ℕ). rowFormFrame b (rowOf f)) e ∙ ap (rowFormFrame (byte g 0)) t
+    ∙ row-again g w n q
 
 -- ITEMS
 
@@ -244,13 +253,15 @@ item-below b n = go (decLt b 9)
     go (yes l) = l
     go (no l) = absurd (n (unknown-item b .1 (inr (omega arith))))
 
-item-again : (f : Frame) → Below f → (itemKindOf (byte f 1) ≡ Ik.Unknown → ⊥) → fitsAll (itemLayout (itemKindOf (byte f 1))) f ≡ true
+item-again : (f : Frame) → Below f → (itemKindOf (byte f 1) ≡ Ik.Unknown → ⊥)
+    → fitsAll (itemLayout (itemKindOf (byte f 1))) f ≡ true
     → itemFrame (byte f 0) (itemOf f) ≡ f
 unfolding itemOf
 item-again f w n h =
     let k = itemKindOf (byte f 1) in
     made-item k (byte f 0) (readAll (itemLayout k) f)
-    ∙ ap (λ (b : ℕ). laid (byte f 0) b (itemLayout k) (readAll (itemLayout k) f)) (itemKind-number (byte f 1) (item-below (byte f 1) n))
+    ∙ ap (λ (b : ℕ). laid (byte f 0) b (itemLayout k) (readAll (itemLayout k) f))
+    (itemKind-number (byte f 1) (item-below (byte f 1) n))
     ∙ layout-back (itemLayout k) (item-fielded k n) f w h
 
 -- frames of one family that read as the same item of a known kind are the same
@@ -258,30 +269,37 @@ pub same-item : (f g : Frame) → Below f → Below g → byte f 0 ≡ byte g 0 
     → (itemKindOf (byte g 1) ≡ Ik.Unknown → ⊥) → fitsAll (itemLayout (itemKindOf (byte f 1))) f ≡ true
     → fitsAll (itemLayout (itemKindOf (byte g 1))) g ≡ true → itemOf f ≡ itemOf g → f ≡ g
 same-item f g v w e m n h q t =
-    sym (item-again f v m h) ∙ ap (λ (b : ℕ). itemFrame b (itemOf f)) e ∙ ap (itemFrame (byte g 0)) t ∙ item-again g w n q
+    sym (item-again f v m h) ∙ ap (λ (b : ℕ). itemFrame b (itemOf f)) e ∙ ap (itemFrame (byte g 0)) t
+    ∙ item-again g w n q
 
 -- MEMBERS AND COMPONENTS
 
-member-again : (f : Frame) → Below f → fitsAll memberLayout f ≡ true → memberFrame (byte f 0) (byte f 1) (memberOf f) ≡ f
+member-again : (f : Frame) → Below f → fitsAll memberLayout f ≡ true → memberFrame (byte f 0) (byte f 1) (memberOf f)
+    ≡ f
 unfolding memberOf
 member-again f w h = layout-back memberLayout tt f w h
 
 -- frames of one family and one kind that read as the same member are the same
-pub same-member : (f g : Frame) → Below f → Below g → byte f 0 ≡ byte g 0 → byte f 1 ≡ byte g 1 → fitsAll memberLayout f ≡ true
+pub same-member : (f g : Frame) → Below f → Below g → byte f 0 ≡ byte g 0 → byte f 1 ≡ byte g 1 → fitsAll memberLayout f
+    ≡ true
     → fitsAll memberLayout g ≡ true → memberOf f ≡ memberOf g → f ≡ g
 same-member f g v w e k h q t =
-    sym (member-again f v h) ∙ ap (λ (b : ℕ). memberFrame b (byte f 1) (memberOf f)) e ∙ ap (λ (b : ℕ). memberFrame (byte g 0) b (memberOf f)) k
+    sym (member-again f v h) ∙ ap (λ (b : ℕ). memberFrame b (byte f 1) (memberOf f)) e
+    ∙ ap (λ (b : ℕ). memberFrame (byte g 0) b (memberOf f)) k
     ∙ ap (memberFrame (byte g 0) (byte g 1)) t
     ∙ member-again g w q
 
-component-again : (f : Frame) → Below f → fitsAll componentLayout f ≡ true → componentFrame (byte f 0) (byte f 1) (componentOf f) ≡ f
+component-again : (f : Frame) → Below f → fitsAll componentLayout f ≡ true
+    → componentFrame (byte f 0) (byte f 1) (componentOf f) ≡ f
 unfolding componentOf
 component-again f w h = layout-back componentLayout tt f w h
 
 -- frames of one family and one kind that read as the same component are the same
-pub same-component : (f g : Frame) → Below f → Below g → byte f 0 ≡ byte g 0 → byte f 1 ≡ byte g 1 → fitsAll componentLayout f ≡ true
+pub same-component : (f g : Frame) → Below f → Below g → byte f 0 ≡ byte g 0 → byte f 1 ≡ byte g 1
+    → fitsAll componentLayout f ≡ true
     → fitsAll componentLayout g ≡ true → componentOf f ≡ componentOf g → f ≡ g
 same-component f g v w e k h q t =
-    sym (component-again f v h) ∙ ap (λ (b : ℕ). componentFrame b (byte f 1) (componentOf f)) e ∙ ap (λ (b : ℕ). componentFrame (byte g 0) b (componentOf f)) k
+    sym (component-again f v h) ∙ ap (λ (b : ℕ). componentFrame b (byte f 1) (componentOf f)) e
+    ∙ ap (λ (b : ℕ). componentFrame (byte g 0) b (componentOf f)) k
     ∙ ap (componentFrame (byte g 0) (byte g 1)) t
     ∙ component-again g w q

@@ -1,5 +1,5 @@
--- A sample frame of each kind of type and of row, written by hand from document 01, "The file", with what it stands for: its bytes
--- are within their values, and it reads as that. Assumes nothing.
+-- A sample frame of each kind of type and of row, written by hand from document 01, "The file", with what it stands
+-- for: its bytes are within their values, and it reads as that.
 use Prim.Native.Nat.{ℕ}
 use mathlib.Core.Path.{_≡_, refl}
 use mathlib.Core.Bool.{true, false}
@@ -42,10 +42,19 @@ f32 = record { kind = Sk.Float; width = Wd.Four }
 abbrev pub typeSamples : List (List ℕ × TypeInner)
 typeSamples =
     (1 ∷ 1 ∷ 0 ∷ 0 ∷ 2 ∷ 4 ∷ 0 ∷ 0 ∷ 0 ∷ 0 ∷ 0 ∷ 0 ∷ 0 ∷ 0 ∷ 0 ∷ 0 ∷ [], Ti.Scalar f32)
-    ∷ (1 ∷ 2 ∷ 3 ∷ 0 ∷ 1 ∷ 4 ∷ 0 ∷ 0 ∷ 0 ∷ 0 ∷ 0 ∷ 0 ∷ 0 ∷ 0 ∷ 0 ∷ 0 ∷ [], Ti.Vector Vs.Tri (record { kind = Sk.Uint; width = Wd.Four }))
+    ∷ (
+      1 ∷ 2 ∷ 3 ∷ 0 ∷ 1 ∷ 4 ∷ 0 ∷ 0 ∷ 0 ∷ 0 ∷ 0 ∷ 0 ∷ 0 ∷ 0 ∷ 0 ∷ 0 ∷ [],
+      Ti.Vector Vs.Tri (record { kind = Sk.Uint; width = Wd.Four }),
+    )
     ∷ (1 ∷ 3 ∷ 2 ∷ 4 ∷ 2 ∷ 4 ∷ 0 ∷ 0 ∷ 0 ∷ 0 ∷ 0 ∷ 0 ∷ 0 ∷ 0 ∷ 0 ∷ 0 ∷ [], Ti.Matrix Vs.Bi Vs.Quad f32)
-    ∷ (1 ∷ 4 ∷ 8 ∷ 16 ∷ 2 ∷ 4 ∷ 1 ∷ 0 ∷ 0 ∷ 0 ∷ 0 ∷ 0 ∷ 0 ∷ 0 ∷ 0 ∷ 0 ∷ [], Ti.CooperativeMatrix Cs.Eight Cs.Sixteen f32 Cr.B)
-    ∷ (1 ∷ 5 ∷ 0 ∷ 0 ∷ 0 ∷ 8 ∷ 0 ∷ 0 ∷ 0 ∷ 0 ∷ 0 ∷ 0 ∷ 0 ∷ 0 ∷ 0 ∷ 0 ∷ [], Ti.Atomic (record { kind = Sk.Sint; width = Wd.Eight }))
+    ∷ (
+      1 ∷ 4 ∷ 8 ∷ 16 ∷ 2 ∷ 4 ∷ 1 ∷ 0 ∷ 0 ∷ 0 ∷ 0 ∷ 0 ∷ 0 ∷ 0 ∷ 0 ∷ 0 ∷ [],
+      Ti.CooperativeMatrix Cs.Eight Cs.Sixteen f32 Cr.B,
+    )
+    ∷ (
+      1 ∷ 5 ∷ 0 ∷ 0 ∷ 0 ∷ 8 ∷ 0 ∷ 0 ∷ 0 ∷ 0 ∷ 0 ∷ 0 ∷ 0 ∷ 0 ∷ 0 ∷ 0 ∷ [],
+      Ti.Atomic (record { kind = Sk.Sint; width = Wd.Eight }),
+    )
     ∷ (
       1 ∷ 6 ∷ 2 ∷ 1 ∷ 0 ∷ 0 ∷ 4 ∷ 3 ∷ 0 ∷ 0 ∷ 0 ∷ 0 ∷ 0 ∷ 0 ∷ 0 ∷ 0 ∷ [],
       Ti.Pointer (record {
@@ -61,7 +70,10 @@ typeSamples =
         width = Wd.One;
       }) Sp.IncomingRayPayload,
     )
-    ∷ (1 ∷ 8 ∷ 5 ∷ 0 ∷ 0 ∷ 0 ∷ 0 ∷ 0 ∷ 3 ∷ 0 ∷ 0 ∷ 1 ∷ 16 ∷ 0 ∷ 0 ∷ 0 ∷ [], Ti.Array (record { 0 = 5 }) (As.Constant 16777219) 16)
+    ∷ (
+      1 ∷ 8 ∷ 5 ∷ 0 ∷ 0 ∷ 0 ∷ 0 ∷ 0 ∷ 3 ∷ 0 ∷ 0 ∷ 1 ∷ 16 ∷ 0 ∷ 0 ∷ 0 ∷ [],
+      Ti.Array (record { 0 = 5 }) (As.Constant 16777219) 16,
+    )
     ∷ (1 ∷ 9 ∷ 7 ∷ 0 ∷ 2 ∷ 1 ∷ 0 ∷ 0 ∷ 0 ∷ 0 ∷ 0 ∷ 0 ∷ 0 ∷ 1 ∷ 0 ∷ 0 ∷ [], Ti.Struct (record { 0 = 7 }) 258 256)
     ∷ (
       1 ∷ 10 ∷ 2 ∷ 1 ∷ 3 ∷ 40 ∷ 0 ∷ 5 ∷ 0 ∷ 0 ∷ 0 ∷ 0 ∷ 0 ∷ 0 ∷ 0 ∷ 0 ∷ [],
@@ -91,7 +103,10 @@ rowSamples =
     ∷ (4 ∷ 2 ∷ 3 ∷ 0 ∷ 0 ∷ 0 ∷ 0 ∷ 0 ∷ 0 ∷ 0 ∷ 0 ∷ 0 ∷ 0 ∷ 0 ∷ 0 ∷ 0 ∷ [], Ex.Constant (record { 0 = 3 }))
     ∷ (4 ∷ 3 ∷ 3 ∷ 0 ∷ 0 ∷ 0 ∷ 0 ∷ 0 ∷ 0 ∷ 0 ∷ 0 ∷ 0 ∷ 0 ∷ 0 ∷ 0 ∷ 0 ∷ [], Ex.Override (record { 0 = 3 }))
     ∷ (4 ∷ 4 ∷ 3 ∷ 1 ∷ 0 ∷ 0 ∷ 0 ∷ 0 ∷ 0 ∷ 0 ∷ 0 ∷ 0 ∷ 0 ∷ 0 ∷ 0 ∷ 0 ∷ [], Ex.ZeroValue (record { 0 = 259 }))
-    ∷ (4 ∷ 5 ∷ 3 ∷ 0 ∷ 4 ∷ 0 ∷ 0 ∷ 0 ∷ 0 ∷ 0 ∷ 0 ∷ 0 ∷ 5 ∷ 0 ∷ 0 ∷ 0 ∷ [], Ex.Compose (record { 0 = 3 }) 4 (record { 0 = 5 }))
+    ∷ (
+      4 ∷ 5 ∷ 3 ∷ 0 ∷ 4 ∷ 0 ∷ 0 ∷ 0 ∷ 0 ∷ 0 ∷ 0 ∷ 0 ∷ 5 ∷ 0 ∷ 0 ∷ 0 ∷ [],
+      Ex.Compose (record { 0 = 3 }) 4 (record { 0 = 5 }),
+    )
     ∷ (4 ∷ 6 ∷ 3 ∷ 0 ∷ 0 ∷ 0 ∷ 0 ∷ 0 ∷ 0 ∷ 0 ∷ 0 ∷ 0 ∷ 0 ∷ 0 ∷ 0 ∷ 0 ∷ [], Ex.Access (record { 0 = 3 }))
     ∷ (4 ∷ 7 ∷ 3 ∷ 0 ∷ 0 ∷ 0 ∷ 0 ∷ 0 ∷ 0 ∷ 0 ∷ 0 ∷ 0 ∷ 1 ∷ 1 ∷ 0 ∷ 0 ∷ [], Ex.AccessIndex (record { 0 = 3 }) 257)
     ∷ (4 ∷ 8 ∷ 3 ∷ 0 ∷ 0 ∷ 0 ∷ 2 ∷ 0 ∷ 0 ∷ 0 ∷ 0 ∷ 0 ∷ 0 ∷ 0 ∷ 0 ∷ 0 ∷ [], Ex.Splat Vs.Bi (record { 0 = 3 }))
@@ -102,25 +117,46 @@ rowSamples =
     ∷ (4 ∷ 13 ∷ 3 ∷ 0 ∷ 0 ∷ 0 ∷ 0 ∷ 0 ∷ 0 ∷ 0 ∷ 0 ∷ 0 ∷ 0 ∷ 0 ∷ 0 ∷ 0 ∷ [], Ex.Load (record { 0 = 3 }))
     ∷ (4 ∷ 14 ∷ 3 ∷ 0 ∷ 0 ∷ 0 ∷ 1 ∷ 0 ∷ 0 ∷ 0 ∷ 0 ∷ 0 ∷ 0 ∷ 0 ∷ 0 ∷ 0 ∷ [], Ex.ImageSample (record { 0 = 3 }) true)
     ∷ (4 ∷ 15 ∷ 3 ∷ 0 ∷ 0 ∷ 0 ∷ 0 ∷ 0 ∷ 0 ∷ 0 ∷ 0 ∷ 0 ∷ 0 ∷ 0 ∷ 0 ∷ 0 ∷ [], Ex.ImageLoad (record { 0 = 3 }))
-    ∷ (4 ∷ 16 ∷ 0 ∷ 0 ∷ 0 ∷ 0 ∷ 3 ∷ 0 ∷ 0 ∷ 0 ∷ 0 ∷ 0 ∷ 0 ∷ 0 ∷ 0 ∷ 0 ∷ [], Ex.ImageQuery (record { 0 = 0 }) Iq.NumSamples)
+    ∷ (
+      4 ∷ 16 ∷ 0 ∷ 0 ∷ 0 ∷ 0 ∷ 3 ∷ 0 ∷ 0 ∷ 0 ∷ 0 ∷ 0 ∷ 0 ∷ 0 ∷ 0 ∷ 0 ∷ [],
+      Ex.ImageQuery (record { 0 = 0 }) Iq.NumSamples,
+    )
     ∷ (4 ∷ 17 ∷ 3 ∷ 0 ∷ 0 ∷ 0 ∷ 0 ∷ 0 ∷ 0 ∷ 0 ∷ 0 ∷ 0 ∷ 0 ∷ 0 ∷ 0 ∷ 0 ∷ [], Ex.Unary (record { 0 = 3 }))
-    ∷ (4 ∷ 18 ∷ 3 ∷ 0 ∷ 4 ∷ 0 ∷ 17 ∷ 0 ∷ 0 ∷ 0 ∷ 0 ∷ 0 ∷ 0 ∷ 0 ∷ 0 ∷ 0 ∷ [], Ex.Binary Bo.ShiftRight (record { 0 = 3 }) (record { 0 = 4 }))
+    ∷ (
+      4 ∷ 18 ∷ 3 ∷ 0 ∷ 4 ∷ 0 ∷ 17 ∷ 0 ∷ 0 ∷ 0 ∷ 0 ∷ 0 ∷ 0 ∷ 0 ∷ 0 ∷ 0 ∷ [],
+      Ex.Binary Bo.ShiftRight (record { 0 = 3 }) (record { 0 = 4 }),
+    )
     ∷ (4 ∷ 19 ∷ 3 ∷ 0 ∷ 0 ∷ 0 ∷ 0 ∷ 0 ∷ 0 ∷ 0 ∷ 0 ∷ 0 ∷ 0 ∷ 0 ∷ 0 ∷ 0 ∷ [], Ex.Select (record { 0 = 3 }))
     ∷ (4 ∷ 20 ∷ 3 ∷ 0 ∷ 0 ∷ 0 ∷ 0 ∷ 0 ∷ 0 ∷ 0 ∷ 0 ∷ 0 ∷ 0 ∷ 0 ∷ 0 ∷ 0 ∷ [], Ex.Derivative (record { 0 = 3 }))
     ∷ (4 ∷ 21 ∷ 3 ∷ 0 ∷ 0 ∷ 0 ∷ 2 ∷ 0 ∷ 0 ∷ 0 ∷ 0 ∷ 0 ∷ 0 ∷ 0 ∷ 0 ∷ 0 ∷ [], Ex.Relational Rl.IsNan (record { 0 = 3 }))
     ∷ (4 ∷ 22 ∷ 9 ∷ 9 ∷ 9 ∷ 9 ∷ 9 ∷ 9 ∷ 9 ∷ 9 ∷ 9 ∷ 9 ∷ 9 ∷ 9 ∷ 9 ∷ 9 ∷ [], Ex.Math)
-    ∷ (4 ∷ 23 ∷ 3 ∷ 0 ∷ 0 ∷ 0 ∷ 2 ∷ 1 ∷ 8 ∷ 0 ∷ 0 ∷ 0 ∷ 0 ∷ 0 ∷ 0 ∷ 0 ∷ [], Ex.As (record { 0 = 3 }) Sk.Float (Ob.Some Wd.Eight))
+    ∷ (
+      4 ∷ 23 ∷ 3 ∷ 0 ∷ 0 ∷ 0 ∷ 2 ∷ 1 ∷ 8 ∷ 0 ∷ 0 ∷ 0 ∷ 0 ∷ 0 ∷ 0 ∷ 0 ∷ [],
+      Ex.As (record { 0 = 3 }) Sk.Float (Ob.Some Wd.Eight),
+    )
     ∷ (4 ∷ 24 ∷ 3 ∷ 0 ∷ 0 ∷ 0 ∷ 0 ∷ 0 ∷ 0 ∷ 0 ∷ 0 ∷ 0 ∷ 0 ∷ 0 ∷ 0 ∷ 0 ∷ [], Ex.CallResult (record { 0 = 3 }))
     ∷ (4 ∷ 25 ∷ 3 ∷ 0 ∷ 0 ∷ 0 ∷ 0 ∷ 0 ∷ 0 ∷ 0 ∷ 0 ∷ 0 ∷ 0 ∷ 0 ∷ 0 ∷ 0 ∷ [], Ex.AtomicResult (record { 0 = 3 }))
-    ∷ (4 ∷ 26 ∷ 3 ∷ 0 ∷ 0 ∷ 0 ∷ 0 ∷ 0 ∷ 0 ∷ 0 ∷ 0 ∷ 0 ∷ 0 ∷ 0 ∷ 0 ∷ 0 ∷ [], Ex.WorkGroupUniformLoadResult (record { 0 = 3 }))
+    ∷ (
+      4 ∷ 26 ∷ 3 ∷ 0 ∷ 0 ∷ 0 ∷ 0 ∷ 0 ∷ 0 ∷ 0 ∷ 0 ∷ 0 ∷ 0 ∷ 0 ∷ 0 ∷ 0 ∷ [],
+      Ex.WorkGroupUniformLoadResult (record { 0 = 3 }),
+    )
     ∷ (4 ∷ 27 ∷ 0 ∷ 0 ∷ 0 ∷ 0 ∷ 0 ∷ 0 ∷ 0 ∷ 0 ∷ 0 ∷ 0 ∷ 0 ∷ 0 ∷ 0 ∷ 0 ∷ [], Ex.ArrayLength)
     ∷ (4 ∷ 28 ∷ 0 ∷ 0 ∷ 0 ∷ 0 ∷ 0 ∷ 0 ∷ 0 ∷ 0 ∷ 0 ∷ 0 ∷ 0 ∷ 0 ∷ 0 ∷ 0 ∷ [], Ex.RayQueryVertexPositions)
     ∷ (4 ∷ 29 ∷ 0 ∷ 0 ∷ 0 ∷ 0 ∷ 0 ∷ 0 ∷ 0 ∷ 0 ∷ 0 ∷ 0 ∷ 0 ∷ 0 ∷ 0 ∷ 0 ∷ [], Ex.RayQueryProceedResult)
     ∷ (4 ∷ 30 ∷ 0 ∷ 0 ∷ 0 ∷ 0 ∷ 0 ∷ 0 ∷ 0 ∷ 0 ∷ 0 ∷ 0 ∷ 0 ∷ 0 ∷ 0 ∷ 0 ∷ [], Ex.RayQueryGetIntersection)
     ∷ (4 ∷ 31 ∷ 0 ∷ 0 ∷ 0 ∷ 0 ∷ 0 ∷ 0 ∷ 0 ∷ 0 ∷ 0 ∷ 0 ∷ 0 ∷ 0 ∷ 0 ∷ 0 ∷ [], Ex.SubgroupBallotResult)
-    ∷ (4 ∷ 32 ∷ 3 ∷ 0 ∷ 0 ∷ 0 ∷ 0 ∷ 0 ∷ 0 ∷ 0 ∷ 0 ∷ 0 ∷ 0 ∷ 0 ∷ 0 ∷ 0 ∷ [], Ex.SubgroupOperationResult (record { 0 = 3 }))
-    ∷ (4 ∷ 33 ∷ 3 ∷ 0 ∷ 0 ∷ 0 ∷ 8 ∷ 16 ∷ 2 ∷ 0 ∷ 0 ∷ 0 ∷ 0 ∷ 0 ∷ 0 ∷ 0 ∷ [], Ex.CooperativeLoad Cs.Eight Cs.Sixteen Cr.C (record { 0 = 3 }))
-    ∷ (4 ∷ 34 ∷ 3 ∷ 0 ∷ 0 ∷ 0 ∷ 0 ∷ 0 ∷ 0 ∷ 0 ∷ 0 ∷ 0 ∷ 0 ∷ 0 ∷ 0 ∷ 0 ∷ [], Ex.CooperativeMultiplyAdd (record { 0 = 3 }))
+    ∷ (
+      4 ∷ 32 ∷ 3 ∷ 0 ∷ 0 ∷ 0 ∷ 0 ∷ 0 ∷ 0 ∷ 0 ∷ 0 ∷ 0 ∷ 0 ∷ 0 ∷ 0 ∷ 0 ∷ [],
+      Ex.SubgroupOperationResult (record { 0 = 3 }),
+    )
+    ∷ (
+      4 ∷ 33 ∷ 3 ∷ 0 ∷ 0 ∷ 0 ∷ 8 ∷ 16 ∷ 2 ∷ 0 ∷ 0 ∷ 0 ∷ 0 ∷ 0 ∷ 0 ∷ 0 ∷ [],
+      Ex.CooperativeLoad Cs.Eight Cs.Sixteen Cr.C (record { 0 = 3 }),
+    )
+    ∷ (
+      4 ∷ 34 ∷ 3 ∷ 0 ∷ 0 ∷ 0 ∷ 0 ∷ 0 ∷ 0 ∷ 0 ∷ 0 ∷ 0 ∷ 0 ∷ 0 ∷ 0 ∷ 0 ∷ [],
+      Ex.CooperativeMultiplyAdd (record { 0 = 3 }),
+    )
     ∷ []
 
 -- the samples of types are of kinds 1 to 14
@@ -133,7 +169,8 @@ unfolding fieldsFit
 types-fit = refl
 
 -- and each reads as its type
-pub types-read : map (λ (x : List ℕ × TypeInner). typeOf (frameFrom (x .0) 0)) typeSamples ≡ map (λ (x : List ℕ × TypeInner). Tf.Known (x .1)) typeSamples
+pub types-read : map (λ (x : List ℕ × TypeInner). typeOf (frameFrom (x .0) 0)) typeSamples
+    ≡ map (λ (x : List ℕ × TypeInner). Tf.Known (x .1)) typeSamples
 unfolding typeOf
 types-read = refl
 
@@ -147,6 +184,7 @@ unfolding fieldsFit
 rows-fit = refl
 
 -- and each reads as its row
-pub rows-read : map (λ (x : List ℕ × Expression). rowOf (frameFrom (x .0) 0)) rowSamples ≡ map (λ (x : List ℕ × Expression). Rf.Known (x .1)) rowSamples
+pub rows-read : map (λ (x : List ℕ × Expression). rowOf (frameFrom (x .0) 0)) rowSamples
+    ≡ map (λ (x : List ℕ × Expression). Rf.Known (x .1)) rowSamples
 unfolding rowOf
 rows-read = refl

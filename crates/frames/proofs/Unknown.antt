@@ -1,5 +1,5 @@
--- A type or a row is unknown exactly when its kind's number is outside those of the source's declaration: every known kind makes a known
--- form, and the rest is the table's rule. Assumes nothing.
+-- A type or a row is unknown exactly when its kind's number is outside those of the source's declaration: every known
+-- kind makes a known form, and the rest is the table's rule.
 use Prim.Native.Nat.{ℕ, _≤_}
 use native.Mathlib.Omega.{arith}
 use mathlib.Core.Path.{_≡_, refl, ap}

@@ -8,7 +8,8 @@ use Rattle.frames.specs.declared.Frame.{Frame}
 
 abbrev pub bytesOf : Frame → List ℕ
 bytesOf f =
-    f .b0 ∷ f .b1 ∷ f .b2 ∷ f .b3 ∷ f .b4 ∷ f .b5 ∷ f .b6 ∷ f .b7 ∷ f .b8 ∷ f .b9 ∷ f .b10 ∷ f .b11 ∷ f .b12 ∷ f .b13 ∷ f .b14 ∷ f .b15
+    f .b0 ∷ f .b1 ∷ f .b2 ∷ f .b3 ∷ f .b4 ∷ f .b5 ∷ f .b6 ∷ f .b7 ∷ f .b8 ∷ f .b9 ∷ f .b10 ∷ f .b11 ∷ f .b12 ∷ f .b13
+    ∷ f .b14 ∷ f .b15
     ∷ []
 
 -- byte i of a frame

@@ -1,5 +1,6 @@
--- The fields of a frame (document 01, "The file"): for each, the bytes that it takes, what it reads from them, which bytes may stand
--- there, and the bytes that it writes. A layout is a list of fields; every byte that no field takes is zero.
+-- The fields of a frame (document 01, "The file"): for each, the bytes that it takes, what it reads from them, which
+-- bytes may stand there, and the bytes that it writes. A layout is a list of fields; every byte that no field takes is
+-- zero.
 use Prim.Native.Nat.{ℕ, zero, suc, _+_, _*_, _-_, _/_, _%_}
 use mathlib.Core.Bool.{Bool, true, false, cond, not, _&&_, _||_}
 use mathlib.Core.List.{List, [], _∷_, _++_, map}
@@ -27,9 +28,12 @@ use Rattle.ir.specs.declared.RelationalFunction.{RelationalFunction}
 use Rattle.ir.specs.declared.ImageQuery.{ImageQuery}
 use Rattle.ir.specs.declared.OptionBytes.{OptionBytes}
 use Rattle.ir.specs.declared.OptionBytes.the-variants as Ob
-use Rattle.ir.specs.Numbers.{scalarKindOf, scalarKindNumber, vectorSizeOf, vectorSizeNumber, cooperativeSizeOf, cooperativeSizeNumber}
-use Rattle.ir.specs.Numbers.{cooperativeRoleOf, cooperativeRoleNumber, spaceOf, spaceNumber, spaceAccess, accessOf, accessNumber}
-use Rattle.ir.specs.Numbers.{imageDimensionOf, imageDimensionNumber, storageFormatOf, storageFormatNumber, flagOf, flagNumber}
+use Rattle.ir.specs.Numbers.{scalarKindOf, scalarKindNumber, vectorSizeOf, vectorSizeNumber, cooperativeSizeOf}
+use Rattle.ir.specs.Numbers.{cooperativeSizeNumber}
+use Rattle.ir.specs.Numbers.{cooperativeRoleOf, cooperativeRoleNumber, spaceOf, spaceNumber, spaceAccess, accessOf}
+use Rattle.ir.specs.Numbers.{accessNumber}
+use Rattle.ir.specs.Numbers.{imageDimensionOf, imageDimensionNumber, storageFormatOf, storageFormatNumber, flagOf}
+use Rattle.ir.specs.Numbers.{flagNumber}
 use Rattle.ir.specs.Numbers.{isWidth, widthOf, widthNumber}
 use Rattle.ir.specs.Numbers.{literalOf, literalNumber, binaryOperatorOf, binaryOperatorNumber}
 use Rattle.ir.specs.Numbers.{relationalFunctionOf, relationalFunctionNumber, imageQueryOf, imageQueryNumber}
@@ -118,7 +122,8 @@ arraySizeOf form n = cond (eqb form 0) (As.Constant n) (cond (eqb form 1) (As.Pe
 -- class 0 is sampled, 1 depth, 2 external, 3 storage; bytes 5 to 7 follow
 abbrev pub classOf : ℕ → ℕ → ℕ → ℕ → ImageClass
 classOf c b5 b6 b7 =
-    getD (Ic.Sampled (scalarKindOf b5) (flagOf b6) ∷ Ic.Depth (flagOf b6) ∷ Ic.External ∷ Ic.Storage (storageFormatOf b5) (accessOf b7) ∷ [])
+    getD (Ic.Sampled (scalarKindOf b5) (flagOf b6) ∷ Ic.Depth (flagOf b6) ∷ Ic.External ∷ Ic.Storage
+    (storageFormatOf b5) (accessOf b7) ∷ [])
     c Ic.External
 
 abbrev pub resultOf : ℕ → TypeNumber → FunctionResult

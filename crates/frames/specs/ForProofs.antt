@@ -1,5 +1,6 @@
--- Not part of any public statement: for proofs and code only. A frame by its numbers; what is handed back, read again from its frame; and the
--- values of a row's and of an item's layout, with the frame that these make up (document 01, "The file", families 3 and 4), as Out.antt has them of a type.
+-- Not part of any public statement: for proofs and code only. A frame by its numbers; what is handed back, read again
+-- from its frame; and the values of a row's and of an item's layout, with the frame that these make up (document 01,
+-- "The file", families 3 and 4), as Out.antt has them of a type.
 use Prim.Native.Nat.{ℕ, _/_, _%_, _-_}
 use mathlib.Core.Bool.{cond}
 use mathlib.Core.List.{List, [], _∷_}
@@ -65,16 +66,21 @@ unreadable = Un.Refused Re.MissingSpecialType
 -- the refusals 10 to 22, by the values of a frame; 21 is none
 abbrev pub refusals : Frame → List Unresolved
 refusals f =
-    Un.Refused (Re.OutOfBoundsIndex (record { 0 = half f 2 }) (word f 4)) ∷ Un.Refused (Re.InvalidAccess (record { 0 = half f 2 }) (flagOf (byte f 8)))
-    ∷ Un.Refused (Re.InvalidSubAccess (record { 0 = half f 2 }) (flagOf (byte f 8))) ∷ Un.Refused (Re.InvalidScalar (record { 0 = half f 2 }))
+    Un.Refused (Re.OutOfBoundsIndex (record { 0 = half f 2 }) (word f 4)) ∷ Un.Refused
+    (Re.InvalidAccess (record { 0 = half f 2 }) (flagOf (byte f 8)))
+    ∷ Un.Refused (Re.InvalidSubAccess (record { 0 = half f 2 }) (flagOf (byte f 8))) ∷ Un.Refused
+    (Re.InvalidScalar (record { 0 = half f 2 }))
     ∷ Un.Refused (Re.InvalidVector (record { 0 = half f 2 })) ∷ Un.Refused (Re.InvalidPointer (record { 0 = half f 2 }))
-    ∷ Un.Refused (Re.InvalidImage (record { 0 = half f 2 })) ∷ Un.Refused Re.FunctionReturnsVoid ∷ Un.Refused Re.IncompatibleOperands
-    ∷ Un.Refused (Re.FunctionArgumentNotFound (word f 4)) ∷ Un.Refused Re.MissingSpecialType ∷ unreadable ∷ Un.Newer (record { 0 = half f 2 }) ∷ []
+    ∷ Un.Refused (Re.InvalidImage (record { 0 = half f 2 })) ∷ Un.Refused Re.FunctionReturnsVoid ∷ Un.Refused
+    Re.IncompatibleOperands
+    ∷ Un.Refused (Re.FunctionArgumentNotFound (word f 4)) ∷ Un.Refused Re.MissingSpecialType ∷ unreadable ∷ Un.Newer
+    (record { 0 = half f 2 }) ∷ []
 
 -- a refusal by its number: 41, or one of the table
 abbrev pub refusalOf : Frame → Unresolved
 refusalOf f =
-    cond (eqb (byte f 1) 41) (Un.Refused Re.Mismatch) (cond (leb 10 (byte f 1)) (getD (refusals f) (byte f 1 - 10) unreadable) unreadable)
+    cond (eqb (byte f 1) 41) (Un.Refused Re.Mismatch)
+    (cond (leb 10 (byte f 1)) (getD (refusals f) (byte f 1 - 10) unreadable) unreadable)
 
 -- the answer without a type that a frame of family 10 stands for
 unfoldable pub unresolvedOf : Frame → Unresolved
@@ -98,7 +104,8 @@ unfoldable pub verdictOf : Frame → Verdict
 verdictOf f =
     cond (eqb (byte f 1) 0) Vd.Passes
     (cond (eqb (byte f 1) 22) (newerOf (word f 4))
-    (getD (Vd.ComposedType ∷ Vd.ComponentCount (word f 4) (word f 8) ∷ Vd.ComponentType (word f 4) ∷ Vd.ComponentRefused (word f 4) ∷ []) (byte f 1 - 30)
+    (getD (Vd.ComposedType ∷ Vd.ComponentCount (word f 4) (word f 8) ∷ Vd.ComponentType (word f 4) ∷ Vd.ComponentRefused
+    (word f 4) ∷ []) (byte f 1 - 30)
     Vd.ComposedType))
 
 -- ROWS, ITEMS, MEMBERS AND COMPONENTS, written

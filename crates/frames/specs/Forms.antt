@@ -1,5 +1,5 @@
--- What a frame stands for: the type, member, item, row or component that its layout's values make up, and whether its bytes are within
--- their values (number 5). Document 01, "The file" and "Numbers handed back".
+-- What a frame stands for: the type, member, item, row or component that its layout's values make up, and whether its
+-- bytes are within their values (number 5). Document 01, "The file" and "Numbers handed back".
 use Prim.Native.Nat.{ℕ}
 use mathlib.Core.Bool.{Bool, true, _&&_}
 use mathlib.Core.List.{List, [], _∷_}

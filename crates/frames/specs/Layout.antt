@@ -1,4 +1,5 @@
--- The layout of each kind of frame, after its family (byte 0) and its kind (byte 1). Document 01, "The file", families 1 to 5.
+-- The layout of each kind of frame, after its family (byte 0) and its kind (byte 1): of a file's frames, families 1 to
+-- 5, and of those handed back, families 8 to 13 (document 01, "The file"; document 02, requests 5 and 6).
 use mathlib.Core.List.{[], _∷_}
 use Rattle.ir.specs.declared.TypeKind.{TypeKind}
 use Rattle.ir.specs.declared.TypeKind.the-variants as Tk
@@ -6,7 +7,8 @@ use Rattle.ir.specs.declared.ItemKind.{ItemKind}
 use Rattle.ir.specs.declared.ItemKind.the-variants as Ik
 use Rattle.ir.specs.declared.RowKind.{RowKind}
 use Rattle.ir.specs.declared.RowKind.the-variants as Rk
-use Rattle.frames.specs.Fields.{Field, vectorSize, optionSize, cooperativeSize, role, scalarKind, dimension, flag, literal, operator}
+use Rattle.frames.specs.Fields.{Field, vectorSize, optionSize, cooperativeSize, role, scalarKind, dimension, flag}
+use Rattle.frames.specs.Fields.{literal, operator}
 use Rattle.frames.specs.Fields.{number, wide, scalar, space, arraySize, class, result, query, relational, convert}
 use Rattle.frames.specs.Fields.{Layout, free, fields}
 
@@ -32,7 +34,8 @@ typeLayout Tk.BindingArray = fields (number 2 ∷ arraySize ∷ [])
 abbrev pub memberLayout : Layout
 memberLayout = fields (number 2 ∷ wide 12 ∷ [])
 
--- family 3, items: a type; a global has its space, and a function a result or none. An unknown kind is refused by number 4.
+-- family 3, items: a type; a global has its space, and a function a result or none. An unknown kind is refused by
+-- number 4.
 abbrev pub itemLayout : ItemKind → Layout
 itemLayout Ik.Unknown = free
 itemLayout Ik.Constant = fields (number 2 ∷ [])
@@ -97,3 +100,11 @@ refusalLayout = fields (number 2 ∷ wide 4 ∷ flag 8 ∷ [])
 -- a verdict (family 11): row, expected or component, given
 abbrev pub verdictLayout : Layout
 verdictLayout = fields (number 2 ∷ wide 4 ∷ wide 8 ∷ [])
+
+-- what a type fills (family 12): alignment, size; its range (family 13): alignment, least size, greatest size
+-- (document 02, requests 5 and 6)
+abbrev pub sizeLayout : Layout
+sizeLayout = fields (number 4 ∷ wide 8 ∷ [])
+
+abbrev pub rangeLayout : Layout
+rangeLayout = fields (number 4 ∷ wide 8 ∷ wide 12 ∷ [])

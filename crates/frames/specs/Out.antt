@@ -1,5 +1,5 @@
--- What is handed back, as frames (document 01, the end of "The file"): a type number is family 8, a value family 9, laid
--- as a type, a refusal family 10, a verdict family 11.
+-- What is handed back, as frames (document 01, the end of "The file"): a type number is family 8, a value family 9,
+-- laid as a type, a refusal family 10, a verdict family 11; what a type fills is family 12, its range family 13.
 use Prim.Native.Nat.{ℕ}
 use mathlib.Core.Bool.{Bool, true, false}
 use Rattle.ir.specs.declared.TypeNumber.{TypeNumber}
@@ -9,7 +9,8 @@ use Rattle.ir.specs.declared.TypeKind.the-variants as Tk
 use Rattle.ir.specs.declared.TypeInner.{TypeInner}
 use Rattle.ir.specs.declared.TypeInner.the-variants as Ti
 use Rattle.ir.specs.Numbers.{typeKindNumber}
-use Rattle.answers.specs.Numbers.{Refused, Judged, at, notThere, outcomeValues, refusalValues, verdictValues, SaidOne, asked, instead}
+use Rattle.answers.specs.Numbers.{Refused, Judged, at, notThere, outcomeValues, refusalValues, verdictValues, SaidOne}
+use Rattle.answers.specs.Numbers.{asked, instead}
 use Rattle.answers.specs.declared.Answer.{Answer}
 use Rattle.answers.specs.declared.Answer.the-variants as An
 use Rattle.answers.specs.declared.Outcome.{Outcome}
@@ -23,7 +24,7 @@ use Rattle.answers.specs.declared.ComposeVerdict.{ComposeVerdict}
 use Rattle.answers.specs.declared.ComposeVerdict.the-variants as Cv
 use Rattle.frames.specs.declared.Frame.{Frame}
 use Rattle.frames.specs.Fields.{Layout, Vals, laid}
-use Rattle.frames.specs.Layout.{typeLayout, numberLayout, refusalLayout, verdictLayout}
+use Rattle.frames.specs.Layout.{typeLayout, numberLayout, refusalLayout, verdictLayout, sizeLayout, rangeLayout}
 
 abbrev pub kindOf : TypeInner → TypeKind
 kindOf (Ti.Scalar s) = Tk.Scalar
@@ -88,7 +89,15 @@ judgedFrame r j = laid 11 (j .number) verdictLayout (r .0, (j .first, (j .given,
 abbrev pub verdictFrame : RowNumber → Verdict → Frame
 verdictFrame r v = judgedFrame r (verdictValues v)
 
--- WHERE ONE ROW IS ASKED FOR: the frame of its answer or its verdict, or a number with its place (document 01, "Numbers handed back", last paragraph)
+-- what a type fills: alignment and size, or alignment, least and greatest size, in bytes
+abbrev pub sizedFrame : ℕ → ℕ → Frame
+sizedFrame align size = laid 12 0 sizeLayout (align, (size, tt))
+
+abbrev pub rangedFrame : ℕ → ℕ → ℕ → Frame
+rangedFrame align least greatest = laid 13 0 rangeLayout (align, (least, (greatest, tt)))
+
+-- WHERE ONE ROW IS ASKED FOR: the frame of its answer or its verdict, or a number with its place (document 01, "Numbers
+-- handed back", last paragraph)
 
 abbrev pub rowTypeSaid : RowType → SaidOne Frame
 rowTypeSaid (Rt.Answered a) = asked (answerFrame a)

@@ -10,9 +10,10 @@ full b0 b1 b2 b3 b4 b5 b6 b7 b8 b12 = b0 ∷ b1 ∷ b2 ∷ b3 ∷ b4 ∷ b5 ∷ 
 abbrev pub short : ℕ → ℕ → ℕ → ℕ → ℕ → ℕ → ℕ → ℕ → List ℕ
 short b0 b1 b2 b3 b4 b5 b6 b7 = full b0 b1 b2 b3 b4 b5 b6 b7 0 0
 
--- a row of a kind, by the operand, item or type in b2; by byte 6 too; by the index in b12 too; a Binary row by operator, left and right
-abbrev pub plain : ℕ → ℕ → List ℕ
-plain kind n = short 4 kind n 0 0 0 0 0
+-- a row of a kind, by the operand, item or type in b2; by byte 6 too; by the index in b12 too; a Binary row by
+-- operator, left and right
+abbrev pub plainRow : ℕ → ℕ → List ℕ
+plainRow kind n = short 4 kind n 0 0 0 0 0
 
 abbrev pub marked : ℕ → ℕ → ℕ → List ℕ
 marked kind n b6 = short 4 kind n 0 0 0 b6 0

@@ -2,6 +2,7 @@
 use super::Frame;
 use ir::AddressSpace;
 use ir::ArraySize;
+use ir::ComponentNumber;
 use ir::CooperativeRole;
 use ir::CooperativeSize;
 use ir::ImageClass;
@@ -71,11 +72,39 @@ impl Frame {
         le16(self.b2, self.b3)
     }
 
-    // Bytes 4 and 5: a count, or Binary's right.
-    pub fn second(self) -> u16
+    // They are a type: a pointer's or an array's base, the type of a member, an item or a compose.
+    pub fn ty(self) -> TypeNumber
+        ensures { λ r. ⌜ r ≡ record { 0 = half self 2 } ⌝ }
+    {
+        TypeNumber(le16(self.b2, self.b3))
+    }
+
+    // They are a row: the operand that a row reads, or a component.
+    pub fn operand(self) -> RowNumber
+        ensures { λ r. ⌜ r ≡ record { 0 = half self 2 } ⌝ }
+    {
+        RowNumber(le16(self.b2, self.b3))
+    }
+
+    // They are the first member of a struct.
+    pub fn first_member(self) -> MemberNumber
+        ensures { λ r. ⌜ r ≡ record { 0 = half self 2 } ⌝ }
+    {
+        MemberNumber(le16(self.b2, self.b3))
+    }
+
+    // Bytes 4 and 5: how many members a struct has, or components a compose.
+    pub fn count(self) -> u16
         ensures { λ r. ⌜ r ≡ half self 4 ⌝ }
     {
         le16(self.b4, self.b5)
+    }
+
+    // They are the right operand of a Binary row.
+    pub fn right(self) -> RowNumber
+        ensures { λ r. ⌜ r ≡ record { 0 = half self 4 } ⌝ }
+    {
+        RowNumber(le16(self.b4, self.b5))
     }
 
     // Bytes 4 to 7: in what is handed back an index, what was expected, or a component.
@@ -97,6 +126,13 @@ impl Frame {
         ensures { λ r. ⌜ r ≡ word self 12 ⌝ }
     {
         le32(self.b12, self.b13, self.b14, self.b15)
+    }
+
+    // They are the first component of a compose.
+    pub fn first_component(self) -> ComponentNumber
+        ensures { λ r. ⌜ r ≡ record { 0 = word self 12 } ⌝ }
+    {
+        ComponentNumber(le32(self.b12, self.b13, self.b14, self.b15))
     }
 
     // Bytes 4 and 5, as a scalar.
@@ -149,20 +185,16 @@ impl Frame {
     pub fn member(self) -> StructMember
         ensures { λ r. ⌜ r ≡ memberOf self ⌝ }
     {
-        let n = self.named();
+        let ty = self.ty();
         let offset = self.last();
-        StructMember {
-            ty: TypeNumber(n),
-            offset,
-        }
+        StructMember { ty, offset }
     }
 
     // A component, family 5.
     pub fn component(self) -> RowNumber
         ensures { λ r. ⌜ r ≡ componentOf self ⌝ }
     {
-        let n = self.named();
-        RowNumber(n)
+        self.operand()
     }
 }
 
@@ -209,12 +241,9 @@ fn inner(kind: TypeKind, f: Frame) -> TypeInner
             TypeInner::Atomic(scalar)
         }
         TypeKind::Pointer => {
-            let n = f.named();
+            let base = f.ty();
             let space = AddressSpace::from_number(f.b6, f.b7);
-            TypeInner::Pointer {
-                base: TypeNumber(n),
-                space,
-            }
+            TypeInner::Pointer { base, space }
         }
         TypeKind::ValuePointer => {
             let size = option_size(f.b2);
@@ -227,24 +256,16 @@ fn inner(kind: TypeKind, f: Frame) -> TypeInner
             }
         }
         TypeKind::Array => {
-            let n = f.named();
+            let base = f.ty();
             let size = array_size(f.b4, f.third());
             let stride = f.last();
-            TypeInner::Array {
-                base: TypeNumber(n),
-                size,
-                stride,
-            }
+            TypeInner::Array { base, size, stride }
         }
         TypeKind::Struct => {
-            let n = f.named();
-            let count = f.second();
+            let first = f.first_member();
+            let count = f.count();
             let span = f.last();
-            TypeInner::Struct {
-                first: MemberNumber(n),
-                count,
-                span,
-            }
+            TypeInner::Struct { first, count, span }
         }
         TypeKind::Image => {
             let dim = ImageDimension::from_number(f.b2);
@@ -265,12 +286,9 @@ fn inner(kind: TypeKind, f: Frame) -> TypeInner
             vertex_return: f.b2 == 1,
         },
         TypeKind::BindingArray => {
-            let n = f.named();
+            let base = f.ty();
             let size = array_size(f.b4, f.third());
-            TypeInner::BindingArray {
-                base: TypeNumber(n),
-                size,
-            }
+            TypeInner::BindingArray { base, size }
         }
     }
 }

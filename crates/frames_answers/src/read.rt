@@ -1,15 +1,14 @@
-// An answer and a verdict read again from the frame that was handed back.
+// An answer read again from the frame that was handed back.
 use answers::Answer;
 use answers::Refusal;
 use answers::Unresolved;
-use answers::Verdict;
 use frames::Frame;
 use ir::RowNumber;
 use ir::TypeForm;
 use ir::TypeNumber;
 use ir::TypeResolution;
 ghost use mathlib.Core.Path.{_≡_};
-ghost use Rattle.frames.specs.ForProofs.{refusalOf, unresolvedOf, valueOf, answerOf, newerOf, verdictOf};
+ghost use Rattle.frames.specs.ForProofs.{refusalOf, unresolvedOf, valueOf, answerOf};
 
 // A value; a type of an unknown kind is none.
 fn value_of(form: TypeForm) -> Answer
@@ -18,17 +17,6 @@ fn value_of(form: TypeForm) -> Answer
     match form {
         TypeForm::Known(t) => Answer::Resolved(TypeResolution::Value(t)),
         TypeForm::Unknown => Answer::Refused(Refusal::MissingSpecialType),
-    }
-}
-
-// What is newer: a component, or the composed type.
-fn newer_of(n: u32) -> Verdict
-    ensures { λ r. ⌜ r ≡ newerOf n ⌝ }
-{
-    if n == 0xffff_ffff {
-        Verdict::NewerComposed
-    } else {
-        Verdict::NewerComponent { index: n }
     }
 }
 
@@ -94,28 +82,5 @@ pub fn answer(f: Frame) -> Answer
             let end = unresolved(f);
             end.answer()
         }
-    }
-}
-
-// The verdict that a frame of family 11 stands for.
-pub fn verdict(f: Frame) -> Verdict
-    ensures { λ r. ⌜ r ≡ verdictOf f ⌝ }
-{
-    let first = f.index();
-    let number = f.b1;
-    match number {
-        0 => Verdict::Passes,
-        22 => newer_of(first),
-        30 => Verdict::ComposedType,
-        31 => {
-            let given = f.third();
-            Verdict::ComponentCount {
-                expected: first,
-                given,
-            }
-        }
-        32 => Verdict::ComponentType { index: first },
-        33 => Verdict::ComponentRefused { index: first },
-        _ => Verdict::ComposedType,
     }
 }

@@ -1,5 +1,5 @@
-// Types written as frames (document 01, the end of "The file"): a type number is family 8, a value family 9, laid as a type. Numbers are written by
-// their bytes, the low one first.
+// Types written as frames (document 01, the end of "The file"): a type number is family 8, a value family 9, laid as a
+// type. Numbers are written by their bytes, the low one first.
 use frames::Frame;
 use ir::AddressSpace;
 use ir::ArraySize;

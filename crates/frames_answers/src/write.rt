@@ -1,5 +1,6 @@
-// The frames that are handed back (document 01, the end of "The file"): a type number is family 8, a value family 9, laid as a type, a
-// refusal family 10, a verdict family 11. Numbers are written by their bytes, the low one first.
+// The frames that are handed back (document 01, the end of "The file"): a type number is family 8, a value family 9,
+// laid as a type, a refusal family 10, a verdict family 11; what a type fills is family 12, its range family 13.
+// Numbers are written by their bytes, the low one first.
 use super::types::resolution_frame;
 use answers::Answer;
 use answers::Outcome;
@@ -11,10 +12,11 @@ use ir::numbers::flag_number;
 ghost use mathlib.Core.Path.{_≡_};
 ghost use Prim.Native.Nat.{_/_, _%_};
 ghost use Rattle.answers.specs.Numbers.{at, refusalValues};
-ghost use Rattle.frames.specs.Out.{refusedFrame, outcomeFrame, answerFrame, judgedFrame, verdictFrame};
+ghost use Rattle.frames.specs.Out.{refusedFrame, outcomeFrame, answerFrame, judgedFrame, verdictFrame, sizedFrame};
+ghost use Rattle.frames.specs.Out.{rangedFrame};
 
 // A refusal: its number, its place, an index and whether it was indexed.
-fn refused(number: u8, place: u16, index: u32, indexed: bool) -> Frame
+pub fn refused(number: u8, place: u16, index: u32, indexed: bool) -> Frame
     ensures { λ r. ⌜ r ≡ refusedFrame (record { number = number; place = place; index = index; indexed = indexed }) ⌝ }
 {
     Frame {
@@ -127,5 +129,53 @@ pub fn verdict_frame(row: RowNumber, v: Verdict) -> Frame
         Verdict::ComponentRefused { index } => judged(row, 33, index, 0),
         Verdict::NewerComposed => judged(row, 22, 0xffff_ffff, 0),
         Verdict::NewerComponent { index } => judged(row, 22, index, 0),
+    }
+}
+
+// What a type fills: alignment and size in bytes.
+pub fn sized_frame(align: u8, size: u32) -> Frame
+    ensures { λ r. ⌜ r ≡ sizedFrame align size ⌝ }
+{
+    Frame {
+        b0: 12,
+        b1: 0,
+        b2: 0,
+        b3: 0,
+        b4: align,
+        b5: 0,
+        b6: 0,
+        b7: 0,
+        b8: (size % 256) as u8,
+        b9: (size / 256 % 256) as u8,
+        b10: (size / 256 / 256 % 256) as u8,
+        b11: (size / 256 / 256 / 256) as u8,
+        b12: 0,
+        b13: 0,
+        b14: 0,
+        b15: 0,
+    }
+}
+
+// The range of what a type fills: alignment, least and greatest size.
+pub fn ranged_frame(align: u8, least: u32, greatest: u32) -> Frame
+    ensures { λ r. ⌜ r ≡ rangedFrame align least greatest ⌝ }
+{
+    Frame {
+        b0: 13,
+        b1: 0,
+        b2: 0,
+        b3: 0,
+        b4: align,
+        b5: 0,
+        b6: 0,
+        b7: 0,
+        b8: (least % 256) as u8,
+        b9: (least / 256 % 256) as u8,
+        b10: (least / 256 / 256 % 256) as u8,
+        b11: (least / 256 / 256 / 256) as u8,
+        b12: (greatest % 256) as u8,
+        b13: (greatest / 256 % 256) as u8,
+        b14: (greatest / 256 / 256 % 256) as u8,
+        b15: (greatest / 256 / 256 / 256) as u8,
     }
 }

@@ -2,7 +2,6 @@
 use frames::Frame;
 use ir::AddressSpace;
 use ir::BinaryOperator;
-use ir::ComponentNumber;
 use ir::CooperativeRole;
 use ir::CooperativeSize;
 use ir::Expression;
@@ -69,7 +68,7 @@ pub fn row_form(f: Frame) -> RowForm
 fn item_as(kind: ItemKind, f: Frame) -> Item
     ensures { λ r. ⌜ r ≡ itemAs kind f ⌝ }
 {
-    let ty = TypeNumber(f.named());
+    let ty = f.ty();
     match kind {
         ItemKind::Unknown => Item::Unknown,
         ItemKind::Constant => Item::Constant { ty },
@@ -105,12 +104,12 @@ fn expression(kind: RowKind, f: Frame) -> Expression
         RowKind::Override => Expression::Override(ItemNumber(n as u32)),
         RowKind::ZeroValue => Expression::ZeroValue(TypeNumber(n)),
         RowKind::Compose => {
-            let count = f.second();
-            let first = f.last();
+            let count = f.count();
+            let first = f.first_component();
             Expression::Compose {
                 ty: TypeNumber(n),
                 count,
-                first: ComponentNumber(first),
+                first,
             }
         }
         RowKind::Access => Expression::Access { base: RowNumber(n) },
@@ -161,11 +160,11 @@ fn expression(kind: RowKind, f: Frame) -> Expression
         RowKind::Unary => Expression::Unary { expr: RowNumber(n) },
         RowKind::Binary => {
             let op = BinaryOperator::from_number(f.b6);
-            let right = f.second();
+            let right = f.right();
             Expression::Binary {
                 op,
                 left: RowNumber(n),
-                right: RowNumber(right),
+                right,
             }
         }
         RowKind::Select => Expression::Select {

@@ -1,5 +1,5 @@
--- What the exported functions rest on: an out-slice that is too small changes nothing, and a number handed in that has more than 16 bits is out of range, since a file has at
--- most 1,024 frames. From the laws of reading a file. Assumes nothing.
+-- What the exported functions rest on: an out-slice that is too small changes nothing, and a number handed in that has
+-- more than 16 bits is out of range, since a file has at most 1,024 frames. From the laws of reading a file.
 use Prim.Native.Nat.{ℕ, _*_, _≤_, _<_, min}
 use native.Mathlib.Decide.{decLe}
 use native.Mathlib.Omega.{arith}
@@ -8,7 +8,7 @@ use mathlib.Core.Bool.{Bool, true, false, cond}
 use mathlib.Core.List.{List}
 use lib.Dec.{ltb}
 use lib.ListN.{length}
-use borrow.Author.Tests.{lt-ltb, le-ltb}
+use borrow.Author.Tests.{le-ltb}
 use Rattle.scan.specs.Lowest.{lowest}
 use Rattle.scan.specs.declared.Found.{Found}
 use Rattle.scan.specs.declared.Found.the-variants as Fo
@@ -38,37 +38,28 @@ use Rattle.rule_ranges.specs.declared.TypeRange.the-variants as Tr
 use Rattle.rule_ranges.specs.Ranges.{countsOf, rangeIn, faultySpan, unlessSpan, typeRangeIn}
 use Rattle.rule_answers.specs.Outputs.{rowAnswer}
 use Rattle.rule_file.specs.File.{overFile, readFile}
-use Rattle.rule_file.specs.Typing.{answersWritten, RowGiven, rowGiven, rowType, answersAfterRow, VerdictGiven, orNoCompose, verdictGiven, composeVerdict, verdictSaid, ifJudged, answersAfterVerdict}
-use Rattle.rule_file.proofs.Laws.{count-decoded, accepted-when}
-use Rattle.file_pointers.specs.Forms.{canonicalType, pointerBaseType}
-use Rattle.file_sizes.specs.Sizes.{typeSize}
-use Rattle.file_sizes.specs.Ranges.{byTables, sizeRange}
+use Rattle.rule_file.specs.Typing.{answersWritten, RowGiven, rowGiven, rowType, answersAfterRow, VerdictGiven}
+use Rattle.rule_file.specs.Typing.{orNoCompose, verdictGiven, composeVerdict, verdictSaid, ifJudged}
+use Rattle.rule_file.specs.Typing.{answersAfterVerdict}
+use Rattle.law_file.proofs.Laws.{count-decoded, accepted-when}
+use Rattle.rule_file.specs.Forms.{canonicalType, pointerBaseType}
+use Rattle.rule_file_sizes.specs.Sizes.{typeSize}
+use Rattle.rule_file_sizes.specs.Ranges.{byTables, sizeRange}
 use Rattle.text.specs.Room.{orShort, shortRead}
 use Rattle.text.proofs.Room.{short-any}
 use Rattle.rule_file.specs.Exported.{outcomeNumber, noRoom, byRoom}
 
--- AN OUT-SLICE THAT IS TOO SMALL
-
-pub is-small : {A : Type 0} (out : List ℕ) (x y : A) → length out < 16 → x ≡ byRoom out x y
-is-small out x y h = sym (ap (λ (b : Bool). cond b x y) (lt-ltb (length out) 16 h))
-
-pub has-room : {A : Type 0} (out : List ℕ) (x y : A) → 16 ≤ length out → y ≡ byRoom out x y
-has-room out x y h = sym (ap (λ (b : Bool). cond b x y) (le-ltb (length out) 16 h))
-
--- no frame fits it, so none is put there
-pub not-put : (out : List ℕ) (f : Frame) → length out < 16 → out ≡ putFrame out 0 f
-unfolding putFrame
-not-put out f h = rw (le-ltb 0 (frameCount out) (omega arith))
-
 -- numbers 1 and 2 do not depend on what is lent
-pub any-room : (limit : ℕ) (t : List ℕ) (f : ℕ) (room : AnswerRoom) → noRoom limit t ≡ outcomeNumber (orShort (readText limit t f room))
+pub any-room : (limit : ℕ) (t : List ℕ) (f : ℕ) (room : AnswerRoom) → noRoom limit t
+    ≡ outcomeNumber (orShort (readText limit t f room))
 unfolding noRoom
 any-room limit t f room = ap outcomeNumber (short-any limit t f room)
 
 -- A NUMBER HANDED IN
 
 -- what is the same of every number from 65,535 on is the same of a number and of the one that is handed on for it
-pub clamped-is : {A : Type 0} (g : ℕ → A) (z : A) → ((m : ℕ) → 65535 ≤ m → g m ≡ z) → (n k : ℕ) → k ≡ min n 65535 → g k ≡ g n
+pub clamped-is : {A : Type 0} (g : ℕ → A) (z : A) → ((m : ℕ) → 65535 ≤ m → g m ≡ z) → (n k : ℕ) → k ≡ min n 65535 → g k
+    ≡ g n
 clamped-is g z h n k e = go (decLe 65535 n)
   where
     go : Dec (65535 ≤ n) → g k ≡ g n
@@ -87,27 +78,32 @@ over-same f g h t (Order k) e = refl
 over-same f g h t (Field k) e = refl
 over-same f g h t (Index k) e = refl
 
-few : (limit : ℕ) (t : List ℕ) (f : ℕ) (room : AnswerRoom) (n : ℕ) → readFile limit t f room ≡ Accepted n → frameCount (decoded t n) ≤ maxFrames
+few : (limit : ℕ) (t : List ℕ) (f : ℕ) (room : AnswerRoom) (n : ℕ) → readFile limit t f room ≡ Accepted n
+    → frameCount (decoded t n) ≤ maxFrames
 few limit t f room n e = rw (count-decoded t n) (count-small (accepted-when limit t f room n .0 e .readable))
 
 no-row : (fr : List ℕ) (m : ℕ) → frameCount fr ≤ maxFrames → 65535 ≤ m → isRow (startsOf fr) (record { 0 = m }) ≡ false
 no-row fr m h l = le-ltb m (rowCount (startsOf fr)) (omega (arith, starts-small fr maxFrames h .1))
 
-no-type : (fr : List ℕ) (m : ℕ) → frameCount fr ≤ maxFrames → 65535 ≤ m → isType (startsOf fr) (record { 0 = m }) ≡ false
+no-type : (fr : List ℕ) (m : ℕ) → frameCount fr ≤ maxFrames → 65535 ≤ m → isType (startsOf fr) (record { 0 = m })
+    ≡ false
 no-type fr m h l = le-ltb m (typeCount (startsOf fr)) (omega (arith, starts-small fr maxFrames h .0))
 
 -- a row or a type of a number from 65,535 on is one that the file does not have
 module _ (pass : Pass) (limit : ℕ) (t : List ℕ) (f a : ℕ) where
   pub row-stray : (m : ℕ) → 65535 ≤ m
-      → rowType pass limit t f a (record { 0 = m }) ≡ overFile RowGiven.notAccepted (λ (x : List ℕ). RowGiven.noRow) t (readFile limit t f (Lent a))
+      → rowType pass limit t f a (record { 0 = m })
+      ≡ overFile RowGiven.notAccepted (λ (x : List ℕ). RowGiven.noRow) t (readFile limit t f (Lent a))
   unfolding rowType
   row-stray m l =
-      over-same RowGiven.notAccepted (rowGiven pass (record { 0 = m })) (λ (x : List ℕ). RowGiven.noRow) t (readFile limit t f (Lent a))
+      over-same RowGiven.notAccepted (rowGiven pass (record { 0 = m })) (λ (x : List ℕ). RowGiven.noRow) t
+      (readFile limit t f (Lent a))
       (λ n e.
       ap (λ (b : Bool). cond b (RowGiven.answer (rowAnswer pass (see (decoded t n)) m)) RowGiven.noRow)
       (no-row (decoded t n) m (few limit t f (Lent a) n e) l))
 
-  pub row-clamped : (n k : ℕ) → k ≡ min n 65535 → rowType pass limit t f a (record { 0 = k }) ≡ rowType pass limit t f a (record { 0 = n })
+  pub row-clamped : (n k : ℕ) → k ≡ min n 65535 → rowType pass limit t f a (record { 0 = k })
+      ≡ rowType pass limit t f a (record { 0 = n })
   row-clamped = clamped-is (λ (m : ℕ). rowType pass limit t f a (record { 0 = m })) _ row-stray
 
   given-stray : (m n : ℕ) → 65535 ≤ m → readFile limit t f (Lent a) ≡ Accepted n
@@ -117,7 +113,8 @@ module _ (pass : Pass) (limit : ℕ) (t : List ℕ) (f a : ℕ) where
       (no-row (decoded t n) m (few limit t f (Lent a) n e) l)
 
   pub verdict-stray : (m : ℕ) → 65535 ≤ m
-      → composeVerdict pass limit t f a (record { 0 = m }) ≡ overFile VerdictGiven.notAccepted (λ (x : List ℕ). VerdictGiven.noRow) t (readFile limit t f (Lent a))
+      → composeVerdict pass limit t f a (record { 0 = m })
+      ≡ overFile VerdictGiven.notAccepted (λ (x : List ℕ). VerdictGiven.noRow) t (readFile limit t f (Lent a))
   unfolding composeVerdict
   verdict-stray m l =
       over-same VerdictGiven.notAccepted (verdictGiven pass (record {
@@ -155,14 +152,18 @@ module _ (pass : Pass) (limit : ℕ) (t : List ℕ) (f a : ℕ) where
         0 = n;
       }) (composeVerdict pass limit t f a (record { 0 = n }))
   said-clamped =
-      clamped-is (λ (m : ℕ). verdictSaid (record { 0 = m }) (composeVerdict pass limit t f a (record { 0 = m }))) _ said-stray
+      clamped-is (λ (m : ℕ). verdictSaid (record { 0 = m }) (composeVerdict pass limit t f a (record { 0 = m }))) _
+      said-stray
 
 module _ (pass : Pass) (limit : ℕ) (t : List ℕ) (f : ℕ) (an : List ℕ) where
   answers-stray : (m : ℕ) → 65535 ≤ m
-      → answersAfterRow pass limit t f an (record { 0 = m }) ≡ overFile (λ (o : Outcome). an) (λ (x : List ℕ). an) t (readFile limit t f (Lent (length an)))
+      → answersAfterRow pass limit t f an (record { 0 = m })
+      ≡ overFile (λ (o : Outcome). an) (λ (x : List ℕ). an) t (readFile limit t f (Lent (length an)))
   unfolding answersAfterRow
   answers-stray m l =
-      over-same (λ (o : Outcome). an) (λ (x : List ℕ). cond (isRow (startsOf x) (record { 0 = m })) (answersWritten pass an x) an) (λ (x : List ℕ). an) t (readFile limit t f (Lent (length an)))
+      over-same (λ (o : Outcome). an)
+      (λ (x : List ℕ). cond (isRow (startsOf x) (record { 0 = m })) (answersWritten pass an x) an)
+      (λ (x : List ℕ). an) t (readFile limit t f (Lent (length an)))
       (λ n e.
       ap (λ (b : Bool). cond b (answersWritten pass an (decoded t n)) an)
       (no-row (decoded t n) m (few limit t f (Lent (length an)) n e) l))
@@ -172,25 +173,32 @@ module _ (pass : Pass) (limit : ℕ) (t : List ℕ) (f : ℕ) (an : List ℕ) wh
   answers-clamped = clamped-is (λ (m : ℕ). answersAfterRow pass limit t f an (record { 0 = m })) _ answers-stray
 
   judged-stray : (m : ℕ) → 65535 ≤ m
-      → answersAfterVerdict pass limit t f an (record { 0 = m }) ≡ overFile (λ (o : Outcome). an) (λ (x : List ℕ). an) t (readFile limit t f (Lent (length an)))
+      → answersAfterVerdict pass limit t f an (record { 0 = m })
+      ≡ overFile (λ (o : Outcome). an) (λ (x : List ℕ). an) t (readFile limit t f (Lent (length an)))
   unfolding answersAfterVerdict
   judged-stray m l =
-      over-same (λ (o : Outcome). an) (λ (x : List ℕ). ifJudged (answersWritten pass an x) an (verdictGiven pass (record { 0 = m }) x)) (λ (x : List ℕ). an) t (readFile limit t f (Lent (length an)))
+      over-same (λ (o : Outcome). an)
+      (λ (x : List ℕ). ifJudged (answersWritten pass an x) an (verdictGiven pass (record { 0 = m }) x))
+      (λ (x : List ℕ). an) t (readFile limit t f (Lent (length an)))
       (λ n e. ap (ifJudged (answersWritten pass an (decoded t n)) an) (given-stray pass limit t f (length an) m n l e))
 
   pub judged-clamped : (n k : ℕ) → k ≡ min n 65535
-      → answersAfterVerdict pass limit t f an (record { 0 = k }) ≡ answersAfterVerdict pass limit t f an (record { 0 = n })
+      → answersAfterVerdict pass limit t f an (record { 0 = k })
+      ≡ answersAfterVerdict pass limit t f an (record { 0 = n })
   judged-clamped = clamped-is (λ (m : ℕ). answersAfterVerdict pass limit t f an (record { 0 = m })) _ judged-stray
 
 module _ (limit : ℕ) (t : List ℕ) (f : ℕ) where
   pub canonical-stray : (m : ℕ) → 65535 ≤ m
-      → canonicalType limit t f (record { 0 = m }) ≡ overFile Ct.NotAccepted (λ (x : List ℕ). Ct.Index) t (readFile limit t f NotLent)
+      → canonicalType limit t f (record { 0 = m })
+      ≡ overFile Ct.NotAccepted (λ (x : List ℕ). Ct.Index) t (readFile limit t f NotLent)
   unfolding canonicalType canonicalTypeIn
   canonical-stray m l =
-      over-same Ct.NotAccepted (λ (x : List ℕ). canonicalTypeIn x (startsOf x) (record { 0 = m })) (λ (x : List ℕ). Ct.Index) t (readFile limit t f NotLent)
+      over-same Ct.NotAccepted (λ (x : List ℕ). canonicalTypeIn x (startsOf x) (record { 0 = m }))
+      (λ (x : List ℕ). Ct.Index) t (readFile limit t f NotLent)
       (λ n e.
       let x = decoded t n in
-      ap (λ (b : Bool). cond b (canonicalOfForm x (startsOf x) (record { 0 = m }) (typeIn x (startsOf x) (record { 0 = m }))) Ct.Index)
+      ap (λ (b : Bool). cond b
+      (canonicalOfForm x (startsOf x) (record { 0 = m }) (typeIn x (startsOf x) (record { 0 = m }))) Ct.Index)
       (no-type x m (few limit t f NotLent n e) l))
 
   pub canonical-clamped : (n k : ℕ) → k ≡ min n 65535
@@ -198,10 +206,12 @@ module _ (limit : ℕ) (t : List ℕ) (f : ℕ) where
   canonical-clamped = clamped-is (λ (m : ℕ). canonicalType limit t f (record { 0 = m })) _ canonical-stray
 
   pub base-stray : (m : ℕ) → 65535 ≤ m
-      → pointerBaseType limit t f (record { 0 = m }) ≡ overFile Pb.NotAccepted (λ (x : List ℕ). Pb.Index) t (readFile limit t f NotLent)
+      → pointerBaseType limit t f (record { 0 = m })
+      ≡ overFile Pb.NotAccepted (λ (x : List ℕ). Pb.Index) t (readFile limit t f NotLent)
   unfolding pointerBaseType pointerBaseIn
   base-stray m l =
-      over-same Pb.NotAccepted (λ (x : List ℕ). pointerBaseIn x (startsOf x) (record { 0 = m })) (λ (x : List ℕ). Pb.Index) t (readFile limit t f NotLent)
+      over-same Pb.NotAccepted (λ (x : List ℕ). pointerBaseIn x (startsOf x) (record { 0 = m }))
+      (λ (x : List ℕ). Pb.Index) t (readFile limit t f NotLent)
       (λ n e.
       let x = decoded t n in
       ap (λ (b : Bool). cond b (baseOfForm (typeIn x (startsOf x) (record { 0 = m }))) Pb.Index)
@@ -212,16 +222,19 @@ module _ (limit : ℕ) (t : List ℕ) (f : ℕ) where
   base-clamped = clamped-is (λ (m : ℕ). pointerBaseType limit t f (record { 0 = m })) _ base-stray
 
   pub size-stray : (m : ℕ) → 65535 ≤ m
-      → typeSize limit t f (record { 0 = m }) ≡ overFile Ts.NotAccepted (λ (x : List ℕ). Ts.Index) t (readFile limit t f NotLent)
+      → typeSize limit t f (record { 0 = m })
+      ≡ overFile Ts.NotAccepted (λ (x : List ℕ). Ts.Index) t (readFile limit t f NotLent)
   unfolding typeSize typeSizeIn
   size-stray m l =
-      over-same Ts.NotAccepted (λ (x : List ℕ). typeSizeIn x (startsOf x) (record { 0 = m })) (λ (x : List ℕ). Ts.Index) t (readFile limit t f NotLent)
+      over-same Ts.NotAccepted (λ (x : List ℕ). typeSizeIn x (startsOf x) (record { 0 = m }))
+      (λ (x : List ℕ). Ts.Index) t (readFile limit t f NotLent)
       (λ n e.
       let x = decoded t n in
       ap (λ (b : Bool). cond b (Ts.Measured (measureIn x (startsOf x) (record { 0 = m }))) Ts.Index)
       (no-type x m (few limit t f NotLent n e) l))
 
-  pub size-clamped : (n k : ℕ) → k ≡ min n 65535 → typeSize limit t f (record { 0 = k }) ≡ typeSize limit t f (record { 0 = n })
+  pub size-clamped : (n k : ℕ) → k ≡ min n 65535 → typeSize limit t f (record { 0 = k })
+      ≡ typeSize limit t f (record { 0 = n })
   size-clamped = clamped-is (λ (m : ℕ). typeSize limit t f (record { 0 = m })) _ size-stray
 
 module _ (limit : ℕ) (t : List ℕ) (f : ℕ) (least greatest : List ℕ) where
@@ -232,10 +245,14 @@ module _ (limit : ℕ) (t : List ℕ) (f : ℕ) (least greatest : List ℕ) wher
   unfolding sizeRange typeRangeIn
   range-stray m l =
       ap (byTables least greatest (Tr.NotAccepted (shortRead limit t)))
-      (over-same Tr.NotAccepted (λ (x : List ℕ). typeRangeIn x (startsOf x) (countsOf least) (countsOf greatest) (record { 0 = m })) (λ (x : List ℕ). Tr.Index) t (readFile limit t f NotLent)
+      (over-same Tr.NotAccepted
+      (λ (x : List ℕ). typeRangeIn x (startsOf x) (countsOf least) (countsOf greatest) (record { 0 = m }))
+      (λ (x : List ℕ). Tr.Index) t (readFile limit t f NotLent)
       (λ n e.
       let x = decoded t n in
-      ap (λ (b : Bool). cond b (unlessSpan (faultySpan (startsOf x) (countsOf least) (countsOf greatest)) (rangeIn x (startsOf x) (countsOf least) (countsOf greatest) (record { 0 = m }))) Tr.Index)
+      ap (λ (b : Bool). cond b
+      (unlessSpan (faultySpan (startsOf x) (countsOf least) (countsOf greatest))
+      (rangeIn x (startsOf x) (countsOf least) (countsOf greatest) (record { 0 = m }))) Tr.Index)
       (no-type x m (few limit t f NotLent n e) l)))
 
   pub range-clamped : (n k : ℕ) → k ≡ min n 65535

@@ -1,5 +1,5 @@
--- Frames handed in to a comparison of an accepted file: one of another length than 16 gets 5, and the left one's 5 or 6 comes before the right one's. From the laws of the
--- comparison. Assumes nothing.
+-- Frames handed in to a comparison of an accepted file: one of another length than 16 gets 5, and the left one's 5 or 6
+-- comes before the right one's. From the laws of the comparison.
 use Prim.Native.Nat.{ℕ}
 use mathlib.Core.Path.{_≡_, refl, ap, _∙_}
 use mathlib.Core.Bool.{Bool, cond}
@@ -47,18 +47,23 @@ module _ (limit : ℕ) (t : List ℕ) (f n : ℕ) (e : readFile limit t f NotLen
   pub wrong-left : (l : List ℕ) (r : Frame) → (length l ≡ 16 → ⊥) → sameTypes limit t f (handedFrame l) r ≡ Sa.Field
   unfolding sameIn
   wrong-left l r h =
-      asked (handedFrame l) r ∙ ap samenessOf (left-five fr (startsOf fr) (typeAnswerOf (handedFrame l)) (typeAnswerOf r) (wrong-five (startsOf fr) l h))
+      asked (handedFrame l) r
+      ∙ ap samenessOf (left-five fr (startsOf fr) (typeAnswerOf (handedFrame l)) (typeAnswerOf r)
+      (wrong-five (startsOf fr) l h))
 
   -- whatever the right one is, of a wrong length too
   pub stray-left : (l r : List ℕ) → faultOf (startsOf fr) (typeAnswerOf (handedFrame l)) ≡ Fa.Index
       → sameTypes limit t f (handedFrame l) (handedFrame r) ≡ Sa.Index
   unfolding sameIn
   stray-left l r h =
-      asked (handedFrame l) (handedFrame r) ∙ ap samenessOf (left-six fr (startsOf fr) (typeAnswerOf (handedFrame l)) (typeAnswerOf (handedFrame r)) h)
+      asked (handedFrame l) (handedFrame r)
+      ∙ ap samenessOf (left-six fr (startsOf fr) (typeAnswerOf (handedFrame l)) (typeAnswerOf (handedFrame r)) h)
 
   -- where the left one gets neither 5 nor 6
   pub wrong-right : (l : Frame) (r : List ℕ) → faultOf (startsOf fr) (typeAnswerOf l) ≡ Fa.Sound → (length r ≡ 16 → ⊥)
       → sameTypes limit t f l (handedFrame r) ≡ Sa.Field
   unfolding sameIn
   wrong-right l r s h =
-      asked l (handedFrame r) ∙ ap samenessOf (right-five fr (startsOf fr) (typeAnswerOf l) (typeAnswerOf (handedFrame r)) s (wrong-five (startsOf fr) r h))
+      asked l (handedFrame r)
+      ∙ ap samenessOf (right-five fr (startsOf fr) (typeAnswerOf l) (typeAnswerOf (handedFrame r)) s
+      (wrong-five (startsOf fr) r h))

@@ -8,7 +8,7 @@ ghost use mathlib.Core.Path.{_≡_};
 ghost use lib.ListN.{length};
 ghost use Rattle.frames.specs.Bytes.{putFrame};
 ghost use Rattle.rule_ranges.specs.Ranges.{typeRangeSaid, rangeSaidFrame};
-ghost use Rattle.file_sizes.specs.Ranges.{sizeRange, framesRanged};
+ghost use Rattle.rule_file_sizes.specs.Ranges.{sizeRange, framesRanged};
 ghost use Rattle.rule_file.specs.Exported.{noRoom, byRoom, oneNumber};
 
 // Alignment, least and greatest size of a type between two tables of counts, or its number and the lowest faulty type

@@ -15,7 +15,8 @@ ghost use Rattle.text.specs.declared.AnswerRoom.the-variants.{Lent};
 ghost use Rattle.frames.specs.Bytes.{putFrame};
 ghost use Rattle.frames.specs.Out.{outcomeFrame, oneFrame};
 ghost use Rattle.rule_file.specs.File.{readFile, framesAfter};
-ghost use Rattle.rule_file.specs.Typing.{answersAfter, rowType, rowSaid, answersAfterRow, composeVerdict, verdictSaid, answersAfterVerdict};
+ghost use Rattle.rule_file.specs.Typing.{answersAfter, rowType, rowSaid, answersAfterRow, composeVerdict, verdictSaid};
+ghost use Rattle.rule_file.specs.Typing.{answersAfterVerdict};
 ghost use Rattle.rule_file.specs.Exported.{noRoom, byRoom, outcomeNumber, oneNumber, passOf};
 
 // Types every row of a file and judges every compose.
@@ -29,7 +30,8 @@ pub extern "C" fn gelmusko_type_rows(
     out: &mut [u8],
 ) -> u32
     ensures outcome { λ r. ⌜ r
-        ≡ byRoom (now (out .entry)) (noRoom limit (now (text .entry))) (outcomeNumber (readFile limit (now (text .entry))
+        ≡ byRoom (now (out .entry)) (noRoom limit (now (text .entry)))
+        (outcomeNumber (readFile limit (now (text .entry))
         (length (now (frames .entry))) (Lent (length (now (answers .entry)))))) ⌝ }
     ensures frames { λ r. ⌜ now (frames .exit)
         ≡ byRoom (now (out .entry)) (now (frames .entry))
@@ -60,7 +62,8 @@ pub extern "C" fn gelmusko_row_type(
     out: &mut [u8],
 ) -> u32
     ensures outcome { λ r. ⌜ r
-        ≡ byRoom (now (out .entry)) (noRoom limit (now (text .entry))) (oneNumber (rowSaid (rowType (passOf pass) limit (now (text .entry))
+        ≡ byRoom (now (out .entry)) (noRoom limit (now (text .entry)))
+        (oneNumber (rowSaid (rowType (passOf pass) limit (now (text .entry))
         (length (now (frames .entry))) (length (now (answers .entry))) (record { 0 = row })))) ⌝ }
     ensures frames { λ r. ⌜ now (frames .exit)
         ≡ byRoom (now (out .entry)) (now (frames .entry))
@@ -98,7 +101,8 @@ pub extern "C" fn gelmusko_compose_verdict(
     out: &mut [u8],
 ) -> u32
     ensures outcome { λ r. ⌜ r
-        ≡ byRoom (now (out .entry)) (noRoom limit (now (text .entry))) (oneNumber (verdictSaid (record { 0 = row }) (composeVerdict (passOf pass) limit
+        ≡ byRoom (now (out .entry)) (noRoom limit (now (text .entry)))
+        (oneNumber (verdictSaid (record { 0 = row }) (composeVerdict (passOf pass) limit
         (now (text .entry)) (length (now (frames .entry))) (length (now (answers .entry))) (record { 0 = row })))) ⌝ }
     ensures frames { λ r. ⌜ now (frames .exit)
         ≡ byRoom (now (out .entry)) (now (frames .entry))

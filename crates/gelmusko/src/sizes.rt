@@ -10,7 +10,7 @@ ghost use Rattle.text.specs.declared.AnswerRoom.the-variants.{NotLent};
 ghost use Rattle.frames.specs.Bytes.{putFrame};
 ghost use Rattle.rule_sizes.specs.Sizes.{sizeSaid, sizeSaidFrame};
 ghost use Rattle.rule_file.specs.File.{framesAfter};
-ghost use Rattle.file_sizes.specs.Sizes.{typeSize};
+ghost use Rattle.rule_file_sizes.specs.Sizes.{typeSize};
 ghost use Rattle.rule_file.specs.Exported.{noRoom, byRoom, oneNumber};
 
 // Alignment and size of a type, or its number and the lowest faulty type.

@@ -10,7 +10,8 @@ pub extern "C" fn gelmusko_texel(density: u32, out: &mut [u8]) -> u32
     ensures outcome { λ r. ⌜ r
         ≡ byTexelRoom (now (out .entry)) 3 (texelNumber (texelSaid (texelOf density))) ⌝ }
     ensures out { λ r. ⌜ now (out .exit)
-        ≡ byTexelRoom (now (out .entry)) (now (out .entry)) (texelPut (now (out .entry)) (texelSaid (texelOf density))) ⌝ }
+        ≡ byTexelRoom (now (out .entry)) (now (out .entry))
+        (texelPut (now (out .entry)) (texelSaid (texelOf density))) ⌝ }
 {
     put_texel(density, out)
 }

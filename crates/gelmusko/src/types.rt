@@ -16,8 +16,9 @@ ghost use Rattle.text.specs.declared.AnswerRoom.the-variants.{NotLent};
 ghost use Rattle.frames.specs.Bytes.{putFrame};
 ghost use Rattle.rule_file.specs.File.{framesAfter};
 ghost use Rattle.rule_file.specs.Types.{sameTypes};
-ghost use Rattle.file_pointers.specs.Forms.{canonicalType, pointerBaseType};
-ghost use Rattle.rule_file.specs.Exported.{noRoom, byRoom, saidNumber, saidFrame, typeSaidNumber, typeSaidFrame, handedFrame};
+ghost use Rattle.rule_file.specs.Forms.{canonicalType, pointerBaseType};
+ghost use Rattle.rule_file.specs.Exported.{noRoom, byRoom, saidNumber, saidFrame, typeSaidNumber, typeSaidFrame};
+ghost use Rattle.rule_file.specs.Exported.{handedFrame};
 
 // Whether two answers of a file, as frames of family 8 or 9, are the same type.
 #[no_mangle]

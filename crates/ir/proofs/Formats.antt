@@ -1,4 +1,4 @@
--- All 41 formats together: the scalar of each is the one that its name stands for. By computing. Assumes nothing.
+-- All 41 formats together: the scalar of each is the one that its name stands for. By computing.
 use mathlib.Core.Path.{_≡_, refl}
 use mathlib.Core.List.{List, map}
 use mathlib.Core.Option.{Option, some}

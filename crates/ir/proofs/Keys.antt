@@ -1,12 +1,14 @@
--- An arm of a match that names several numbers, several cases, or `_`. There it is told that the number, or the tag of the case, is one of a list; a function that
--- has one value at each of the list has it there. Where the values compute, `refl` shows that they are one. Assumes nothing.
+-- An arm of a match that names several numbers, several cases, or `_`. There it is told that the number, or the tag of
+-- the case, is one of a list; a function that has one value at each of the list has it there. Where the values compute,
+-- `refl` shows that they are one.
 use Prim.Native.Nat.{ℕ}
 use mathlib.Core.Path.{_≡_, refl, sym, ap, _∙_}
 use mathlib.Core.List.{List, [], _∷_, map}
 use mathlib.Core.Logic.{_⊎_, inl, inr}
 use types.Run.{OneOf}
 use denote.Enum.Declared.{tagOf}
-use Rattle.ir.specs.Numbers.{rowKindOf, typeKindOf, itemKindOf, relationalFunctionOf, imageQueryOf, storageFormatOf}
+use Rattle.ir.specs.Numbers.{rowKindOf, typeKindOf, itemKindOf, relationalFunctionOf, imageQueryOf}
+use Rattle.ir.specs.Numbers.{storageFormatOf}
 use Rattle.ir.specs.declared.RowKind.{RowKind}
 use Rattle.ir.specs.declared.RowKind.the-variants as Rk
 use Rattle.ir.proofs.RowKind as RowKind′
@@ -35,7 +37,8 @@ rest [] = []
 rest (x ∷ xs) = xs
 
 -- a function that has one value at each number of the list has it at a number that is one of them
-pub of-keys : {B : Type 0} (f : ℕ → B) {b : B} (ks : List ℕ) → map f ks ≡ map (λ (k : ℕ). b) ks → (x : ℕ) → OneOf ks x → b ≡ f x
+pub of-keys : {B : Type 0} (f : ℕ → B) {b : B} (ks : List ℕ) → map f ks ≡ map (λ (k : ℕ). b) ks → (x : ℕ) → OneOf ks x
+    → b ≡ f x
 of-keys f [] e x h = absurd h
 of-keys f {b} (k ∷ []) e x h = ap (the b) (sym e) ∙ ap f (sym h)
 of-keys f {b} (k ∷ k′ ∷ ks) e x (inl h) = ap (the b) (sym e) ∙ ap f (sym h)
@@ -80,7 +83,8 @@ rowKind-tag Rk.SubgroupOperationResult = refl
 rowKind-tag Rk.CooperativeLoad = refl
 rowKind-tag Rk.CooperativeMultiplyAdd = refl
 
-pub of-row-kinds : {B : Type 0} (f : RowKind → B) {b : B} (ks : List ℕ) → map (λ (k : ℕ). f (rowKindOf k)) ks ≡ map (λ (k : ℕ). b) ks
+pub of-row-kinds : {B : Type 0} (f : RowKind → B) {b : B} (ks : List ℕ) → map (λ (k : ℕ). f (rowKindOf k)) ks
+    ≡ map (λ (k : ℕ). b) ks
     → (a : RowKind) → OneOf ks (tagOf RowKind′.the-type a) → b ≡ f a
 of-row-kinds f ks e a h = of-keys (λ (k : ℕ). f (rowKindOf k)) ks e (tagOf RowKind′.the-type a) h ∙ ap f (rowKind-tag a)
 
@@ -101,9 +105,11 @@ typeKind-tag Tk.AccelerationStructure = refl
 typeKind-tag Tk.RayQuery = refl
 typeKind-tag Tk.BindingArray = refl
 
-pub of-type-kinds : {B : Type 0} (f : TypeKind → B) {b : B} (ks : List ℕ) → map (λ (k : ℕ). f (typeKindOf k)) ks ≡ map (λ (k : ℕ). b) ks
+pub of-type-kinds : {B : Type 0} (f : TypeKind → B) {b : B} (ks : List ℕ) → map (λ (k : ℕ). f (typeKindOf k)) ks
+    ≡ map (λ (k : ℕ). b) ks
     → (a : TypeKind) → OneOf ks (tagOf TypeKind′.the-type a) → b ≡ f a
-of-type-kinds f ks e a h = of-keys (λ (k : ℕ). f (typeKindOf k)) ks e (tagOf TypeKind′.the-type a) h ∙ ap f (typeKind-tag a)
+of-type-kinds f ks e a h = of-keys (λ (k : ℕ). f (typeKindOf k)) ks e (tagOf TypeKind′.the-type a) h
+    ∙ ap f (typeKind-tag a)
 
 itemKind-tag : (a : ItemKind) → itemKindOf (tagOf ItemKind′.the-type a) ≡ a
 itemKind-tag Ik.Unknown = refl
@@ -116,9 +122,11 @@ itemKind-tag Ik.Function = refl
 itemKind-tag Ik.RayIntersection = refl
 itemKind-tag Ik.RayVertexReturn = refl
 
-pub of-item-kinds : {B : Type 0} (f : ItemKind → B) {b : B} (ks : List ℕ) → map (λ (k : ℕ). f (itemKindOf k)) ks ≡ map (λ (k : ℕ). b) ks
+pub of-item-kinds : {B : Type 0} (f : ItemKind → B) {b : B} (ks : List ℕ) → map (λ (k : ℕ). f (itemKindOf k)) ks
+    ≡ map (λ (k : ℕ). b) ks
     → (a : ItemKind) → OneOf ks (tagOf ItemKind′.the-type a) → b ≡ f a
-of-item-kinds f ks e a h = of-keys (λ (k : ℕ). f (itemKindOf k)) ks e (tagOf ItemKind′.the-type a) h ∙ ap f (itemKind-tag a)
+of-item-kinds f ks e a h = of-keys (λ (k : ℕ). f (itemKindOf k)) ks e (tagOf ItemKind′.the-type a) h
+    ∙ ap f (itemKind-tag a)
 
 relationalFunction-tag : (a : RelationalFunction) → relationalFunctionOf (tagOf RelationalFunction′.the-type a) ≡ a
 relationalFunction-tag Rf.All = refl
@@ -130,7 +138,8 @@ pub of-relational-functions : {B : Type 0} (f : RelationalFunction → B) {b : B
     → map (λ (k : ℕ). f (relationalFunctionOf k)) ks ≡ map (λ (k : ℕ). b) ks → (a : RelationalFunction)
     → OneOf ks (tagOf RelationalFunction′.the-type a) → b ≡ f a
 of-relational-functions f ks e a h =
-    of-keys (λ (k : ℕ). f (relationalFunctionOf k)) ks e (tagOf RelationalFunction′.the-type a) h ∙ ap f (relationalFunction-tag a)
+    of-keys (λ (k : ℕ). f (relationalFunctionOf k)) ks e (tagOf RelationalFunction′.the-type a) h
+    ∙ ap f (relationalFunction-tag a)
 
 imageQuery-tag : (a : ImageQuery) → imageQueryOf (tagOf ImageQuery′.the-type a) ≡ a
 imageQuery-tag Iq.Size = refl
@@ -139,8 +148,10 @@ imageQuery-tag Iq.NumLayers = refl
 imageQuery-tag Iq.NumSamples = refl
 
 pub of-image-queries : {B : Type 0} (f : ImageQuery → B) {b : B} (ks : List ℕ)
-    → map (λ (k : ℕ). f (imageQueryOf k)) ks ≡ map (λ (k : ℕ). b) ks → (a : ImageQuery) → OneOf ks (tagOf ImageQuery′.the-type a) → b ≡ f a
-of-image-queries f ks e a h = of-keys (λ (k : ℕ). f (imageQueryOf k)) ks e (tagOf ImageQuery′.the-type a) h ∙ ap f (imageQuery-tag a)
+    → map (λ (k : ℕ). f (imageQueryOf k)) ks ≡ map (λ (k : ℕ). b) ks → (a : ImageQuery)
+    → OneOf ks (tagOf ImageQuery′.the-type a) → b ≡ f a
+of-image-queries f ks e a h = of-keys (λ (k : ℕ). f (imageQueryOf k)) ks e (tagOf ImageQuery′.the-type a) h
+    ∙ ap f (imageQuery-tag a)
 
 format-tag : (a : StorageFormat) → storageFormatOf (tagOf StorageFormat′.the-type a) ≡ a
 format-tag Sf.R8Unorm = refl
@@ -186,5 +197,7 @@ format-tag Sf.Rgba16Unorm = refl
 format-tag Sf.Rgba16Snorm = refl
 
 pub of-formats : {B : Type 0} (f : StorageFormat → B) {b : B} (ks : List ℕ)
-    → map (λ (k : ℕ). f (storageFormatOf k)) ks ≡ map (λ (k : ℕ). b) ks → (a : StorageFormat) → OneOf ks (tagOf StorageFormat′.the-type a) → b ≡ f a
-of-formats f ks e a h = of-keys (λ (k : ℕ). f (storageFormatOf k)) ks e (tagOf StorageFormat′.the-type a) h ∙ ap f (format-tag a)
+    → map (λ (k : ℕ). f (storageFormatOf k)) ks ≡ map (λ (k : ℕ). b) ks → (a : StorageFormat)
+    → OneOf ks (tagOf StorageFormat′.the-type a) → b ≡ f a
+of-formats f ks e a h = of-keys (λ (k : ℕ). f (storageFormatOf k)) ks e (tagOf StorageFormat′.the-type a) h
+    ∙ ap f (format-tag a)

@@ -1,5 +1,5 @@
--- The rule of each table of numbers: the case at number k has number k again, by one computed test over the table; a case's
--- number gives the case again, case by case. Assumes nothing.
+-- The rule of each table of numbers: the case at number k has number k again, by one computed test over the table; a
+-- case's number gives the case again, case by case.
 use Prim.Native.Nat.{ℕ, _+_, _-_, _≤_, _<_}
 use native.Mathlib.Nat.{zero-add}
 use native.Mathlib.Omega.{arith}
@@ -12,7 +12,16 @@ use lib.Dec.{eqb}
 use borrow.Author.Tests.{eqb-true}
 use lib.ListN.{length, getD, List·getD-eq-default}
 use Rattle.ir.proofs.Tables.{upFrom, at-place}
-use Rattle.ir.specs.Numbers.{typeKinds, typeKindOf, typeKindNumber, itemKinds, itemKindOf, rowKinds, rowKindOf, rowKindNumber, vectorSizes, vectorSizeOf, vectorSizeNumber, cooperativeRoles, cooperativeRoleOf, cooperativeRoleNumber, scalarKinds, scalarKindOf, scalarKindNumber, imageDimensions, imageDimensionOf, imageDimensionNumber, storageFormats, storageFormatOf, storageFormatNumber, literals, literalOf, literalNumber, binaryOperators, binaryOperatorOf, binaryOperatorNumber, relationalFunctions, relationalFunctionOf, relationalFunctionNumber, imageQueries, imageQueryOf, imageQueryNumber, cooperativeSizeOf, cooperativeSizeNumber, isWidth, widthOf, widthNumber, flagOf, flagNumber, accessOf, accessNumber, spaceOf, spaceNumber, spaceAccess}
+use Rattle.ir.specs.Numbers.{typeKinds, typeKindOf, typeKindNumber, itemKinds, itemKindOf, rowKinds, rowKindOf}
+use Rattle.ir.specs.Numbers.{rowKindNumber, vectorSizes, vectorSizeOf, vectorSizeNumber, cooperativeRoles}
+use Rattle.ir.specs.Numbers.{cooperativeRoleOf, cooperativeRoleNumber, scalarKinds, scalarKindOf}
+use Rattle.ir.specs.Numbers.{scalarKindNumber, imageDimensions, imageDimensionOf, imageDimensionNumber}
+use Rattle.ir.specs.Numbers.{storageFormats, storageFormatOf, storageFormatNumber, literals, literalOf}
+use Rattle.ir.specs.Numbers.{literalNumber, binaryOperators, binaryOperatorOf, binaryOperatorNumber}
+use Rattle.ir.specs.Numbers.{relationalFunctions, relationalFunctionOf, relationalFunctionNumber, imageQueries}
+use Rattle.ir.specs.Numbers.{imageQueryOf, imageQueryNumber, cooperativeSizeOf, cooperativeSizeNumber, isWidth}
+use Rattle.ir.specs.Numbers.{widthOf, widthNumber, flagOf, flagNumber, accessOf, accessNumber, spaceOf}
+use Rattle.ir.specs.Numbers.{spaceNumber, spaceAccess}
 use Rattle.ir.specs.ForProofs.{itemKindNumber}
 use Rattle.ir.specs.declared.AddressSpace.{AddressSpace}
 use Rattle.ir.specs.declared.BinaryOperator.{BinaryOperator}
@@ -47,7 +56,8 @@ use Rattle.ir.specs.declared.VectorSize.the-variants as VectorSize′
 use Rattle.ir.specs.declared.Width.the-variants as Width′
 
 -- the rule of a table whose cases are numbered from b on
-numbered : {A : Type 0} (num : A → ℕ) (d : A) (l : List A) (b : ℕ) → map num l ≡ upFrom b (length l) → (k : ℕ) → b ≤ k → k < b + length l
+numbered : {A : Type 0} (num : A → ℕ) (d : A) (l : List A) (b : ℕ) → map num l ≡ upFrom b (length l) → (k : ℕ) → b ≤ k
+    → k < b + length l
     → num (getD l (k - b) d) ≡ k
 numbered num d l b e k h g = at-place num d l b e (k - b) (omega arith) ∙ omega arith
 
@@ -178,7 +188,8 @@ width-one Width′.Eight = refl
 pub width-number : (k : ℕ) → isWidth k ≡ true → widthNumber (widthOf k) ≡ k
 width-number k h = first (eqb k 1) (eqb k 2) (eqb k 4) (eqb k 8) refl refl refl refl h
   where
-    first : (p q r s : Bool) → eqb k 1 ≡ p → eqb k 2 ≡ q → eqb k 4 ≡ r → eqb k 8 ≡ s → (p || (q || (r || s))) ≡ true → widthNumber (widthOf k) ≡ k
+    first : (p q r s : Bool) → eqb k 1 ≡ p → eqb k 2 ≡ q → eqb k 4 ≡ r → eqb k 8 ≡ s → (p || (q || (r || s))) ≡ true
+        → widthNumber (widthOf k) ≡ k
     first true q r s e1 e2 e4 e8 t = rw (eqb-true k 1 e1)
     first false true r s e1 e2 e4 e8 t = rw (eqb-true k 2 e2)
     first false false true s e1 e2 e4 e8 t = rw (eqb-true k 4 e4)
@@ -216,7 +227,8 @@ space-back AddressSpace′.RayPayload = refl
 space-back AddressSpace′.IncomingRayPayload = refl
 
 -- the first case stands for the numbers outside 1 to n: it is given exactly there
-first-case : {A : Type 0} (num : A → ℕ) (d : A) (l : List A) → map num l ≡ upFrom 0 (length l) → num d ≡ 0 → (k : ℕ) → getD l k d ≡ d
+first-case : {A : Type 0} (num : A → ℕ) (d : A) (l : List A) → map num l ≡ upFrom 0 (length l) → num d ≡ 0 → (k : ℕ)
+    → getD l k d ≡ d
     → (k ≡ 0) ⊎ (length l ≤ k)
 first-case num d l e z k h = go (decLe (length l) k)
   where
@@ -230,12 +242,21 @@ outside-cases d l e k (inr le) = List·getD-eq-default l d {n = k} le
 
 -- a type's kind is unknown exactly when its number is outside 1 to 14
 pub unknown-type : (k : ℕ) → (typeKindOf k ≡ TypeKind′.Unknown) ↔ ((k ≡ 0) ⊎ (15 ≤ k))
-unknown-type k = (first-case typeKindNumber TypeKind′.Unknown typeKinds refl refl k, outside-cases TypeKind′.Unknown typeKinds refl k)
+unknown-type k = (
+  first-case typeKindNumber TypeKind′.Unknown typeKinds refl refl k,
+  outside-cases TypeKind′.Unknown typeKinds refl k,
+)
 
 -- an item's exactly when it is outside 1 to 8
 pub unknown-item : (k : ℕ) → (itemKindOf k ≡ ItemKind′.Unknown) ↔ ((k ≡ 0) ⊎ (9 ≤ k))
-unknown-item k = (first-case itemKindNumber ItemKind′.Unknown itemKinds refl refl k, outside-cases ItemKind′.Unknown itemKinds refl k)
+unknown-item k = (
+  first-case itemKindNumber ItemKind′.Unknown itemKinds refl refl k,
+  outside-cases ItemKind′.Unknown itemKinds refl k,
+)
 
 -- a row's exactly when it is outside 1 to 34
 pub unknown-row : (k : ℕ) → (rowKindOf k ≡ RowKind′.Unknown) ↔ ((k ≡ 0) ⊎ (35 ≤ k))
-unknown-row k = (first-case rowKindNumber RowKind′.Unknown rowKinds refl refl k, outside-cases RowKind′.Unknown rowKinds refl k)
+unknown-row k = (
+  first-case rowKindNumber RowKind′.Unknown rowKinds refl refl k,
+  outside-cases RowKind′.Unknown rowKinds refl k,
+)

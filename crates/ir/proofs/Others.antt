@@ -1,5 +1,6 @@
--- The arm `_` of a match over types. There it is told that the kind is one of those that no arm before it names; what is to be shown of such a type is shown of each of these
--- kinds, for all that a type of it may hold. Kinds are numbered from 0 as `TypeInner` declares them. Assumes nothing.
+-- The arm `_` of a match over types. There it is told that the kind is one of those that no arm before it names; what
+-- is to be shown of such a type is shown of each of these kinds, for all that a type of it may hold. Kinds are numbered
+-- from 0 as `TypeInner` declares them.
 use Prim.Native.Nat.{ℕ}
 use mathlib.Core.Bool.{Bool, true, false, not}
 use mathlib.Core.List.{List, [], _∷_}
@@ -52,10 +53,12 @@ pub record Each (l : List ℕ) (P : TypeInner → Type 0) : Type 0 where
   pub scalar : On (hasKey l 0) ((k : Scalar) → P (Ti.Scalar k))
   pub vector : On (hasKey l 1) ((z : VectorSize) (k : Scalar) → P (Ti.Vector z k))
   pub matrix : On (hasKey l 2) ((m n : VectorSize) (k : Scalar) → P (Ti.Matrix m n k))
-  pub cooperative-matrix : On (hasKey l 3) ((m n : CooperativeSize) (k : Scalar) (o : CooperativeRole) → P (Ti.CooperativeMatrix m n k o))
+  pub cooperative-matrix : On (hasKey l 3)
+      ((m n : CooperativeSize) (k : Scalar) (o : CooperativeRole) → P (Ti.CooperativeMatrix m n k o))
   pub atomic : On (hasKey l 4) ((k : Scalar) → P (Ti.Atomic k))
   pub pointer : On (hasKey l 5) ((b : TypeNumber) (p : AddressSpace) → P (Ti.Pointer b p))
-  pub value-pointer : On (hasKey l 6) ((z : OptionVectorSize) (k : Scalar) (p : AddressSpace) → P (Ti.ValuePointer z k p))
+  pub value-pointer : On (hasKey l 6)
+      ((z : OptionVectorSize) (k : Scalar) (p : AddressSpace) → P (Ti.ValuePointer z k p))
   pub array : On (hasKey l 7) ((b : TypeNumber) (z : ArraySize) (n : ℕ) → P (Ti.Array b z n))
   pub struct : On (hasKey l 8) ((m : MemberNumber) (n z : ℕ) → P (Ti.Struct m n z))
   pub image : On (hasKey l 9) ((d : ImageDimension) (q : Bool) (c : ImageClass) → P (Ti.Image d q c))

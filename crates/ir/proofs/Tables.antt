@@ -1,5 +1,4 @@
 -- Laws of a table of cases, for every table: what stands past its end, and which number each case has.
--- Assumes nothing.
 use Prim.Native.Nat.{ℕ, zero, suc, _+_, _-_, _≤_, _<_, zero-le}
 use native.Mathlib.Decide.{decLe}
 use native.Mathlib.Nat.{add-zero}
@@ -28,15 +27,18 @@ past l d k r =
     sym (List·getD-eq-default l d {n = k} (omega arith))
 
 -- outside a table whose first case, its default, has number b
-pub outside {ℓ} : {A : Type ℓ} (b : ℕ) (l : List A) (d : A) (k : ℕ) → getD l 0 d ≡ d → Rest b k (length l) → d ≡ getD l (k - b) d
+pub outside {ℓ} : {A : Type ℓ} (b : ℕ) (l : List A) (d : A) (k : ℕ) → getD l 0 d ≡ d → Rest b k (length l) → d
+    ≡ getD l (k - b) d
 outside b l d k e r = go (decLe b k)
   where
     go : Dec (b ≤ k) → d ≡ getD l (k - b) d
-    go (yes le) = let h : b + length l ≤ k = above b (length l) k le r in sym (List·getD-eq-default l d {n = k - b} (omega arith))
+    go (yes le) = let h : b + length l ≤ k = above b (length l) k le r in
+        sym (List·getD-eq-default l d {n = k - b} (omega arith))
     go (no nle) = let z : k - b ≡ 0 = omega arith in rw z (sym e)
 
 -- outside a table whose first case has number b, and whose default is given below b too
-pub past-from {ℓ} : {A : Type ℓ} (b : ℕ) (l : List A) (d : A) (k : ℕ) → Rest b k (length l) → d ≡ cond (leb b k) (getD l (k - b) d) d
+pub past-from {ℓ} : {A : Type ℓ} (b : ℕ) (l : List A) (d : A) (k : ℕ) → Rest b k (length l) → d
+    ≡ cond (leb b k) (getD l (k - b) d) d
 past-from b l d k r = go (decLe b k)
   where
     go : Dec (b ≤ k) → d ≡ cond (leb b k) (getD l (k - b) d) d
@@ -51,7 +53,8 @@ upFrom b zero = []
 upFrom b (suc n) = b ∷ upFrom (suc b) n
 
 -- a table whose cases are numbered from b on, as one computed test shows, has at place i the case with number b + i
-pub at-place : {A : Type 0} (num : A → ℕ) (d : A) (l : List A) (b : ℕ) → map num l ≡ upFrom b (length l) → (i : ℕ) → i < length l
+pub at-place : {A : Type 0} (num : A → ℕ) (d : A) (l : List A) (b : ℕ) → map num l ≡ upFrom b (length l) → (i : ℕ)
+    → i < length l
     → num (getD l i d) ≡ b + i
 at-place num d [] b e i h = let g : i < 0 = h in absurd (omega arith)
 at-place num d (x ∷ l) b e zero h = let q : num x ≡ b = cc in rw (add-zero b) q

@@ -1,4 +1,5 @@
--- Not part of any public statement: for proofs and code only. The number of an item's kind, and a method of a type's inner form.
+-- Not part of any public statement: for proofs and code only. The number of an item's kind, and a method of a type's
+-- inner form.
 use Prim.Native.Nat.{ℕ}
 use Rattle.ir.specs.declared.ItemKind.{ItemKind}
 use Rattle.ir.specs.declared.ItemKind.the-variants as ItemKind′

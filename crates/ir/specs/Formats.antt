@@ -1,5 +1,6 @@
--- The scalar of a storage format's texels (document 02, request 1): the source's Scalar::from(StorageFormat), proc/mod.rs, lines 34 to 86, and
--- beside it document 02's words, by the format's name. That the two agree is `formats-named` (proofs/Formats.antt).
+-- The scalar of a storage format's texels (document 02, request 1): the source's Scalar::from(StorageFormat),
+-- proc/mod.rs, lines 34 to 86, and beside it document 02's words, by the format's name. That the two agree is
+-- `formats-named` (proofs/Formats.antt).
 use Prim.Native.Char.{code}
 use Prim.Native.String.{String}
 use Prim.Native.String as S
@@ -60,7 +61,8 @@ storageScalar Sf.Rg16Snorm = F32
 storageScalar Sf.Rgba16Unorm = F32
 storageScalar Sf.Rgba16Snorm = F32
 
--- BY THE NAME: "the kind that the format's name ends in, with Unorm, Snorm and Ufloat read as Float, width 4, and 8 for R64Uint"
+-- BY THE NAME: "the kind that the format's name ends in, with Unorm, Snorm and Ufloat read as Float, width 4, and 8 for
+-- R64Uint"
 
 -- the names of the formats, in the declared order
 abbrev pub formatNames : List String

@@ -1,4 +1,5 @@
--- The numbers of kinds and cases (document 01, "The file"): one table for each enum, in the order of the source's declaration.
+-- The numbers of kinds and cases (document 01, "The file"): one table for each enum, in the order of the source's
+-- declaration.
 -- `..Of` is the case that a number stands for, `..Number` a case's number.
 use Prim.Native.Nat.{ℕ, _+_, _*_, _-_, _/_, _%_}
 use mathlib.Core.Bool.{Bool, true, false, cond, _||_}

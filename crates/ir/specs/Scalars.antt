@@ -1,4 +1,5 @@
--- The scalar's own constants (document 01, "Constants such as U32, BOOL and F32 belong to the scalar itself"; type_methods.rs), and when two scalars are equal.
+-- The scalar's own constants (document 01, "Constants such as U32, BOOL and F32 belong to the scalar itself";
+-- type_methods.rs), and when two scalars are equal.
 use mathlib.Core.Bool.{Bool, _&&_}
 use lib.Dec.{eqb}
 use Rattle.ir.specs.declared.Scalar.{Scalar}
@@ -44,4 +45,5 @@ ABSTRACT-FLOAT = record { kind = Sk.AbstractFloat; width = Wd.Eight }
 
 -- the same kind and the same width
 abbrev pub equalScalars : Scalar → Scalar → Bool
-equalScalars k j = eqb (scalarKindNumber (k .kind)) (scalarKindNumber (j .kind)) && eqb (widthNumber (k .width)) (widthNumber (j .width))
+equalScalars k j = eqb (scalarKindNumber (k .kind)) (scalarKindNumber (j .kind))
+    && eqb (widthNumber (k .width)) (widthNumber (j .width))

@@ -1,5 +1,5 @@
--- Methods of a type's inner form (document 01, "Port order", type_methods.rs): its scalar, and of a pointer what it points to. WGSL has no value pointers; the
--- source decides.
+-- Methods of a type's inner form (document 01, "Port order", type_methods.rs): its scalar, and of a pointer what it
+-- points to. WGSL has no value pointers; the source decides.
 use Rattle.ir.specs.declared.Scalar.{Scalar}
 use Rattle.ir.specs.declared.OptionVectorSize.{OptionVectorSize}
 use Rattle.ir.specs.declared.OptionVectorSize.the-variants as Ov
@@ -11,7 +11,8 @@ use Rattle.ir.specs.declared.TypeResolution.the-variants as Tr
 use Rattle.ir.specs.declared.OptionTypeResolution.{OptionTypeResolution}
 use Rattle.ir.specs.declared.OptionTypeResolution.the-variants as Ot
 
--- the source's `scalar`: of a scalar, a vector, a matrix or a cooperative matrix; an atomic and a value pointer give none
+-- the source's `scalar`: of a scalar, a vector, a matrix or a cooperative matrix; an atomic and a value pointer give
+-- none
 abbrev pub scalarIn : TypeInner → OptionScalar
 scalarIn (Ti.Scalar k) = Os.Some k
 scalarIn (Ti.Vector z k) = Os.Some k

@@ -1,5 +1,6 @@
-// The declarations of the source (ir/mod.rs, lines 324 to 1916), its names and its order, in the forms that document 01 asks for: a number type
-// for each arena in the place of Handle<T>, enums by value, and an enum of its own for each Option.
+// The declarations of the source (ir/mod.rs, lines 324 to 1916), its names and its order, in the forms that document 01
+// asks for: a number type for each arena in the place of Handle<T>, enums by value, and an enum of its own for each
+// Option.
 pub mod methods;
 pub mod numbers;
 
@@ -387,8 +388,8 @@ pub enum OptionBytes {
     Some(Width),
 }
 
-// A row's expression, with what a row's frame carries. A compose's components are the frames of family 5 from `first` on,
-// `count` of them.
+// A row's expression, with what a row's frame carries. A compose's components are the frames of family 5 from `first`
+// on, `count` of them.
 pub enum Expression {
     Literal(Literal),
     Constant(ItemNumber),

@@ -1,4 +1,5 @@
-// The source's proc/type_methods.rs, lines 138 to 218: the methods of TypeInner that take no types, and the equality of scalars.
+// The source's proc/type_methods.rs, lines 138 to 218: the methods of TypeInner that take no types, and the equality of
+// scalars.
 use super::OptionAddressSpace;
 use super::OptionScalar;
 use super::OptionTypeResolution;

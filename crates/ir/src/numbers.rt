@@ -1,5 +1,5 @@
-// The numbers of kinds and cases (document 01, "The file"): each enum's cases are numbered in the source's order. A byte that is
-// no case's number gives the first case; which bytes may stand is the layout's to say.
+// The numbers of kinds and cases (document 01, "The file"): each enum's cases are numbered in the source's order. A
+// byte that is no case's number gives the first case; which bytes may stand is the layout's to say.
 use super::AddressSpace;
 use super::BinaryOperator;
 use super::CooperativeRole;
@@ -20,7 +20,13 @@ ghost use mathlib.Core.Path.{_≡_};
 ghost use Prim.Native.Nat.{_≤_};
 ghost use lib.Dec.{eqb};
 ghost use Rattle.ir.specs.declared.RowKind.the-variants.{Compose};
-ghost use Rattle.ir.specs.Numbers.{typeKindOf, itemKindOf, rowKindOf, rowKindNumber, vectorSizeOf, vectorSizeNumber, cooperativeRoleOf, cooperativeRoleNumber, scalarKindOf, scalarKindNumber, imageDimensionOf, imageDimensionNumber, storageFormatOf, storageFormatNumber, literalOf, binaryOperatorOf, relationalFunctionOf, imageQueryOf, flagNumber, cooperativeSizeOf, cooperativeSizeNumber, widthOf, widthNumber, isWidth, accessOf, accessNumber, spaceOf, spaceNumber, spaceAccess};
+ghost use Rattle.ir.specs.Numbers.{typeKindOf, itemKindOf, rowKindOf, rowKindNumber, vectorSizeOf};
+ghost use Rattle.ir.specs.Numbers.{vectorSizeNumber, cooperativeRoleOf, cooperativeRoleNumber, scalarKindOf};
+ghost use Rattle.ir.specs.Numbers.{scalarKindNumber, imageDimensionOf, imageDimensionNumber, storageFormatOf};
+ghost use Rattle.ir.specs.Numbers.{storageFormatNumber, literalOf, binaryOperatorOf, relationalFunctionOf};
+ghost use Rattle.ir.specs.Numbers.{imageQueryOf, flagNumber, cooperativeSizeOf, cooperativeSizeNumber, widthOf};
+ghost use Rattle.ir.specs.Numbers.{widthNumber, isWidth, accessOf, accessNumber, spaceOf, spaceNumber};
+ghost use Rattle.ir.specs.Numbers.{spaceAccess};
 
 impl TypeKind {
     pub fn from_number(n: u8) -> Self

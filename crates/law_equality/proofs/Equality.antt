@@ -1,5 +1,5 @@
--- Sameness over a text is an equivalence: the laws of the comparison (rule_types, Laws.antt and Equivalence.antt), asked
--- of the frames of an accepted text. Assumes nothing.
+-- Sameness over a text is an equivalence: the laws of the comparison (rule_types, Laws.antt and Equivalence.antt),
+-- asked of the frames of an accepted text.
 use Prim.Native.Nat.{ℕ}
 use mathlib.Core.Path.{_≡_, refl, sym, ap, _∙_}
 use mathlib.Core.Bool.{Bool, true, false}
@@ -41,7 +41,7 @@ use Rattle.law_rows.proofs.Ranged.{Each}
 use Rattle.law_verdicts.proofs.NoDefault.{IsSound, ComparisonStep, comparison-no-default}
 use Rattle.rule_file.specs.File.{overFile, readFile}
 use Rattle.rule_file.specs.Types.{sameTypes}
-use Rattle.rule_file.proofs.Laws.{accepted-when}
+use Rattle.law_file.proofs.Laws.{accepted-when}
 use Rattle.law_equality.specs.Equality.{Same, Different, Known, Taken, SoundIn}
 use Rattle.law_equality.specs.Equality.{Equivalence, AllKnown, Lawful, TypesKnown}
 
@@ -142,7 +142,8 @@ module _ (limit : ℕ) (t : List ℕ) (f n : ℕ) (e : readFile limit t f NotLen
       left : sameTypes limit t f a c ≡ sameTypes limit t f b c
       left =
           let yes-is = same-alike (compared a b) (sym (asked a b) ∙ h) in
-          asked a c ∙ ap samenessOf (Eqv.replaced fr s (of a) (of b) (of c) (sound .0) (sound .1) yes-is) ∙ sym (asked b c)
+          asked a c ∙ ap samenessOf (Eqv.replaced fr s (of a) (of b) (of c) (sound .0) (sound .1) yes-is)
+          ∙ sym (asked b c)
 
       -- the third's own 5 or 6, on the left
       faulty : compared c a ≡ compared c b → sameTypes limit t f c a ≡ sameTypes limit t f c b
@@ -211,7 +212,8 @@ module _ (limit : ℕ) (t : List ℕ) (f n : ℕ) (e : readFile limit t f NotLen
       none-met a b (step p (fault x) ∷ l) h = none-met a b l (h .1)
       none-met a b (step p (form x) ∷ l) h = go (see fr (form x)) refl (none-met a b l (h .1))
         where
-          go : (o : Option Form) → see fr (form x) ≡ o → met (see fr) l ≡ none → met (see fr) (step p (form x) ∷ l) ≡ none
+          go : (o : Option Form) → see fr (form x) ≡ o → met (see fr) l ≡ none → met (see fr) (step p (form x) ∷ l)
+              ≡ none
           go none q ih = absurd (shown x (h .0 .1) q)
           go (some y) q ih = rw (q, met) ih
 

@@ -1,6 +1,6 @@
--- Two answers of a list are in one group exactly where they are the same, so neither the order of the list nor its other
--- members matter. By going along the list, for any comparison whose yes holds either way and carries through a third;
--- that of an accepted text does. Assumes nothing.
+-- Two answers of a list are in one group exactly where they are the same, so neither the order of the list nor its
+-- other members matter. By going along the list, for any comparison whose yes holds either way and carries through a
+-- third; that of an accepted text does.
 use Prim.Native.Nat.{ℕ}
 use mathlib.Core.Path.{_≡_, refl, sym, ap, _∙_}
 use mathlib.Core.Bool.{Bool, true, false, cond}

@@ -1,6 +1,6 @@
 -- Access and AccessIndex in a file: where the first gives a type, the second gives the same, or number 10. For every
--- base by `parts-agree` (rule_rows); and for two rows of an accepted text, since the base is an earlier row of both, and
--- has one answer. For each pass. Assumes nothing.
+-- base by `parts-agree` (rule_rows); and for two rows of an accepted text, since the base is an earlier row of both,
+-- and has one answer. For each pass.
 use Prim.Native.Nat.{ℕ, _+_, _<_}
 use mathlib.Core.Path.{_≡_, refl, sym, ap, _∙_}
 use mathlib.Core.Bool.{Bool, true, false, cond}
@@ -36,7 +36,7 @@ use Rattle.law_rows.proofs.NoDefault.{Earlier, operands-earlier}
 use Rattle.rule_answers.specs.Outputs.{rowAnswer}
 use Rattle.rule_file.specs.File.{overFile, readFile}
 use Rattle.rule_file.specs.Typing.{RowGiven, answer, noRow, notAccepted, rowGiven, rowType}
-use Rattle.rule_file.proofs.Laws.{accepted-when}
+use Rattle.law_file.proofs.Laws.{accepted-when}
 use Rattle.law_equality.specs.Parts.{always, overBase, RowAgrees, agrees}
 
 -- WHAT THAT SAYS: if both give a type it is the same; a refusal is number 10, with the base's row and the index; and 22

@@ -1,5 +1,5 @@
 -- Every case of the tables is what the definitions give: both sides compute to the same. The text is read once; then
--- the comparison over it is that of its frames. Assumes nothing.
+-- the comparison over it is that of its frames.
 use Prim.Native.Nat.{ℕ}
 use mathlib.Core.Path.{_≡_, refl, ap, _∙_, fun-ext}
 use mathlib.Core.List.{List, map, reverse}
@@ -35,14 +35,16 @@ use Rattle.rule_file.specs.File.{overFile, readFile}
 use Rattle.rule_file.specs.Types.{sameTypes}
 use Rattle.law_equality.specs.Groups.{group}
 use Rattle.law_equality.specs.Parts.{overBase}
-use Rattle.law_equality.specs.Cases.{file, text, Grouped, forward, backward, Pair, pairs, Part, parts}
+use Rattle.law_equality.specs.Cases.{groupedFile, text, Grouped, forward, backward, Pair, pairs, Part, parts}
 
 -- THE TEXT is accepted, and its frames are the file's
 accepted : readFile maxFrames text 320 NotLent ≡ Accepted 20
-unfolding lowest allBelow build sumBelow digitValue lineOk byteOf answerFrames tooShort mostFrames readText frameAt typeOf itemOf rowOf memberOf componentOf fieldsFit orderOk start startsOf namesOk earlyOk indexOk checkFrames readFile digitOf charOf
+unfolding lowest allBelow build sumBelow digitValue lineOk byteOf answerFrames tooShort mostFrames readText frameAt
+    typeOf itemOf rowOf memberOf componentOf fieldsFit orderOk start startsOf namesOk earlyOk indexOk checkFrames
+    readFile digitOf charOf
 accepted = refl
 
-frames-are : decoded text 20 ≡ file
+frames-are : decoded text 20 ≡ groupedFile
 unfolding build digitValue byteOf digitOf charOf
 frames-are = refl
 
@@ -51,7 +53,7 @@ abbrev compare : Frame → Frame → Sameness
 compare = sameTypes maxFrames text 320
 
 abbrev compareIn : Frame → Frame → Sameness
-compareIn a b = samenessOf (sameType file a b)
+compareIn a b = samenessOf (sameType groupedFile a b)
 
 over-frames : compare ≡ compareIn
 unfolding sameTypes
@@ -76,14 +78,16 @@ abbrev groups : (Frame → Frame → Sameness) → List Grouped → List (Option
 groups by l = map (group by (answersOf l)) (answersOf l)
 
 forward-in : groups compareIn forward ≡ firsts forward
-unfolding sameType sameIn equalTypes identical listed typeIn frameAt typeOf memberOf start startsOf lowest allBelow build sumBelow
+unfolding sameType sameIn equalTypes identical listed typeIn frameAt typeOf memberOf start startsOf lowest allBelow
+    build sumBelow
 forward-in = refl
 
 forward-worked : groups compare forward ≡ firsts forward
 forward-worked = ap (λ (by : Frame → Frame → Sameness). groups by forward) over-frames ∙ forward-in
 
 backward-in : groups compareIn backward ≡ firsts backward
-unfolding sameType sameIn equalTypes identical listed typeIn frameAt typeOf memberOf start startsOf lowest allBelow build sumBelow
+unfolding sameType sameIn equalTypes identical listed typeIn frameAt typeOf memberOf start startsOf lowest allBelow
+    build sumBelow
 backward-in = refl
 
 backward-worked : groups compare backward ≡ firsts backward
@@ -94,7 +98,8 @@ abbrev outcomes : (Frame → Frame → Sameness) → List Sameness
 outcomes by = map (λ (c : Pair). by (c .left) (c .right)) pairs
 
 pairs-in : outcomes compareIn ≡ map (λ (c : Pair). c .outcome) pairs
-unfolding sameType sameIn equalTypes identical listed typeIn frameAt typeOf memberOf start startsOf lowest allBelow build sumBelow
+unfolding sameType sameIn equalTypes identical listed typeIn frameAt typeOf memberOf start startsOf lowest allBelow
+    build sumBelow
 pairs-in = refl
 
 pairs-worked : outcomes compare ≡ map (λ (c : Pair). c .outcome) pairs
@@ -106,8 +111,8 @@ row n = record { 0 = n }
 
 abbrev given : Pass → Part → Frame × Frame
 given pass c = (
-  rowFrame (overBase file (c .base) (resolve pass (row 1) (Row.access (row 0)))),
-  rowFrame (overBase file (c .base) (resolve pass (row 1) (Row.accessIndex (row 0) (c .index)))),
+  rowFrame (overBase groupedFile (c .base) (resolve pass (row 1) (Row.access (row 0)))),
+  rowFrame (overBase groupedFile (c .base) (resolve pass (row 1) (Row.accessIndex (row 0) (c .index)))),
 )
 
 parts-worked : (pass : Pass) → map (given pass) parts ≡ map (λ (c : Part). (c .access, c .accessIndex)) parts

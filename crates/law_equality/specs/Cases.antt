@@ -1,5 +1,5 @@
--- Worked cases of the law over one small text, written by hand from document 01 ("A row's type", "Same type or not") and
--- document 02, request 13: answers in groups, in two orders; comparisons; parts of a base.
+-- Worked cases of the law over one small text, written by hand from document 01 ("A row's type", "Same type or not")
+-- and document 02, request 13: answers in groups, in two orders; comparisons; parts of a base.
 use Prim.Native.Nat.{ℕ}
 use mathlib.Core.List.{List, [], _∷_, _++_}
 use mathlib.Core.Option.{Option, none, some}
@@ -13,8 +13,8 @@ use Rattle.frames.specs.Written.{full, short, numbered}
 -- THE FILE. Types 0 to 18: f32; f32 again; vec3 of it; pointers in Function to types 0, 1 and 2; a matrix of 3 columns
 -- and 2 rows; the same again; pointers to both; dynamic arrays of type 0 with stride 4, of type 0 with stride 8, and of
 -- type 1 with stride 4; two alike structs; kind 200; kind 200 again; two alike pointers to type 15. Then the member.
-abbrev pub file : List ℕ
-file =
+abbrev pub groupedFile : List ℕ
+groupedFile =
     short 1 1 0 0 2 4 0 0 ++ short 1 1 0 0 2 4 0 0 ++ short 1 2 3 0 2 4 0 0
     ++ short 1 6 0 0 0 0 0 0 ++ short 1 6 1 0 0 0 0 0 ++ short 1 6 2 0 0 0 0 0
     ++ short 1 3 3 2 2 4 0 0 ++ short 1 3 3 2 2 4 0 0 ++ short 1 6 6 0 0 0 0 0 ++ short 1 6 7 0 0 0 0 0
@@ -24,7 +24,7 @@ file =
     ++ short 2 0 0 0 0 0 0 0
 
 abbrev pub text : List ℕ
-text = textOf file 20
+text = textOf groupedFile 20
 
 -- ANSWERS: a type by its number; the values of some; a refusal, which a comparison meets with 5
 abbrev frame : List ℕ → Frame
@@ -155,7 +155,8 @@ parts =
     ∷ both (type 5) 2 (valuePointer 0 0) ∷ bound (type 5) 3 (valuePointer 0 0)
     ∷ both (type 8) 2 (valuePointer 2 0) ∷ bound (type 8) 3 (valuePointer 2 0)
     ∷ both (valuePointer 3 1) 2 (valuePointer 0 1) ∷ bound (valuePointer 3 1) 3 (valuePointer 0 1)
-    -- arrays and binding arrays, which are not bounded: values that no rule makes, of 2 elements; an array and a pointer
+    -- arrays and binding arrays, which are not bounded: values that no rule makes, of 2 elements; an array and a
+    -- pointer
     ∷ both (frame (full 9 8 1 0 0 0 0 0 2 4)) 9 (type 1) ∷ both (frame (full 9 14 6 0 0 0 0 0 2 0)) 9 (type 6)
     ∷ both (type 12) 9 (type 1) ∷ both (pointer 12) 9 (pointer 1)
     -- a struct and a pointer to one: Access is refused, and AccessIndex gives the member

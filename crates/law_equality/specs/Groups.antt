@@ -1,6 +1,6 @@
--- Answers in groups of one type, as a screen shows them (document 02, request 13): each with the first of a list that is
--- the same as it. For any comparison of two frames; that over a text, `sameTypes`, is meant. Only yes is the same: an
--- answer that gets 5 or 6 is in no group, and one of unknown kind is in one with identical ones alone.
+-- Answers in groups of one type, as a screen shows them (document 02, request 13): each with the first of a list that
+-- is the same as it. For any comparison of two frames; that over a text, `sameTypes`, is meant. Only yes is the same:
+-- an answer that gets 5 or 6 is in no group, and one of unknown kind is in one with identical ones alone.
 use mathlib.Core.Path.{_≡_}
 use mathlib.Core.Bool.{Bool, true, false, cond}
 use mathlib.Core.List.{List, [], _∷_}

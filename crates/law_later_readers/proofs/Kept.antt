@@ -1,6 +1,7 @@
--- What the claim gives to who reads the answers of a reader that has it: where they do not say newer, every byte is the later reader's, and they say newer
--- only where the reading meets something newer. And what a later reader is: it reads its own earlier answers, and where its rule itself comes to a newer
--- thing its outcome is the chosen one. By the definitions. Assumes nothing.
+-- What the claim gives to who reads the answers of a reader that has it: where they do not say newer, every byte is the
+-- later reader's, and they say newer only where the reading meets something newer. And what a later reader is: it reads
+-- its own earlier answers, and where its rule itself comes to a newer thing its outcome is the chosen one. By the
+-- definitions.
 use Prim.Native.Nat.{ℕ, _<_}
 use native.Mathlib.Omega.{arith}
 use mathlib.Core.Path.{_≡_, refl}
@@ -16,16 +17,19 @@ use Rattle.rule_types.specs.Comparison.{handed}
 use Rattle.rule_rows.specs.declared.Pass.{Pass}
 use Rattle.rule_rows.specs.Typed.{typing}
 use Rattle.rule_compose.specs.Rows.{verdictRule}
-use Rattle.law_later_readers.specs.Reader.{Reader, Choice, SaysNewer, Kept, Keeps, rowBytes, verdictBytes, comparedBytes, theirs, meets}
+use Rattle.law_later_readers.specs.Reader.{Reader, Choice, SaysNewer, Kept, Keeps, rowBytes, verdictBytes}
+use Rattle.law_later_readers.specs.Reader.{comparedBytes, theirs, meets}
 
 -- ONE OUTCOME
 
-pub kept-equal : {family : ℕ} {at : Place → List ℕ} {met : Option Place} {mine other : List ℕ} → Kept family at met mine other
+pub kept-equal : {family : ℕ} {at : Place → List ℕ} {met : Option Place} {mine other : List ℕ}
+    → Kept family at met mine other
     → (SaysNewer family mine → ⊥) → mine ≡ other
 kept-equal {met = none} k h = k .equal refl
 kept-equal {met = some p} k h = absurd (h (k .exactly .1 (λ e. let z : _≡_ {A = ℕ} 0 1 = cc in omega arith)))
 
-pub newer-only : {family : ℕ} {at : Place → List ℕ} {met : Option Place} {mine other : List ℕ} → Kept family at met mine other
+pub newer-only : {family : ℕ} {at : Place → List ℕ} {met : Option Place} {mine other : List ℕ}
+    → Kept family at met mine other
     → SaysNewer family mine → met ≡ none → ⊥
 newer-only k s = k .exactly .0 s
 
@@ -42,16 +46,19 @@ module _ {pass : Pass} {r : Reader} {t fr : List ℕ} {choice : Choice} (k : Kee
   verdict-kept m h rule e s = kept-equal (k .verdicts m h rule e) s
 
   pub same-kept : (a b : Frame) → (SaysNewer 10 (r .same t a b) → ⊥)
-      → r .same t a b ≡ comparedBytes (theirs pass fr choice 0 (choice .same a b) (handed (typeAnswerOf a) (typeAnswerOf b)))
+      → r .same t a b ≡ comparedBytes
+      (theirs pass fr choice 0 (choice .same a b) (handed (typeAnswerOf a) (typeAnswerOf b)))
   same-kept a b s = kept-equal (k .same a b) s
 
 -- A LATER READER of a file, by a choice
 
 module _ (pass : Pass) (fr : List ℕ) (choice : Choice) {A : Type 0} (n : ℕ) (c : Result A) where
-  pub theirs-newer : (p : Place) (x : Thing) (k : Seen x → Rule A) → see fr x ≡ none → theirs pass fr choice n c (come p x k) ≡ c
+  pub theirs-newer : (p : Place) (x : Thing) (k : Seen x → Rule A) → see fr x ≡ none
+      → theirs pass fr choice n c (come p x k) ≡ c
   theirs-newer p x k q = later-newer (see fr) (typing pass) (λ j. rowAnswerOf (choice .rows j)) n c p x k q
 
   pub theirs-past : (m : ℕ) (at : Place → Place) (k : Typed → Rule A) → m < n
       → theirs pass fr choice n c (past (record { 0 = m }) at k)
-      ≡ onResult (theirs pass fr choice m (rowAnswerOf (choice .rows m)) (typing pass m)) (λ t. theirs pass fr choice n c (k t)) (λ p. newer (at p))
+      ≡ onResult (theirs pass fr choice m (rowAnswerOf (choice .rows m)) (typing pass m))
+      (λ t. theirs pass fr choice n c (k t)) (λ p. newer (at p))
   theirs-past m at k h = later-past (see fr) (typing pass) (λ j. rowAnswerOf (choice .rows j)) n c m at k h

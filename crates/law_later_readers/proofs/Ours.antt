@@ -1,6 +1,6 @@
--- The claim of our readers, from the claim for any rules (rule/proofs/Later.antt): the bytes of an outcome are 22 exactly where the outcome is newer, since our
--- answers and verdicts are in range (typifier_laws, verdict_laws); and what is handed back of an accepted text, in the answer buffer or for one row, are the bytes
--- of these outcomes. Assumes nothing.
+-- The claim of our readers, from the claim for any rules (rule/proofs/Later.antt): the bytes of an outcome are 22
+-- exactly where the outcome is newer, since our answers and verdicts are in range (typifier_laws, verdict_laws); and
+-- what is handed back of an accepted text, in the answer buffer or for one row, are the bytes of these outcomes.
 use Prim.Native.Nat.{ℕ, suc, _+_, _*_, _≤_, _<_}
 use native.Mathlib.Omega.{arith}
 use mathlib.Core.Path.{_≡_, refl, sym, ap, _∙_}
@@ -19,7 +19,9 @@ use Rattle.frames.specs.declared.Frame.{Frame}
 use Rattle.frames.specs.Bytes.{bytesOf, frameAt, zeroFrame}
 use Rattle.archive.specs.declared.Starts.{Starts}
 use Rattle.archive.specs.Starts.{startsOf, rowCount}
-use Rattle.rule.specs.Answers.{number, value, malformed, Typed, given, refused, chosenRefusal, Judgement, Compared, alike, unlike, field, index, Place, row, component, composed, nowhere, chosen, Result, told, newer, typeAnswerOf, rowAnswerOf, chosenJudgement, rowFrame, verdictFrame}
+use Rattle.rule.specs.Answers.{number, value, malformed, Typed, given, refused, chosenRefusal, Judgement, Compared}
+use Rattle.rule.specs.Answers.{alike, unlike, field, index, Place, row, component, composed, nowhere, chosen, Result}
+use Rattle.rule.specs.Answers.{told, newer, typeAnswerOf, rowAnswerOf, chosenJudgement, rowFrame, verdictFrame}
 use Rattle.rule.specs.Things.{Sight, see}
 use Rattle.rule.specs.Rule.{Rule, Step, met}
 use Rattle.rule.specs.InOrder.{ours, reading}
@@ -34,20 +36,23 @@ use Rattle.law_rows.proofs.Good.{Good}
 use Rattle.law_rows.proofs.Ranged.{TypedInRange, InRange, refusal-not-newer}
 use Rattle.law_rows.proofs.Range.{row-there, ours-in-range}
 use Rattle.rule_answers.specs.Outputs.{rowAnswer, verdictFrames, rowFrames, outputs, framesBytes, outputBytes}
-use Rattle.rule_answers.proofs.Placed.{frame-at-list}
-use Rattle.law_verdicts.specs.Numbers.{OurVerdict, itPasses, noComposed, otherCount, otherPart, brokenPart, newerComposed, newerPart}
+use Rattle.law_answers.proofs.Placed.{frame-at-list}
+use Rattle.law_verdicts.specs.Numbers.{OurVerdict, itPasses, noComposed, otherCount, otherPart, brokenPart}
+use Rattle.law_verdicts.specs.Numbers.{newerComposed, newerPart}
 use Rattle.law_verdicts.specs.Each.{composesBelow}
 use Rattle.law_verdicts.proofs.Numbers.{verdict-numbers}
 use Rattle.law_verdicts.proofs.Each.{outputs-below}
 use Rattle.rule_file.specs.File.{readFile}
 use Rattle.rule_file.specs.Types.{sameTypes}
 use Rattle.rule_file.specs.Typing.{answersWritten, answersAfter, rowType, composeVerdict}
-use Rattle.rule_file.proofs.Laws.{Accepts, accepted-when}
-use Rattle.rule_file.proofs.Ready.{ready-of}
-use Rattle.rule_file.proofs.Row.{good-of}
-use Rattle.rule_file.proofs.One.{outputs-go-on}
-use Rattle.law_later_readers.specs.Reader.{Reader, rowBytes, verdictBytes, saidBytes, comparedBytes, SaysNewer, Choice, theirs, Kept, Keeps, IsAccepted, Claim}
-use Rattle.law_later_readers.specs.Ours.{Suffice, framesFor, answersFor, standsAt, byBuffer, rowGivenBytes, verdictGivenBytes, byRow}
+use Rattle.law_file.proofs.Laws.{Accepts, accepted-when}
+use Rattle.law_file.proofs.Ready.{ready-of}
+use Rattle.law_file.proofs.Row.{good-of}
+use Rattle.law_file.proofs.One.{outputs-go-on}
+use Rattle.law_later_readers.specs.Reader.{Reader, rowBytes, verdictBytes, saidBytes, comparedBytes, SaysNewer}
+use Rattle.law_later_readers.specs.Reader.{Choice, theirs, Kept, Keeps, IsAccepted, Claim}
+use Rattle.law_later_readers.specs.Ours.{Suffice, framesFor, answersFor, standsAt, byBuffer, rowGivenBytes}
+use Rattle.law_later_readers.specs.Ours.{verdictGivenBytes, byRow}
 
 -- ONE OUTCOME: right as an outcome, and its bytes say newer exactly where it is newer
 module _ {A : Type 0} (sight : Sight) (steps : List Step) (family : ℕ) (bytes : Result A → List ℕ) where
@@ -80,11 +85,13 @@ told-row pass s (given (malformed f)) h w = h
 told-row pass s (refused e) h w = refusal-not-newer pass e h (w .number-is)
 told-row pass s (chosenRefusal f) h w = h
 
-row-other : (pass : Pass) (fr : List ℕ) (m : ℕ) (o : Result Typed) → InRange pass fr m o → (t : Typed) → o ≡ told t → SaysNewer 10 (rowBytes o) → ⊥
+row-other : (pass : Pass) (fr : List ℕ) (m : ℕ) (o : Result Typed) → InRange pass fr m o → (t : Typed) → o ≡ told t
+    → SaysNewer 10 (rowBytes o) → ⊥
 row-other pass fr m (told u) h t e w = told-row pass (startsOf fr) u h w
 row-other pass fr m (newer p) h t e w = never (cc)
 
-row-says : (pass : Pass) (fr : List ℕ) (m : ℕ) (o : Result Typed) → InRange pass fr m o → (p : Place) → o ≡ newer p → SaysNewer 10 (rowBytes o)
+row-says : (pass : Pass) (fr : List ℕ) (m : ℕ) (o : Result Typed) → InRange pass fr m o → (p : Place) → o ≡ newer p
+    → SaysNewer 10 (rowBytes o)
 row-says pass fr m (told u) h p e = never (cc)
 row-says pass fr m (newer (row r)) h p e = record { family-is = refl; number-is = refl }
 row-says pass fr m (newer (component i)) h p e = absurd h
@@ -93,7 +100,8 @@ row-says pass fr m (newer nowhere) h p e = absurd h
 row-says pass fr m (newer (chosen f)) h p e = absurd h
 
 -- A VERDICT of ours on row m
-verdict-other : (m k : ℕ) (o : Result Judgement) → OurVerdict k o → (j : Judgement) → o ≡ told j → SaysNewer 11 (verdictBytes m o) → ⊥
+verdict-other : (m k : ℕ) (o : Result Judgement) → OurVerdict k o → (j : Judgement) → o ≡ told j
+    → SaysNewer 11 (verdictBytes m o) → ⊥
 verdict-other m k o itPasses j e w = omega (arith, w .number-is)
 verdict-other m k o noComposed j e w = omega (arith, w .number-is)
 verdict-other m k o (otherCount x g d) j e w = omega (arith, w .number-is)
@@ -102,7 +110,8 @@ verdict-other m k o (brokenPart i h) j e w = omega (arith, w .number-is)
 verdict-other m k o newerComposed j e w = never (cc)
 verdict-other m k o (newerPart i h) j e w = never (cc)
 
-verdict-says : (m k : ℕ) (o : Result Judgement) → OurVerdict k o → (p : Place) → o ≡ newer p → SaysNewer 11 (verdictBytes m o)
+verdict-says : (m k : ℕ) (o : Result Judgement) → OurVerdict k o → (p : Place) → o ≡ newer p
+    → SaysNewer 11 (verdictBytes m o)
 verdict-says m k o itPasses p e = never (cc)
 verdict-says m k o noComposed p e = never (cc)
 verdict-says m k o (otherCount x g d) p e = never (cc)
@@ -130,9 +139,11 @@ record GivesOurs (pass : Pass) (r : Reader) (t fr : List ℕ) : Type 0 where
       → r .verdict t m ≡ verdictBytes m (ours (see fr) (typing pass) m rule)
   same : (a b : Frame) → r .same t a b ≡ comparedBytes (sameType fr a b)
 
-module _ (pass : Pass) (r : Reader) (t fr : List ℕ) (good : Good fr) (is : GivesOurs pass r t fr) (choice : Choice) where
+module _ (pass : Pass) (r : Reader) (t fr : List ℕ) (good : Good fr) (is : GivesOurs pass r t fr)
+    (choice : Choice) where
   right : (m : ℕ) {A : Type 0} (c : Result A) (rule : Rule A)
-      → Right (see fr) (reading (see fr) (typing pass) m rule) (ours (see fr) (typing pass) m rule) (theirs pass fr choice m c rule)
+      → Right (see fr) (reading (see fr) (typing pass) m rule) (ours (see fr) (typing pass) m rule)
+      (theirs pass fr choice m c rule)
   right m c rule = claim (see fr) (typing pass) (λ k. rowAnswerOf (choice .rows k)) m c rule
 
   keeps : Keeps pass r t fr choice
@@ -142,19 +153,23 @@ module _ (pass : Pass) (r : Reader) (t fr : List ℕ) (good : Good fr) (is : Giv
         let o = rowAnswer pass (see fr) m in
         let i = ours-in-range pass fr good m h in
         rw (is .rows m h)
-        (kept (see fr) _ 10 rowBytes o _ (right m (rowAnswerOf (choice .rows m)) (typing pass m)) (row-other pass fr m o i) (row-says pass fr m o i));
+        (kept (see fr) _ 10 rowBytes o _ (right m (rowAnswerOf (choice .rows m)) (typing pass m))
+        (row-other pass fr m o i) (row-says pass fr m o i));
     verdicts = λ m h rule e.
         let o = ours (see fr) (typing pass) m rule in
         let v = verdict-numbers pass fr m o (ap (judged pass (see fr) m) e) .is in
         rw (is .verdicts m h rule e)
-        (kept (see fr) _ 11 (verdictBytes m) o _ (right m (chosenJudgement (choice .verdicts m)) rule) (verdict-other m _ o v) (verdict-says m _ o v));
+        (kept (see fr) _ 11 (verdictBytes m) o _ (right m (chosenJudgement (choice .verdicts m)) rule)
+        (verdict-other m _ o v) (verdict-says m _ o v));
     same = λ a b.
         let rule = handed (typeAnswerOf a) (typeAnswerOf b) in
         let o = ours (see fr) (typing pass) 0 rule in
-        rw (is .same a b) (kept (see fr) _ 10 comparedBytes o _ (right 0 (choice .same a b) rule) (compared-other o) (compared-says o));
+        rw (is .same a b) (kept (see fr) _ 10 comparedBytes o _ (right 0 (choice .same a b) rule) (compared-other o)
+        (compared-says o));
   }
 
--- THE ANSWER BUFFER: a row's answer stands after all that is handed back of the rows before it, and a compose's verdict after its answer
+-- THE ANSWER BUFFER: a row's answer stands after all that is handed back of the rows before it, and a compose's verdict
+-- after its answer
 at-seam : (front : List Frame) (x : Frame) (back : List Frame) (rest : List ℕ) (i : ℕ) → i ≡ length front
     → frameAt (framesBytes (front ++ (x ∷ back)) ++ rest) i ≡ x
 at-seam front x back rest i e =
@@ -184,14 +199,17 @@ module _ (pass : Pass) (fr : List ℕ) (good : Good fr) (rest : List ℕ) (m : �
       let a : Frame = rowFrame (rowAnswer pass (see fr) m) in
       let v : Frame = verdictFrame (record { 0 = m }) (ours (see fr) (typing pass) m rule) in
       let e : outputs pass (see fr) (rowCount (startsOf fr)) ≡ (first ++ (a ∷ [])) ++ (v ∷ g .more) =
-      g .is ∙ append-assoc first (rowFrames pass (see fr) m) (g .more) ∙ ap (λ (o : Option (Rule Judgement)). first ++ (a ∷ (verdictFrames m (judged pass (see fr) m o) ++ g .more))) q
+      g .is ∙ append-assoc first (rowFrames pass (see fr) m) (g .more)
+      ∙ ap (λ (o : Option (Rule Judgement)). first ++ (a ∷ (verdictFrames m (judged pass (see fr) m o) ++ g .more)))
+      q
       ∙ sym (append-assoc first (a ∷ []) (v ∷ g .more)) in
       ap (λ (l : List Frame). frameAt (framesBytes l ++ rest) (m + composesBelow fr m + 1)) e
       ∙ at-seam (first ++ (a ∷ [])) v (g .more) rest (m + composesBelow fr m + 1)
       (omega (arith, outputs-below pass fr good m (omega arith), length-append first (a ∷ [])))
 
 -- AN ACCEPTED TEXT, with any buffers that suffice
-module _ (pass : Pass) (limit : ℕ) (t : List ℕ) (n f : ℕ) (an : List ℕ) (accepted : IsAccepted limit t n) (for-frames : 16 * lineCount t ≤ f) (for-answers : answerBytes t ≤ length an) where
+module _ (pass : Pass) (limit : ℕ) (t : List ℕ) (n f : ℕ) (an : List ℕ) (accepted : IsAccepted limit t n)
+    (for-frames : 16 * lineCount t ≤ f) (for-answers : answerBytes t ≤ length an) where
   abbrev fr : List ℕ
   fr = decoded t n
 
@@ -203,8 +221,12 @@ module _ (pass : Pass) (limit : ℕ) (t : List ℕ) (n f : ℕ) (an : List ℕ) 
       let k = accepts in
       let r = k .readable in
       accepted-when limit t f room n .1
-      (record
-      { readable = record { within = r .within; whole = r .whole; count = r .count; frames = omega arith; answers = w }; order = k .order; fields = k .fields; index = k .index })
+      (record {
+        readable = record { within = r .within; whole = r .whole; count = r .count; frames = omega arith; answers = w };
+        order = k .order;
+        fields = k .fields;
+        index = k .index;
+      })
 
   read-lent : readFile limit t f (Lent (length an)) ≡ Accepted n
   read-lent = read-with (Lent (length an)) for-answers
@@ -241,8 +263,11 @@ module _ (pass : Pass) (limit : ℕ) (t : List ℕ) (n f : ℕ) (an : List ℕ) 
 -- there are buffers that suffice
 pub just-enough : Suffice framesFor answersFor
 just-enough =
-    record
-    { for-frames = λ t. omega (arith, length-replicate {A = ℕ} (16 * lineCount t) 0); for-answers = λ t. omega (arith, length-replicate {A = ℕ} (answerBytes t) 0) }
+    record {
+      for-frames = λ t. omega (arith, length-replicate {A = ℕ} (16 * lineCount t) 0);
+      for-answers = λ t.
+          omega (arith, length-replicate {A = ℕ} (answerBytes t) 0);
+    }
 
 module _ (pass : Pass) (limit : ℕ) (frames answers : List ℕ → List ℕ) (enough : Suffice frames answers) where
   pub type-rows-keeps : Claim pass limit (byBuffer pass limit frames answers)
@@ -267,7 +292,8 @@ module _ (pass : Pass) (limit : ℕ) (frames answers : List ℕ → List ℕ) (e
       let f = length (frames t) in
       let hf = enough .for-frames t in
       let ha = enough .for-answers t in
-      keeps pass (byRow pass limit frames answers) t (decoded t n) (good-text pass limit t n f (answers t) accepted hf ha)
+      keeps pass (byRow pass limit frames answers) t (decoded t n)
+      (good-text pass limit t n f (answers t) accepted hf ha)
       (record {
         rows = row-given pass limit t n f (answers t) accepted hf ha;
         verdicts = verdict-given pass limit t n f (answers t) accepted hf ha;

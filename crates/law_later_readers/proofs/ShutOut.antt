@@ -1,5 +1,6 @@
--- The claim shuts out four readers, for every pass and every limit of three frames or more: over one text of three frames each answers a row otherwise than its reading says. Row
--- 0 is newer, row 1 meets nothing newer, and row 2 meets row 0's. Assumes nothing.
+-- The claim shuts out four readers, for every pass and every limit of three frames or more: over one text of three
+-- frames each answers a row otherwise than its reading says. Row 0 is newer, row 1 meets nothing newer, and row 2 meets
+-- row 0's.
 use Prim.Native.Nat.{ℕ, _*_, _≤_}
 use native.Mathlib.Omega.{arith}
 use mathlib.Core.Path.{_≡_, refl, ap, _∙_}
@@ -29,9 +30,10 @@ use Rattle.rule_types.proofs.Seen.{never}
 use Rattle.rule_rows.specs.declared.Pass.{Pass}
 use Rattle.rule_rows.specs.Typed.{typing}
 use Rattle.rule_file.specs.File.{readFile}
-use Rattle.rule_file.proofs.Laws.{read-alike}
+use Rattle.law_file.proofs.Laws.{read-alike}
 use Rattle.law_later_readers.specs.Reader.{Reader, SaysNewer, meets, Keeps, IsAccepted, Claim}
-use Rattle.law_later_readers.specs.ShutOut.{newerAtRow, allNewer, holdsNewer, newerBeforeReading, isNewer, newerAsAnother, newerAtItself}
+use Rattle.law_later_readers.specs.ShutOut.{newerAtRow, allNewer, holdsNewer, newerBeforeReading, isNewer}
+use Rattle.law_later_readers.specs.ShutOut.{newerAsAnother, newerAtItself}
 use Rattle.law_later_readers.specs.ForProofs.{threeRows}
 use Rattle.law_later_readers.proofs.Only.{choice}
 
@@ -40,7 +42,9 @@ fr = decoded threeRows 3
 
 -- WHAT THE TEXT IS, computed
 at-most : IsAccepted maxFrames threeRows 3
-unfolding mostFrames lowest allBelow build sumBelow digitValue digitOf lineOk byteOf charOf answerFrames tooShort readText frameAt typeOf itemOf rowOf memberOf componentOf fieldsFit orderOk start startsOf namesOk earlyOk indexOk checkFrames readFile
+unfolding mostFrames lowest allBelow build sumBelow digitValue digitOf lineOk byteOf charOf answerFrames tooShort
+    readText frameAt typeOf itemOf rowOf memberOf componentOf fieldsFit orderOk start startsOf namesOk earlyOk indexOk
+    checkFrames readFile
 at-most = refl
 
 long : length threeRows ≡ 99
@@ -48,7 +52,9 @@ long = length-text _ 3
 
 accepted : (limit : ℕ) → 3 ≤ mostFrames limit → IsAccepted limit threeRows 3
 accepted limit few =
-    read-alike limit maxFrames threeRows (omega (arith, long)) (omega (arith, long, most-given maxFrames (omega arith) (omega arith))) (Lent (answerBytes threeRows)) (16 * lineCount threeRows) ∙ at-most
+    read-alike limit maxFrames threeRows (omega (arith, long))
+    (omega (arith, long, most-given maxFrames (omega arith) (omega arith))) (Lent (answerBytes threeRows))
+    (16 * lineCount threeRows) ∙ at-most
 
 three : rowCount (startsOf fr) ≡ 3
 unfolding lowest build digitValue digitOf byteOf charOf frameAt start startsOf

@@ -1,5 +1,6 @@
--- Our readers, of whom document 01's claim is made ("A row's type", last paragraphs): what the contracts of `type_rows`, `row_type`, `compose_verdict` and `same_type` fix (rule_file/specs), as bytes. The buffers that are lent are any
--- functions of the text.
+-- Our readers, of whom document 01's claim is made ("A row's type", last paragraphs): what the contracts of
+-- `type_rows`, `row_type`, `compose_verdict` and `same_type` fix (rule_file/specs), as bytes. The buffers that are lent
+-- are any functions of the text.
 use Prim.Native.Nat.{ℕ, _+_, _*_, _≤_}
 use mathlib.Core.List.{List}
 use lib.ListN.{length, replicate}
@@ -28,7 +29,8 @@ answersFor t = replicate (answerBytes t) 0
 
 -- BY THE ANSWER BUFFER that `type_rows` leaves
 
--- at which of its frames row m's answer stands: one frame for each earlier row, and one more for each earlier compose, by the bytes of the text
+-- at which of its frames row m's answer stands: one frame for each earlier row, and one more for each earlier compose,
+-- by the bytes of the text
 abbrev pub standsAt : List ℕ → ℕ → ℕ
 standsAt t m = m + composesBelow (decoded t (lineCount t)) m
 
@@ -41,7 +43,8 @@ byBuffer pass limit frames answers =
       same = λ t a b. saidBytes (samenessSaid (sameTypes limit t (length (frames t)) a b));
     }
 
--- BY WHAT `row_type` AND `compose_verdict` GIVE; a row that the file does not have, or that is no compose, is number 6, place 0
+-- BY WHAT `row_type` AND `compose_verdict` GIVE; a row that the file does not have, or that is no compose, is number 6,
+-- place 0
 
 abbrev pub rowGivenBytes : RowGiven → List ℕ
 rowGivenBytes g = bytesOf (oneFrame (rowSaid g))
@@ -53,6 +56,7 @@ abbrev pub byRow : Pass → ℕ → (frames answers : List ℕ → List ℕ) →
 byRow pass limit frames answers =
     record {
       row = λ t m. rowGivenBytes (rowType pass limit t (length (frames t)) (length (answers t)) (record { 0 = m }));
-      verdict = λ t m. verdictGivenBytes m (composeVerdict pass limit t (length (frames t)) (length (answers t)) (record { 0 = m }));
+      verdict = λ t m. verdictGivenBytes m
+          (composeVerdict pass limit t (length (frames t)) (length (answers t)) (record { 0 = m }));
       same = λ t a b. saidBytes (samenessSaid (sameTypes limit t (length (frames t)) a b));
     }

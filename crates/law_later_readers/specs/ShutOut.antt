@@ -1,6 +1,6 @@
--- Four readers that the claim shuts out. Document 01, "A row's type": the claim shuts out the reader that calls everything newer or says so before reading. "Likely
--- errors": refusing a Load because another row is newer. "Numbers handed back", 22: the row where it was met. The last three go wrong where any reader r, ours
--- for one, is right.
+-- Four readers that the claim shuts out. Document 01, "A row's type": the claim shuts out the reader that calls
+-- everything newer or says so before reading. "Likely errors": refusing a Load because another row is newer. "Numbers
+-- handed back", 22: the row where it was met. The last three go wrong where any reader r, ours for one, is right.
 use Prim.Native.Nat.{ℕ, zero, suc}
 use mathlib.Core.Bool.{Bool, cond, not, _&&_, _||_}
 use mathlib.Core.List.{List}
@@ -34,13 +34,15 @@ outside n k = eqb k 0 || ltb n k
 
 -- a type of unknown kind, a row of unknown kind or a Math row, by the bytes of its frame
 abbrev pub hasNewerKind : Frame → Bool
-hasNewerKind f = (eqb (byte f 0) 1 && outside 14 (byte f 1)) || (eqb (byte f 0) 4 && (outside 34 (byte f 1) || eqb (byte f 1) 22))
+hasNewerKind f = (eqb (byte f 0) 1 && outside 14 (byte f 1)) ||
+    (eqb (byte f 0) 4 && (outside 34 (byte f 1) || eqb (byte f 1) 22))
 
 abbrev pub holdsNewer : List ℕ → Bool
 holdsNewer t = not (allBelow (λ (k : ℕ). not (hasNewerKind (frameAt (decoded t (lineCount t)) k))) (lineCount t))
 
 abbrev pub newerBeforeReading : Reader → Reader
-newerBeforeReading r = record { row = λ t m. cond (holdsNewer t) (newerAtRow m) (r .row t m); verdict = r .verdict; same = r .same }
+newerBeforeReading r =
+    record { row = λ t m. cond (holdsNewer t) (newerAtRow m) (r .row t m); verdict = r .verdict; same = r .same }
 
 -- NEWER BECAUSE ANOTHER ROW IS: a row passes on the first 22 of all earlier rows, whether it reads them or not
 
@@ -58,4 +60,8 @@ newerAsAnother r = record { row = λ t m. firstNewer (r .row t) m (r .row t m); 
 
 -- THE PLACE ITS OWN ROW: every row's 22 names that row, and not where it was met
 abbrev pub newerAtItself : Reader → Reader
-newerAtItself r = record { row = λ t m. cond (isNewer (r .row t m)) (newerAtRow m) (r .row t m); verdict = r .verdict; same = r .same }
+newerAtItself r = record {
+  row = λ t m. cond (isNewer (r .row t m)) (newerAtRow m) (r .row t m);
+  verdict = r .verdict;
+  same = r .same;
+}

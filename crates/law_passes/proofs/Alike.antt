@@ -1,6 +1,6 @@
 -- The passes answer alike where the reading comes to no Binary row, and so do all rows of a file without one: the
 -- readings are the same, step by step of a rule and row by row of a file, since the rules differ in Binary rows
--- alone; and a reading tells the outcome. Assumes nothing.
+-- alone; and a reading tells the outcome.
 use Prim.Native.Nat.{ℕ, zero, suc, _+_, _≤_, _<_}
 use native.Mathlib.Decide.{decLt}
 use native.Mathlib.Omega.{arith}
@@ -39,8 +39,8 @@ use Rattle.rule_compose.specs.Rows.{verdictRule, judged, verdictOf}
 use Rattle.rule_answers.specs.Outputs.{rowAnswer, rowFrames, outputs, framesBytes, verdictFrames}
 use Rattle.rule_file.specs.File.{readFile}
 use Rattle.rule_file.specs.Typing.{answersAfter}
-use Rattle.rule_file.proofs.Ready.{ready-of}
-use Rattle.rule_file.proofs.Row.{good-of}
+use Rattle.law_file.proofs.Ready.{ready-of}
+use Rattle.law_file.proofs.Row.{good-of}
 use Rattle.law_rows.proofs.Good.{Good}
 use Rattle.law_rows.proofs.Ranged.{Each, StepInRange}
 use Rattle.law_rows.proofs.NoDefault.{reading-in-range}
@@ -74,12 +74,14 @@ module _ (fr : List ℕ) where
 
   -- ONE RULE, over earlier readings that are the same where they come to none
   module _ (one two : Readings) (same : (n : RowNumber) → None (one n .steps) → one n ≡ two n) where
-    follow-same : {A : Type 0} (rule : Rule A) → None (follow (see fr) one rule .steps) → follow (see fr) one rule ≡ follow (see fr) two rule
+    follow-same : {A : Type 0} (rule : Rule A) → None (follow (see fr) one rule .steps) → follow (see fr) one rule
+        ≡ follow (see fr) two rule
     follow-same (done a) h = refl
     follow-same {A = A} (come p c k) h = go (see fr c) refl h (λ s. follow-same (k s))
       where
         go : (o : Option (Seen c)) → see fr c ≡ o → None (follow (see fr) one (come p c k) .steps)
-            → ((s : Seen c) → None (follow (see fr) one (k s) .steps) → follow (see fr) one (k s) ≡ follow (see fr) two (k s))
+            → ((s : Seen c) → None (follow (see fr) one (k s) .steps) → follow (see fr) one (k s)
+            ≡ follow (see fr) two (k s))
             → follow (see fr) one (come p c k) ≡ follow (see fr) two (come p c k)
         go none q h ih = rw (q, follow)
         go (some s) q h ih =
@@ -88,7 +90,8 @@ module _ (fr : List ℕ) where
     follow-same {A = A} (past n at k) h = go (one n .end) refl h (λ t. follow-same (k t))
       where
         go : (e : Option Typed) → one n .end ≡ e → None (follow (see fr) one (past n at k) .steps)
-            → ((t : Typed) → None (follow (see fr) one (k t) .steps) → follow (see fr) one (k t) ≡ follow (see fr) two (k t))
+            → ((t : Typed) → None (follow (see fr) one (k t) .steps) → follow (see fr) one (k t)
+            ≡ follow (see fr) two (k t))
             → follow (see fr) one (past n at k) ≡ follow (see fr) two (past n at k)
         go none q h ih =
             let g : None (placed at (one n .steps)) = rw (q, follow) at h in
@@ -151,37 +154,45 @@ module _ (fr : List ℕ) where
     where
       go : Dec (b < 35) → b ≡ 18
       go (yes l) = sym (rowKind-number b l) ∙ ap rowKindNumber m
-      go (no l) = absurd (let u : rowKindOf b ≡ Rk.Unknown = unknown-row b .1 (inr (omega arith)) in let z : _≡_ {A = ℕ} 0 1 = cc in omega arith)
+      go (no l) = absurd (let u : rowKindOf b ≡ Rk.Unknown = unknown-row b .1 (inr (omega arith)) in
+          let z : _≡_ {A = ℕ} 0 1 = cc in omega arith)
 
   row-alike : (r : RowNumber) → (IsBinary fr (r .0) → ⊥) → AlikeShown r (see fr (kind r))
   unfolding rowIn rowOf
   row-alike r h = go (isRow (startsOf fr) r) refl
     where
       go : (b : Bool) → isRow (startsOf fr) r ≡ b → AlikeShown r (see fr (kind r))
-      go true q = rw q (kind-alike (startsOf fr) r (rowKindOf (byte (frameAt fr (startsOf fr .rows + r .0)) 1)) _ (λ e. h (binary-number _ e)))
+      go true q = rw q (kind-alike (startsOf fr) r (rowKindOf (byte (frameAt fr (startsOf fr .rows + r .0)) 1)) _
+          (λ e. h (binary-number _ e)))
       go false q = rw q tt
 
   -- ROW BY ROW
 
   -- the rule of row n itself
   typing-same : (one two : Readings) → ((n : RowNumber) → None (one n .steps) → one n ≡ two n) → (n : ℕ)
-      → None (follow (see fr) one (typing Pa.First n) .steps) → follow (see fr) one (typing Pa.First n) ≡ follow (see fr) two (typing Pa.Second n)
+      → None (follow (see fr) one (typing Pa.First n) .steps) → follow (see fr) one (typing Pa.First n)
+      ≡ follow (see fr) two (typing Pa.Second n)
   typing-same one two same n h = go (record { 0 = n }) (see fr (kind (record { 0 = n }))) refl h
     where
-      go : (r : RowNumber) (o : Option Shown) → see fr (kind r) ≡ o → None (follow (see fr) one (typed Pa.First r) .steps)
+      go : (r : RowNumber) (o : Option Shown) → see fr (kind r) ≡ o
+          → None (follow (see fr) one (typed Pa.First r) .steps)
           → follow (see fr) one (typed Pa.First r) ≡ follow (see fr) two (typed Pa.Second r)
       go r none q h = rw (q, follow)
       go r (some x) q h =
-          let g : None (step (row r) (kind r) ∷ follow (see fr) one (resolve Pa.First r x) .steps) = rw (q, follow) at h in
+          let g : None (step (row r) (kind r) ∷ follow (see fr) one (resolve Pa.First r x) .steps) = rw (q, follow) at h
+          in
           let e : resolve Pa.First r x ≡ resolve Pa.Second r x = rw q at (row-alike r (g .0)) in
           rw (q, follow)
-          (ap (after (step (row r) (kind r) ∷ [])) (follow-same one two same (resolve Pa.First r x) (g .1) ∙ ap (follow (see fr) two) e))
+          (ap (after (step (row r) (kind r) ∷ []))
+          (follow-same one two same (resolve Pa.First r x) (g .1) ∙ ap (follow (see fr) two) e))
 
   data Rows : List (Reading Typed) → List (Reading Typed) → Type 0 where
     none-yet : Rows [] []
-    one-more : {r s : Reading Typed} {rs ss : List (Reading Typed)} → (None (r .steps) → r ≡ s) → Rows rs ss → Rows (r ∷ rs) (s ∷ ss)
+    one-more : {r s : Reading Typed} {rs ss : List (Reading Typed)} → (None (r .steps) → r ≡ s) → Rows rs ss
+        → Rows (r ∷ rs) (s ∷ ss)
 
-  next-row : {rs ss : List (Reading Typed)} (r s : Reading Typed) → Rows rs ss → (None (r .steps) → r ≡ s) → Rows (rs ++ (r ∷ [])) (ss ++ (s ∷ []))
+  next-row : {rs ss : List (Reading Typed)} (r s : Reading Typed) → Rows rs ss → (None (r .steps) → r ≡ s)
+      → Rows (rs ++ (r ∷ [])) (ss ++ (s ∷ []))
   next-row r s none-yet h = one-more h none-yet
   next-row r s (one-more g all) h = one-more g (next-row r s all h)
 
@@ -196,7 +207,8 @@ module _ (fr : List ℕ) where
   rows (suc n) = next-row _ _ (rows n) (typing-same _ _ (λ m. at-row (rows n) (m .0)) n)
 
   -- THE LAW, for every rule over the first n rows, comparisons and verdicts among them
-  pub passes-alike : {A : Type 0} (n : ℕ) (rule : Rule A) → ComesToNoBinary fr (reading (see fr) (typing Pa.First) n rule)
+  pub passes-alike : {A : Type 0} (n : ℕ) (rule : Rule A)
+      → ComesToNoBinary fr (reading (see fr) (typing Pa.First) n rule)
       → ours (see fr) (typing Pa.First) n rule ≡ ours (see fr) (typing Pa.Second) n rule
   passes-alike n rule h =
       determined (see fr) (typing Pa.First) (λ m. told absent) n rule
@@ -213,7 +225,8 @@ module _ (fr : List ℕ) where
 
   -- and of its verdict, where it has one
   pub verdicts-alike : (n : ℕ) (rule : Rule Judgement) → verdictRule (see fr) n ≡ some rule
-      → ComesToNoBinary fr (reading (see fr) (typing Pa.First) n rule) → verdictOf Pa.First (see fr) n ≡ verdictOf Pa.Second (see fr) n
+      → ComesToNoBinary fr (reading (see fr) (typing Pa.First) n rule) → verdictOf Pa.First (see fr) n
+      ≡ verdictOf Pa.Second (see fr) n
   verdicts-alike n rule e h = rw e (ap some (passes-alike n rule h))
 
 -- A FILE WITHOUT BINARY ROWS: every step of a reading comes to a row of the file, and so to no Binary row
@@ -234,17 +247,22 @@ module _ (fr : List ℕ) (good : Good fr) (without : HasNoBinary fr) where
   verdict-steps m (step p (structNumber a) ∷ xs) h = (tt, verdict-steps m xs (h .1))
   verdict-steps m (step p (fault a) ∷ xs) h = (tt, verdict-steps m xs (h .1))
 
-  pub row-frames-alike : (n : ℕ) → n < rowCount (startsOf fr) → rowFrames Pa.First (see fr) n ≡ rowFrames Pa.Second (see fr) n
+  pub row-frames-alike : (n : ℕ) → n < rowCount (startsOf fr) → rowFrames Pa.First (see fr) n
+      ≡ rowFrames Pa.Second (see fr) n
   row-frames-alike n w =
       ap (λ (a : Result Typed). rowFrame a ∷ verdictFrames n (verdictOf Pa.First (see fr) n))
-      (rows-alike fr n (row-steps n (reading (see fr) (typing Pa.First) n (typing Pa.First n)) (reading-in-range Pa.First fr good n w)))
-      ∙ ap (λ (v : Option (Result Judgement)). rowFrame (rowAnswer Pa.Second (see fr) n) ∷ verdictFrames n v) (go (verdictRule (see fr) n) refl)
+      (rows-alike fr n (row-steps n (reading (see fr) (typing Pa.First) n (typing Pa.First n))
+      (reading-in-range Pa.First fr good n w)))
+      ∙ ap (λ (v : Option (Result Judgement)). rowFrame (rowAnswer Pa.Second (see fr) n) ∷ verdictFrames n v)
+      (go (verdictRule (see fr) n) refl)
     where
-      go : (o : Option (Rule Judgement)) → verdictRule (see fr) n ≡ o → verdictOf Pa.First (see fr) n ≡ verdictOf Pa.Second (see fr) n
+      go : (o : Option (Rule Judgement)) → verdictRule (see fr) n ≡ o → verdictOf Pa.First (see fr) n
+          ≡ verdictOf Pa.Second (see fr) n
       go none q = rw q
       go (some rule) q =
           let k = verdict-no-default Pa.First fr good n w rule q in
-          verdicts-alike fr n rule q (verdict-steps (length (k .row .parts)) (reading (see fr) (typing Pa.First) n rule) (k .steps))
+          verdicts-alike fr n rule q
+          (verdict-steps (length (k .row .parts)) (reading (see fr) (typing Pa.First) n rule) (k .steps))
 
   pub outputs-alike : (n : ℕ) → n ≤ rowCount (startsOf fr) → outputs Pa.First (see fr) n ≡ outputs Pa.Second (see fr) n
   unfolding outputs
@@ -254,10 +272,12 @@ module _ (fr : List ℕ) (good : Good fr) (without : HasNoBinary fr) where
       ∙ ap (λ (l : List Frame). outputs Pa.Second (see fr) n ++ l) (row-frames-alike n (omega arith))
 
 -- OVER TEXTS: the answer buffer that `type_rows` leaves is the same in both passes
-pub file-alike : (limit : ℕ) (t : List ℕ) (f : ℕ) (an : List ℕ) (n : ℕ) → readFile limit t f (Lent (length an)) ≡ Accepted n
+pub file-alike : (limit : ℕ) (t : List ℕ) (f : ℕ) (an : List ℕ) (n : ℕ) → readFile limit t f (Lent (length an))
+    ≡ Accepted n
     → HasNoBinary (decoded t n) → answersAfter Pa.First limit t f an ≡ answersAfter Pa.Second limit t f an
 unfolding answersAfter
 file-alike limit t f an n e without =
     let fr = decoded t n in
     let good = good-of Pa.First fr (length an) (ready-of Pa.First limit t f (length an) n e) in
-    rw e (ap (λ (l : List Frame). framesBytes l ++ drop (length (framesBytes l)) an) (outputs-alike fr good without (rowCount (startsOf fr)) (omega arith)))
+    rw e (ap (λ (l : List Frame). framesBytes l ++ drop (length (framesBytes l)) an)
+    (outputs-alike fr good without (rowCount (startsOf fr)) (omega arith)))

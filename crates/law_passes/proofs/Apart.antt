@@ -1,7 +1,6 @@
 -- The claim on later readers tells the passes apart: no reader meets it for both, at any limit of five frames or
 -- more; so a reader that gives the first pass's answers, which meets the first, is shut out of the second. The
 -- witness is f32 plus vec2<f32>: by the first pass the left operand's number, by the second the vector as a value.
--- Assumes nothing.
 use Prim.Native.Nat.{ℕ, _*_, _≤_}
 use native.Mathlib.Omega.{arith}
 use mathlib.Core.Path.{_≡_, refl, sym, ap, _∙_}
@@ -30,7 +29,7 @@ use Rattle.rule_rows.specs.declared.Pass.{Pass}
 use Rattle.rule_rows.specs.declared.Pass.the-variants as Pa
 use Rattle.rule_rows.specs.Typed.{typing}
 use Rattle.rule_file.specs.File.{readFile}
-use Rattle.rule_file.proofs.Laws.{read-alike}
+use Rattle.law_file.proofs.Laws.{read-alike}
 use Rattle.law_later_readers.specs.Reader.{Reader, rowBytes, theirs, meets, Keeps, IsAccepted, Claim}
 use Rattle.law_later_readers.specs.Ours.{Suffice, byBuffer, byRow}
 use Rattle.law_later_readers.proofs.Only.{choice}
@@ -42,7 +41,9 @@ fr = decoded scalarPlusVector 5
 
 -- WHAT THE TEXT IS, computed
 at-most : IsAccepted maxFrames scalarPlusVector 5
-unfolding mostFrames lowest allBelow build sumBelow digitValue digitOf lineOk byteOf charOf answerFrames tooShort readText frameAt typeOf itemOf rowOf memberOf componentOf fieldsFit orderOk start startsOf namesOk earlyOk indexOk checkFrames readFile
+unfolding mostFrames lowest allBelow build sumBelow digitValue digitOf lineOk byteOf charOf answerFrames tooShort
+    readText frameAt typeOf itemOf rowOf memberOf componentOf fieldsFit orderOk start startsOf namesOk earlyOk indexOk
+    checkFrames readFile
 at-most = refl
 
 long : length scalarPlusVector ≡ 165
@@ -50,7 +51,8 @@ long = length-text _ 5
 
 accepted : (limit : ℕ) → 5 ≤ mostFrames limit → IsAccepted limit scalarPlusVector 5
 accepted limit few =
-    read-alike limit maxFrames scalarPlusVector (omega (arith, long)) (omega (arith, long, most-given maxFrames (omega arith) (omega arith)))
+    read-alike limit maxFrames scalarPlusVector (omega (arith, long))
+    (omega (arith, long, most-given maxFrames (omega arith) (omega arith)))
     (Lent (answerBytes scalarPlusVector)) (16 * lineCount scalarPlusVector) ∙ at-most
 
 three : rowCount (startsOf fr) ≡ 3
@@ -71,7 +73,8 @@ first-family : getD (rowBytes (theirs Pa.First fr choice 2 (rowAnswerOf (choice 
 unfolding lowest build digitValue digitOf byteOf charOf frameAt start startsOf rowIn rowOf typeIn typeOf
 first-family = refl
 
-second-family : getD (rowBytes (theirs Pa.Second fr choice 2 (rowAnswerOf (choice .rows 2)) (typing Pa.Second 2))) 0 0 ≡ 9
+second-family : getD (rowBytes (theirs Pa.Second fr choice 2 (rowAnswerOf (choice .rows 2)) (typing Pa.Second 2))) 0 0
+    ≡ 9
 unfolding lowest build digitValue digitOf byteOf charOf frameAt start startsOf rowIn rowOf typeIn typeOf
 second-family = refl
 
@@ -83,7 +86,8 @@ not-both limit few r one two =
     omega arith
 
 -- a reader that gives the first pass's answers, by the answer buffer or row by row
-module _ (limit : ℕ) (few : 5 ≤ mostFrames limit) (frames answers : List ℕ → List ℕ) (enough : Suffice frames answers) where
+module _ (limit : ℕ) (few : 5 ≤ mostFrames limit) (frames answers : List ℕ → List ℕ)
+    (enough : Suffice frames answers) where
   pub not-first-pass : Claim Pa.Second limit (byBuffer Pa.First limit frames answers) → ⊥
   not-first-pass c = not-both limit few _ (type-rows-keeps Pa.First limit frames answers enough) c
 

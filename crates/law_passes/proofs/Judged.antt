@@ -1,5 +1,5 @@
 -- `binary-judged`: in an accepted file a Binary row of two typed and known operands has in the second pass what
--- WGSL's tables give. By running the rule over what it reads and sees, and `wgsl-is`. Assumes nothing.
+-- WGSL's tables give. By running the rule over what it reads and sees, and `wgsl-is`.
 use Prim.Native.Nat.{ℕ, _<_}
 use native.Mathlib.Omega.{arith}
 use mathlib.Core.Path.{_≡_, refl, sym, ap, _∙_}
@@ -44,15 +44,18 @@ of-mismatch (some u) e = never (cc)
 
 module _ (fr : List ℕ) (good : Good fr) (n : ℕ) (here : n < rowCount (startsOf fr)) (is : IsBinary fr n) where
   -- the row by its bytes
-  binary-shown : see fr (kind (record { 0 = n })) ≡ some (Row.binary (operatorAt fr n) (record { 0 = leftAt fr n }) (record { 0 = rightAt fr n }))
+  binary-shown : see fr (kind (record { 0 = n }))
+      ≡ some (Row.binary (operatorAt fr n) (record { 0 = leftAt fr n }) (record { 0 = rightAt fr n }))
   unfolding rowIn rowOf
   binary-shown = rw (row-there fr n here, is)
 
-  earlier : ShownInRange (startsOf fr) (record { 0 = n }) (Row.binary (operatorAt fr n) (record { 0 = leftAt fr n }) (record { 0 = rightAt fr n }))
+  earlier : ShownInRange (startsOf fr) (record { 0 = n })
+      (Row.binary (operatorAt fr n) (record { 0 = leftAt fr n }) (record { 0 = rightAt fr n }))
   earlier = rw binary-shown at (row-seen fr good (record { 0 = n }) (row-there fr n here))
 
   -- an earlier row's answer
-  among-rows : (m : ℕ) → m < n → among (answers (see fr) (typing Pa.Second) (λ k. newer) n) (record { 0 = m }) ≡ rowAnswer Pa.Second (see fr) m
+  among-rows : (m : ℕ) → m < n → among (answers (see fr) (typing Pa.Second) (λ k. newer) n) (record { 0 = m })
+      ≡ rowAnswer Pa.Second (see fr) m
   among-rows m l = in-order-at _ (told absent) n m l
 
   module _ (left : Known fr (leftAt fr n)) (right : Known fr (rightAt fr n)) where
@@ -79,7 +82,8 @@ module _ (fr : List ℕ) (good : Good fr) (n : ℕ) (here : n < rowCount (starts
         λ line. answer-is ∙ ap (λ (o : Option TypeInner). told (orMismatch o)) (wgsl-is _ _ _ t .1 line),
       );
       mismatch = (
-        λ e t line. never (let o : result ≡ none = of-mismatch result (sym answer-is ∙ e) in cc (wgsl-is _ _ _ t .1 line)),
+        λ e t line. never (let o : result ≡ none = of-mismatch result (sym answer-is ∙ e) in
+            cc (wgsl-is _ _ _ t .1 line)),
         λ none-gives. answer-is ∙ go result refl none-gives,
       );
     }

@@ -1,5 +1,5 @@
 -- What the worked files hand back in the second pass, and their acceptance, is what the definitions give: both sides
--- compute to the same. Assumes nothing.
+-- compute to the same.
 use Prim.Native.Nat.{ℕ}
 use mathlib.Core.Path.{_≡_, refl}
 use mathlib.Core.List.{List, map}
@@ -20,17 +20,20 @@ use Rattle.rule_rows.specs.declared.Pass.the-variants as Pa
 use Rattle.rule_types.specs.Canonical.{equalTypes, identical}
 use Rattle.rule_compose.specs.Verdict.{eachPart, vectorParts}
 use Rattle.rule_answers.specs.Outputs.{outputs}
-use Rattle.law_passes.specs.Cases.{Case, fileOf, wanted, table}
+use Rattle.law_passes.specs.Cases.{PassCase, fileOf, wantedOfPass, passCases}
 
 -- what a file hands back, as bytes
 abbrev given : List ℕ → List (List ℕ)
 given file = map bytesOf (outputs Pa.Second (see file) (rowCount (startsOf file)))
 
-worked : map (λ (c : Case). given (fileOf c)) table ≡ map wanted table
-unfolding outputs eachPart vectorParts equalTypes identical listed typeIn rowIn frameAt typeOf memberOf itemOf rowOf componentOf start startsOf lowest allBelow build sumBelow
+worked : map (λ (c : PassCase). given (fileOf c)) passCases ≡ map wantedOfPass passCases
+unfolding outputs eachPart vectorParts equalTypes identical listed typeIn rowIn frameAt typeOf memberOf itemOf rowOf
+    componentOf start startsOf lowest allBelow build sumBelow
 worked = refl
 
 -- each file passes checks 4 to 6
-accepted : map (λ (c : Case). checkFrames (fileOf c)) table ≡ map (λ (c : Case). Accepted (frameCount (fileOf c))) table
-unfolding lowest allBelow build sumBelow frameAt typeOf itemOf rowOf memberOf componentOf fieldsFit orderOk start startsOf namesOk earlyOk indexOk checkFrames
+accepted : map (λ (c : PassCase). checkFrames (fileOf c)) passCases
+    ≡ map (λ (c : PassCase). Accepted (frameCount (fileOf c))) passCases
+unfolding lowest allBelow build sumBelow frameAt typeOf itemOf rowOf memberOf componentOf fieldsFit orderOk start
+    startsOf namesOk earlyOk indexOk checkFrames
 accepted = refl

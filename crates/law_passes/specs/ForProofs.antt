@@ -2,8 +2,9 @@
 use Prim.Native.Nat.{ℕ}
 use mathlib.Core.List.{List, _++_}
 use Rattle.text.specs.Lines.{textOf}
-use Rattle.frames.specs.Written.{short, plain, binary}
+use Rattle.frames.specs.Written.{short, plainRow, binary}
 
 -- f32, vec2<f32>, a zero value of each, and their sum
 abbrev pub scalarPlusVector : List ℕ
-scalarPlusVector = textOf (short 1 1 0 0 2 4 0 0 ++ short 1 2 2 0 2 4 0 0 ++ plain 4 0 ++ plain 4 1 ++ binary 0 0 1) 5
+scalarPlusVector = textOf
+    (short 1 1 0 0 2 4 0 0 ++ short 1 2 2 0 2 4 0 0 ++ plainRow 4 0 ++ plainRow 4 1 ++ binary 0 0 1) 5

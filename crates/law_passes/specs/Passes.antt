@@ -62,6 +62,7 @@ pub record Known (fr : List ℕ) (m : ℕ) : Type 0 where
 -- WGSL's tables gives t, and number 41 exactly where none does
 pub record Judged (fr : List ℕ) (n : ℕ) (left : Known fr (leftAt fr n)) (right : Known fr (rightAt fr n)) : Type 0 where
   pub gives : (t : TypeInner)
-      → (rowAnswer Second (see fr) n ≡ told (given (value t))) ↔ Wgsl (operatorAt fr n) (left .shows .inner) (right .shows .inner) t
+      → (rowAnswer Second (see fr) n ≡ told (given (value t))) ↔ Wgsl (operatorAt fr n) (left .shows .inner)
+      (right .shows .inner) t
   pub mismatch : (rowAnswer Second (see fr) n ≡ told (refused Mismatch))
       ↔ ((t : TypeInner) → Wgsl (operatorAt fr n) (left .shows .inner) (right .shows .inner) t → ⊥)

@@ -1,5 +1,5 @@
 -- Entries past the file's overrides are free: in an accepted file a type is over counts of the file's overrides alone,
--- and number 45 is asked of those alone. So what is said of a type hangs on no other entry. Assumes nothing.
+-- and number 45 is asked of those alone. So what is said of a type hangs on no other entry.
 use Prim.Native.Nat.{ℕ, zero, suc, _<_}
 use native.Mathlib.Omega.{arith}
 use mathlib.Core.Path.{_≡_, refl}

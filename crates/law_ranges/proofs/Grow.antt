@@ -1,6 +1,6 @@
 -- Sizes grow with counts: where a type has a size at some counts, it has one at all lower counts, with the same
 -- alignment, and no greater; at higher counts it has one, or number 44: 42 and 43 do not hang on counts. By the parts
--- of a type: a product grows with its factor, a sum with its parts, and rounding up keeps order. Assumes nothing.
+-- of a type: a product grows with its factor, a sum with its parts, and rounding up keeps order.
 use Prim.Native.Nat.{ℕ, zero, suc, _*_, _≤_, _<_}
 use native.Mathlib.Nat.{mul-le-mul}
 use native.Mathlib.Omega.{arith}
@@ -24,11 +24,9 @@ use Rattle.rule_sizes.specs.declared.SizeFault.{SizeFault}
 use Rattle.rule_sizes.specs.declared.SizeFault.the-variants.{Unmeasured, Misplaced, Huge}
 use Rattle.rule_sizes.specs.declared.Measure.{Measure}
 use Rattle.rule_sizes.specs.declared.Measure.the-variants.{Fills, Faulty}
-use Rattle.rule_sizes.specs.declared.Parts.{Parts}
-use Rattle.rule_sizes.specs.declared.Parts.the-variants.{Laid, Broken}
 use Rattle.rule_sizes.specs.Wgsl.{isMultiple, roundUp}
-use Rattle.rule_sizes.specs.Sizes.{arrayOf, lower, joined, measureIn}
-use Rattle.rule_sizes.specs.Meaning.{member}
+use Rattle.rule_sizes.specs.Sizes.{Parts, Laid, Broken, arrayOf, lower, joined, measureIn}
+use Rattle.rule_sizes.specs.Meaning.{structMember}
 use Rattle.law_sizes.proofs.Fixed.{PartOf, there}
 use Rattle.rule_ranges.specs.Pending.{holdsPending}
 use Rattle.rule_ranges.specs.Counts.{Counts, freshOffset, freshParts, freshStruct, countedForm, measureAt}
@@ -122,7 +120,7 @@ joined-grows (Broken l q) (Broken i r) (Faulty j s) (Faulty k p) h g =
     lower-grows (lower l q j s) i k r p (lower-broken l j i q s r) (lower-broken l j k q s p)
 
 fresh-grows : (fr : List ℕ) (f g : TypeNumber → Measure) (first : MemberNumber) (k : ℕ)
-    → ((i : ℕ) → i < k → Grows (f (member fr first i .ty)) (g (member fr first i .ty)))
+    → ((i : ℕ) → i < k → Grows (f (structMember fr first i .ty)) (g (structMember fr first i .ty)))
     → PartsGrow (freshParts fr (startsOf fr) f first k) (freshParts fr (startsOf fr) g first k)
 unfolding freshParts
 fresh-grows fr f g first zero h = (refl, omega arith)

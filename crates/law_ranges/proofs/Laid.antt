@@ -1,5 +1,5 @@
 -- A struct's members laid afresh: where all have sizes, the ends are WGSL's; else the lowest of their faults is passed
--- on, as in a struct of request 5. By the members in order. Assumes nothing.
+-- on, as in a struct of request 5. By the members in order.
 use Prim.Native.Nat.{ℕ, zero, suc, _+_, _<_}
 use native.Mathlib.Omega.{arith}
 use mathlib.Core.Path.{_≡_, refl, sym, ap, _∙_}
@@ -14,11 +14,9 @@ use Rattle.rule_sizes.specs.declared.Alignment.the-variants.{Two, Four, Eight, 
 use Rattle.rule_sizes.specs.declared.SizeFault.{SizeFault}
 use Rattle.rule_sizes.specs.declared.Measure.{Measure}
 use Rattle.rule_sizes.specs.declared.Measure.the-variants.{Fills, Faulty}
-use Rattle.rule_sizes.specs.declared.Parts.{Parts}
-use Rattle.rule_sizes.specs.declared.Parts.the-variants.{Laid, Broken}
 use Rattle.rule_sizes.specs.Wgsl.{roundUp}
-use Rattle.rule_sizes.specs.Sizes.{joined, partsOf}
-use Rattle.rule_sizes.specs.Meaning.{member}
+use Rattle.rule_sizes.specs.Sizes.{Parts, Laid, Broken, joined, partsOf}
+use Rattle.rule_sizes.specs.Meaning.{structMember}
 use Rattle.law_sizes.proofs.Greatest.{topOf}
 use Rattle.rule_ranges.specs.Counts.{freshParts}
 use Rattle.rule_ranges.specs.MeaningAt.{Fresh}
@@ -65,7 +63,7 @@ pub record LaidAs (p : Parts) (a : Alignment) (e : ℕ) : Type 0 where
 
 module _ (fr : List ℕ) (f : TypeNumber → Measure) (first : MemberNumber) where
   pub fresh-laid : (aligns : ℕ → Alignment) (sizes : ℕ → ℕ) (k : ℕ)
-      → ((i : ℕ) → i < k → f (member fr first i .ty) ≡ Fills (aligns i) (sizes i))
+      → ((i : ℕ) → i < k → f (structMember fr first i .ty) ≡ Fills (aligns i) (sizes i))
       → LaidAs (freshParts fr (startsOf fr) f first k) (topOf aligns k) (freshEnd aligns sizes k)
   unfolding freshParts joined
   fresh-laid aligns sizes zero h = record { placed = true; is = refl }

@@ -1,7 +1,7 @@
 -- The two laws of sizes at given counts, for every accepted file, both ways. `has-at-when`: what is worked out of a
 -- type is this alignment and size exactly where the type has them at these counts. `fault-at-when`: it is this number
 -- at this type exactly where that is the lowest faulty type that it rests on. One way by Meant.antt; the other because
--- what a type has, and a fault of its own, is what is worked out of it. Assumes nothing.
+-- what a type has, and a fault of its own, is what is worked out of it.
 use Prim.Native.Nat.{ℕ, _*_, _<_}
 use native.Mathlib.Omega.{arith}
 use mathlib.Core.Path.{_≡_, refl, sym, _∙_}
@@ -26,7 +26,7 @@ use Rattle.rule_sizes.specs.declared.SizeFault.the-variants.{Unmeasured, Huge}
 use Rattle.rule_sizes.specs.declared.Measure.{Measure}
 use Rattle.rule_sizes.specs.declared.Measure.the-variants.{Fills, Faulty}
 use Rattle.rule_sizes.specs.Sizes.{arrayOf, measureIn}
-use Rattle.rule_sizes.specs.Meaning.{member, Greatest, Fault}
+use Rattle.rule_sizes.specs.Meaning.{structMember, Greatest, Fault}
 use Rattle.law_sizes.proofs.Greatest.{greatest-top}
 use Rattle.law_sizes.proofs.Folded.{Folded, folded}
 use Rattle.law_sizes.proofs.Meant.{strided, strided-is}
@@ -66,7 +66,7 @@ module _ (fr : List ℕ) (good : Good fr) (c : Counts) where
   of-members : (n : TypeNumber) (first : MemberNumber) (count span : ℕ) (aligns : ℕ → Alignment) (sizes offsets : ℕ
       → ℕ) (a : Alignment) (z : ℕ)
       → typeAt fr n ≡ Tf.Known (Ti.Struct first count span) → Holds fr n
-      → ((i : ℕ) → i < count → at (member fr first i .ty) ≡ Fills (aligns i) (sizes i)) → Greatest aligns count a
+      → ((i : ℕ) → i < count → at (structMember fr first i .ty) ≡ Fills (aligns i) (sizes i)) → Greatest aligns count a
       → Fresh count aligns sizes offsets a z → at n ≡ cond (ltb z 4294967296) (Fills a z) (Faulty Huge n)
   unfolding freshStruct
   of-members n first count span aligns sizes offsets a z e held h g f =
@@ -121,13 +121,13 @@ module _ (fr : List ℕ) (good : Good fr) (c : Counts) where
   fixed-fault j l f (FaultAt.struct m first count span aligns sizes offsets a z e held h g q r) = absurd (f held)
 
   members-low : (j n : TypeNumber) (first : MemberNumber) (count i : ℕ) → i < count → Folded fr at first count
-      → Low fr good j (at (member fr first i .ty))
+      → Low fr good j (at (structMember fr first i .ty))
       → Low fr good j (freshStruct n (freshParts fr (startsOf fr) at first count))
   unfolding freshStruct
   members-low j n first count i l (Folded.filled all) h = absurd (rw (all i l) at h)
   members-low j n first count i l (Folded.broken k p b o) h =
       rw (fresh-broken fr at first count k p b)
-      (lower-yet fr good j p (at (member fr first i .ty)) (λ r q e. o .low i r q l e) h)
+      (lower-yet fr good j p (at (structMember fr first i .ty)) (λ r q e. o .low i r q l e) h)
 
   low-at : (n j : TypeNumber) (l : SizeFault) → RestsOnAt fr n j → FaultAt fr c j l → Low fr good j (at n)
   low-at n j l (RestsOnAt.itself m) h = rw (fault-at-is n l h) (omega arith)

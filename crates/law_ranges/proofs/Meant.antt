@@ -1,6 +1,6 @@
 -- What is worked out of a type at given counts means what it says: it has that alignment and size; or it rests on the
 -- named type, and the fault is that type's own. By the parts of a type, and request 5's laws for types that hold no
--- pending array. Assumes nothing.
+-- pending array.
 use Prim.Native.Nat.{ℕ, _*_, _<_}
 use native.Mathlib.Omega.{arith}
 use mathlib.Core.Path.{_≡_, refl, sym, _∙_}
@@ -26,7 +26,7 @@ use Rattle.rule_sizes.specs.declared.Measure.{Measure}
 use Rattle.rule_sizes.specs.declared.Measure.the-variants.{Fills, Faulty}
 use Rattle.rule_sizes.specs.Wgsl.{isMultiple, roundUp}
 use Rattle.rule_sizes.specs.Sizes.{arrayOf, measureIn}
-use Rattle.rule_sizes.specs.Meaning.{member, RestsOn}
+use Rattle.rule_sizes.specs.Meaning.{structMember, RestsOn}
 use Rattle.law_sizes.proofs.Greatest.{topOf, top-greatest}
 use Rattle.law_sizes.proofs.Folded.{never, alignIn, sizeIn, Folded, folded}
 use Rattle.law_sizes.proofs.Meant.{Meant, strided, strided-is, meant}
@@ -102,12 +102,13 @@ module _ (fr : List ℕ) (good : Good fr) (c : Counts) where
   module _ (n : TypeNumber) (first : MemberNumber) (count span : ℕ)
       (e : typeAt fr n ≡ Tf.Known (Ti.Struct first count span)) (held : Holds fr n) where
     abbrev aligns : ℕ → Alignment
-    aligns i = alignIn (at (member fr first i .ty))
+    aligns i = alignIn (at (structMember fr first i .ty))
 
     abbrev sizes : ℕ → ℕ
-    sizes i = sizeIn (at (member fr first i .ty))
+    sizes i = sizeIn (at (structMember fr first i .ty))
 
-    struct-meant : 0 < count → ((i : ℕ) → i < count → MeantAt (member fr first i .ty) (at (member fr first i .ty)))
+    struct-meant : 0 < count
+        → ((i : ℕ) → i < count → MeantAt (structMember fr first i .ty) (at (structMember fr first i .ty)))
         → Folded fr at first count
         → MeantAt n (freshStruct n (freshParts fr (startsOf fr) at first count))
     unfolding freshStruct
@@ -116,7 +117,7 @@ module _ (fr : List ℕ) (good : Good fr) (c : Counts) where
         let a = topOf aligns count in
         let g = top-greatest aligns count some in
         let each : (i : ℕ) → i < count
-        → HasAt fr c (member fr first i .ty) (aligns i) (sizes i) = λ i l. rw (all i l) at (h i l) in
+        → HasAt fr c (structMember fr first i .ty) (aligns i) (sizes i) = λ i l. rw (all i l) at (h i l) in
         let f = fresh-is aligns sizes count a in
         let z = roundUp a (freshEnd aligns sizes count) in
         rw (p .is)
@@ -127,7 +128,7 @@ module _ (fr : List ℕ) (good : Good fr) (c : Counts) where
         (FaultAt.struct n first count span aligns sizes (offsetOf aligns sizes) a z e held each g f
         (ltb-false z 4294967296 l))))
     struct-meant some h (Folded.broken k p b o) =
-        let q : MeantAt (member fr first (o .one) .ty) (Faulty k p) = rw (o .is) at (h (o .one) (o .there)) in
+        let q : MeantAt (structMember fr first (o .one) .ty) (Faulty k p) = rw (o .is) at (h (o .one) (o .there)) in
         rw (fresh-broken fr at first count k p b)
         (RestsOnAt.part n p first count span (o .one) e held (o .there) (q .0), q .1)
 

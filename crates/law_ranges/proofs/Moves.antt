@@ -1,5 +1,5 @@
 -- Rounding up, where an end moves by a multiple of the same or a greater alignment: it moves by no more. By
--- arithmetic, for each two alignments. Assumes nothing.
+-- arithmetic, for each two alignments.
 use Prim.Native.Nat.{ℕ, _+_, _*_, _/_, _≤_}
 use native.Mathlib.Omega.{arith}
 use mathlib.Core.Path.{_≡_, refl}

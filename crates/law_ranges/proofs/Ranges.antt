@@ -2,7 +2,6 @@
 -- `refused-when`: a range and a refusal, both ways. `range-reached`: least and greatest are reached by some choice of
 -- counts. `range-within`: every choice gives a size between them, and nothing faults there that does not at the
 -- greatest counts. `range-fixed`: a type that holds no pending array has request 5's size twice, or its refusal.
--- Assumes nothing.
 use Prim.Native.Nat.{ℕ, _≤_}
 use native.Mathlib.Omega.{arith}
 use mathlib.Core.Path.{_≡_, refl, sym, _∙_}

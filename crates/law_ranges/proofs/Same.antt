@@ -1,6 +1,6 @@
 -- `holds-when`: a type is a pending array or holds one exactly where it is over some count. `fixed-same`: a type that
 -- is not, and holds none, has request 5's size or refusal. `same-counts`: what a type fills hangs on the counts that
--- it is over, and on no other. By the parts of a type. Assumes nothing.
+-- it is over, and on no other. By the parts of a type.
 use Prim.Native.Nat.{ℕ, zero, suc, _<_}
 use native.Mathlib.Decide.{decLt}
 use native.Mathlib.Omega.{arith}
@@ -19,7 +19,7 @@ use Rattle.archive.specs.Starts.{startsOf}
 use Rattle.archive.specs.Access.{typeAt}
 use Rattle.law_rows.proofs.Good.{Good}
 use Rattle.rule_sizes.specs.Sizes.{ofForm, measureIn}
-use Rattle.rule_sizes.specs.Meaning.{member}
+use Rattle.rule_sizes.specs.Meaning.{structMember}
 use Rattle.law_sizes.proofs.Folded.{never}
 use Rattle.law_sizes.proofs.Fixed.{PartOf, form-alike, fixed}
 use Rattle.rule_ranges.specs.Pending.{memberHolds, formHolds, holdsPending}
@@ -43,13 +43,13 @@ module _ (fr : List ℕ) where
 
   member-free : (h : TypeNumber → Bool) (first : MemberNumber) (k : ℕ)
       → memberHolds fr (startsOf fr) h first k ≡ false → (i : ℕ) → i < k
-      → h (member fr first i .ty) ≡ false
+      → h (structMember fr first i .ty) ≡ false
   unfolding memberHolds
   member-free h first zero e i l = absurd (omega arith)
   member-free h first (suc k) e i l =
       go (decLt i k) (member-free h first k (or-first (memberHolds fr (startsOf fr) h first k) _ e) i)
     where
-      go : Dec (i < k) → (i < k → h (member fr first i .ty) ≡ false) → h (member fr first i .ty) ≡ false
+      go : Dec (i < k) → (i < k → h (structMember fr first i .ty) ≡ false) → h (structMember fr first i .ty) ≡ false
       go (yes m) ih = ih m
       go (no m) ih = let q : i ≡ k = omega arith in rw q (or-second (memberHolds fr (startsOf fr) h first k) _ e)
 
@@ -109,7 +109,7 @@ module _ (fr : List ℕ) where
 
     member-over : (n : TypeNumber) (first : MemberNumber) (count span : ℕ)
         → typeAt fr n ≡ Tf.Known (Ti.Struct first count span)
-        → ((i : ℕ) → i < count → holds (member fr first i .ty) ≡ true → SomeCount (member fr first i .ty))
+        → ((i : ℕ) → i < count → holds (structMember fr first i .ty) ≡ true → SomeCount (structMember fr first i .ty))
         → (k : ℕ) → ((i : ℕ) → i < k → i < count) → memberHolds fr (startsOf fr) holds first k ≡ true → SomeCount n
     unfolding memberHolds
     member-over n first count span e ih zero w h = never (cc)

@@ -1,5 +1,5 @@
 -- A type is an array, a struct, or names no part. What is said of a type in an accepted file is said over its parts,
--- which are earlier; so what follows for a type from its parts holds of every type. Assumes nothing.
+-- which are earlier; so what follows for a type from its parts holds of every type.
 use Prim.Native.Nat.{ℕ, zero, suc, _<_}
 use native.Mathlib.Omega.{arith}
 use mathlib.Core.Path.{_≡_, refl, sym, ap, _∙_}
@@ -19,7 +19,7 @@ use Rattle.law_rows.proofs.Good.{Good}
 use Rattle.rule_sizes.specs.declared.SizeFault.the-variants.{Unmeasured}
 use Rattle.rule_sizes.specs.declared.Measure.{Measure}
 use Rattle.rule_sizes.specs.declared.Measure.the-variants.{Faulty}
-use Rattle.rule_sizes.specs.Meaning.{member}
+use Rattle.rule_sizes.specs.Meaning.{structMember}
 use Rattle.law_sizes.proofs.Fixed.{PartOf, form-alike, early}
 use Rattle.rule_ranges.specs.Pending.{sizeHolds, memberHolds, formHolds, holdsPending}
 use Rattle.rule_ranges.specs.Counts.{Counts, freshParts, freshStruct, countedArray, countedForm, formBy, measureBy}
@@ -74,14 +74,14 @@ module _ (fr : List ℕ) where
   -- PARTS ALIKE: the same is said of the type
 
   fresh-alike : (f g : TypeNumber → Measure) (first : MemberNumber) (k : ℕ)
-      → ((i : ℕ) → i < k → f (member fr first i .ty) ≡ g (member fr first i .ty))
+      → ((i : ℕ) → i < k → f (structMember fr first i .ty) ≡ g (structMember fr first i .ty))
       → freshParts fr (startsOf fr) f first k ≡ freshParts fr (startsOf fr) g first k
   unfolding freshParts
   fresh-alike f g first zero h = refl
   fresh-alike f g first (suc k) h = rw (fresh-alike f g first k (λ i l. h i (omega arith)), h k (omega arith))
 
   members-alike : (f g : TypeNumber → Bool) (first : MemberNumber) (k : ℕ)
-      → ((i : ℕ) → i < k → f (member fr first i .ty) ≡ g (member fr first i .ty))
+      → ((i : ℕ) → i < k → f (structMember fr first i .ty) ≡ g (structMember fr first i .ty))
       → memberHolds fr (startsOf fr) f first k ≡ memberHolds fr (startsOf fr) g first k
   unfolding memberHolds
   members-alike f g first zero h = refl

@@ -1,7 +1,7 @@
 -- One count raised by one. `array-steps`: an array over it grows by exactly its stride, or is 44. `struct-steps`: a
 -- struct with such arrays among its members, and no other member over that count, never shrinks, and grows by no more
 -- than the sum of their strides, each rounded up to the struct's alignment: each end before a member moves by a
--- multiple of that alignment, and rounding up moves it no further. Assumes nothing.
+-- multiple of that alignment, and rounding up moves it no further.
 use Prim.Native.Nat.{ℕ, zero, suc, _+_, _*_, _≤_, _<_}
 use native.Mathlib.Nat.{suc-mul}
 use native.Mathlib.Decide.{decLt}
@@ -23,11 +23,9 @@ use Rattle.rule_sizes.specs.declared.Alignment.{Alignment}
 use Rattle.rule_sizes.specs.declared.SizeFault.the-variants.{Unmeasured, Misplaced, Huge}
 use Rattle.rule_sizes.specs.declared.Measure.{Measure}
 use Rattle.rule_sizes.specs.declared.Measure.the-variants.{Fills, Faulty}
-use Rattle.rule_sizes.specs.declared.Parts.{Parts}
-use Rattle.rule_sizes.specs.declared.Parts.the-variants.{Laid, Broken}
 use Rattle.rule_sizes.specs.Wgsl.{bytes, isMultiple, roundUp, greater}
-use Rattle.rule_sizes.specs.Sizes.{arrayOf, joined, measureIn}
-use Rattle.rule_sizes.specs.Meaning.{member}
+use Rattle.rule_sizes.specs.Sizes.{Parts, Laid, Broken, arrayOf, joined, measureIn}
+use Rattle.rule_sizes.specs.Meaning.{structMember}
 use Rattle.law_sizes.proofs.Greatest.{greater-left, greater-right}
 use Rattle.law_sizes.proofs.Folded.{never}
 use Rattle.rule_ranges.specs.Pending.{holdsPending}
@@ -178,7 +176,7 @@ module _ (fr : List ℕ) (good : Good fr) (o : ItemNumber) (c d : Counts) (raise
     abbrev steps : ℕ → ℕ
     steps i = roundUp top (strides i)
 
-    ends-move : (k : ℕ) → ((i : ℕ) → i < k → Beside fr o (member fr first i .ty) (strides i))
+    ends-move : (k : ℕ) → ((i : ℕ) → i < k → Beside fr o (structMember fr first i .ty) (strides i))
         → (a b : Alignment) (e f : ℕ) (x y : Bool)
         → freshParts fr (startsOf fr) (at c) first k ≡ Laid a e x
         → freshParts fr (startsOf fr) (at d) first k ≡ Laid b f y → bytes a ≤ bytes top
@@ -195,7 +193,7 @@ module _ (fr : List ℕ) (good : Good fr) (o : ItemNumber) (c d : Counts) (raise
         let u = laid-from _ _ a e x p in
         let v = laid-from _ _ b f y q in
         let w = each k (omega arith) in
-        let n = member fr first k .ty in
+        let n = structMember fr first k .ty in
         let same = align-same n (u .align) (v .align) (u .size) (v .size) (u .fills) (v .fills) in
         let left : bytes (u .before) ≤ bytes a = rw (u .top) at (greater-left (u .before) (u .align)) in
         let right : bytes (u .align) ≤ bytes a = rw (u .top) at (greater-right (u .before) (u .align)) in
@@ -222,7 +220,7 @@ module _ (fr : List ℕ) (good : Good fr) (o : ItemNumber) (c d : Counts) (raise
 
   moved-by : (n : TypeNumber) (first : MemberNumber) (count span : ℕ)
       → typeAt fr n ≡ Tf.Known (Ti.Struct first count span)
-      → (strides : ℕ → ℕ) → ((i : ℕ) → i < count → Beside fr o (member fr first i .ty) (strides i))
+      → (strides : ℕ → ℕ) → ((i : ℕ) → i < count → Beside fr o (structMember fr first i .ty) (strides i))
       → (a b : Alignment) (y z : ℕ) → at c n ≡ Fills a y → at d n ≡ Fills b z → (x : Bool) → holds n ≡ x
       → z ≤ y + sum (λ i. roundUp a (strides i)) count
   moved-by n first count span e strides each a b y z h g false q =
@@ -243,7 +241,7 @@ module _ (fr : List ℕ) (good : Good fr) (o : ItemNumber) (c d : Counts) (raise
 
   pub struct-steps : (n : TypeNumber) (first : MemberNumber) (count span : ℕ)
       → typeAt fr n ≡ Tf.Known (Ti.Struct first count span) → (strides : ℕ → ℕ)
-      → ((i : ℕ) → i < count → Beside fr o (member fr first i .ty) (strides i)) → (a : Alignment) (y : ℕ)
+      → ((i : ℕ) → i < count → Beside fr o (structMember fr first i .ty) (strides i)) → (a : Alignment) (y : ℕ)
       → measureAt fr (startsOf fr) c n ≡ Fills a y
       → StepsTo a y (sum (λ i. roundUp a (strides i)) count) (measureAt fr (startsOf fr) d n)
   struct-steps n first count span e strides each a y h = go (at d n) refl

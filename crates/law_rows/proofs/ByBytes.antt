@@ -1,5 +1,6 @@
--- What a row of an accepted file shows, and a struct of it, by the bytes: the laws of rule/proofs/Named.antt with no range left to assume, and the family and
--- kind of each frame that is named. The ranges are what check 6 has of the row. Assumes nothing.
+-- What a row of an accepted file shows, and a struct of it, by the bytes: the laws of rule/proofs/Named.antt with no
+-- range left to assume, and the family and kind of each frame that is named. The ranges are what check 6 has of the
+-- row.
 use Prim.Native.Nat.{ℕ, _+_, _-_, _≤_, _<_}
 use native.Mathlib.Omega.{arith}
 use mathlib.Core.Path.{_≡_, sym, ap, _∙_, subst}
@@ -22,8 +23,11 @@ use Rattle.archive.specs.Names.{isType, isRow, rowFormNames}
 use Rattle.archive.specs.Access.{typeIn, rowIn}
 use Rattle.archive.proofs.Files.{row-names}
 use Rattle.rule.specs.Answers.{number}
-use Rattle.rule.specs.Things.{listed, Shown, constant, override, compose, functionArgument, globalVariable, localVariable, callResult, rayQueryVertexPositions, rayQueryGetIntersection, kind, form, see}
-use Rattle.rule.proofs.Named.{constant-named, override-named, global-named, local-named, function-named, argument-named, no-argument, intersection-named, no-intersection}
+use Rattle.rule.specs.Things.{listed, Shown, constant, override, compose, functionArgument, globalVariable}
+use Rattle.rule.specs.Things.{localVariable, callResult, rayQueryVertexPositions, rayQueryGetIntersection, kind, form}
+use Rattle.rule.specs.Things.{see}
+use Rattle.rule.proofs.Named.{constant-named, override-named, global-named, local-named, function-named, argument-named}
+use Rattle.rule.proofs.Named.{no-argument, intersection-named, no-intersection}
 use Rattle.rule.proofs.Named.{vertex-return-named, no-vertex-return, components-named, members-named}
 use Rattle.law_rows.proofs.Good.{Good, IsItem}
 use Rattle.law_rows.proofs.There.{IsMember, IsComponent, RowThere, TypeThere}
@@ -65,7 +69,8 @@ pub record RowByBytes (fr : List ℕ) (n : RowNumber) : Type 0 where
       → let k =
       startsOf fr .arguments + word (rowFrame fr n) 12 in
       ShowsItem fr n 4 k (functionArgument (word (rowFrame fr n) 12) (some (typeNamed fr k)))
-  pub no-arguments : byte (rowFrame fr n) 1 ≡ 10 → startsOf fr .locals - startsOf fr .arguments ≤ word (rowFrame fr n) 12
+  pub no-arguments : byte (rowFrame fr n) 1 ≡ 10
+      → startsOf fr .locals - startsOf fr .arguments ≤ word (rowFrame fr n) 12
       → see fr (kind n) ≡ some (functionArgument (word (rowFrame fr n) 12) none)
   -- a special type where there is one, else none
   pub intersections : byte (rowFrame fr n) 1 ≡ 30 → 0 < startsOf fr .«vertex_returns» - startsOf fr .intersections
@@ -73,7 +78,8 @@ pub record RowByBytes (fr : List ℕ) (n : RowNumber) : Type 0 where
   pub no-intersections : byte (rowFrame fr n) 1 ≡ 30 → startsOf fr .«vertex_returns» - startsOf fr .intersections ≤ 0
       → see fr (kind n) ≡ some (rayQueryGetIntersection none)
   pub vertex-returns : byte (rowFrame fr n) 1 ≡ 28 → 0 < startsOf fr .rows - startsOf fr .«vertex_returns»
-      → let k = startsOf fr .«vertex_returns» + 0 in ShowsItem fr n 8 k (rayQueryVertexPositions (some (typeNamed fr k)))
+      → let k = startsOf fr .«vertex_returns» + 0 in
+      ShowsItem fr n 8 k (rayQueryVertexPositions (some (typeNamed fr k)))
   pub no-vertex-returns : byte (rowFrame fr n) 1 ≡ 28 → startsOf fr .rows - startsOf fr .«vertex_returns» ≤ 0
       → see fr (kind n) ≡ some (rayQueryVertexPositions none)
   -- the components of a compose, each an earlier row's
@@ -98,7 +104,8 @@ pub record StructByBytes (fr : List ℕ) (n : TypeNumber) : Type 0 where
 
 module _ (fr : List ℕ) (good : Good fr) where
   module _ (n : RowNumber) (here : isRow (startsOf fr) n ≡ true) where
-    names-at : (b : ℕ) → byte (rowFrame fr n) 1 ≡ b → rowFormNames (startsOf fr) n (rowAs (rowKindOf b) (rowFrame fr n)) ≡ true
+    names-at : (b : ℕ) → byte (rowFrame fr n) 1 ≡ b → rowFormNames (startsOf fr) n (rowAs (rowKindOf b) (rowFrame fr n))
+        ≡ true
     unfolding rowOf
     names-at b e =
         let is = row-frame fr good n here in
@@ -111,23 +118,46 @@ module _ (fr : List ℕ) (good : Good fr) where
     unfolding rowIn rowOf
     there-at b e =
         let q : rowIn fr (startsOf fr) n ≡ rowOf (rowFrame fr n) = rw here in
-        subst (λ (x : RowForm). RowThere fr n x) (q ∙ ap (λ (x : ℕ). rowAs (rowKindOf x) (rowFrame fr n)) e) (row-named fr good n here)
+        subst (λ (x : RowForm). RowThere fr n x) (q ∙ ap (λ (x : ℕ). rowAs (rowKindOf x) (rowFrame fr n)) e)
+        (row-named fr good n here)
 
     -- ROWS
     pub row-by-bytes : RowByBytes fr n
     row-by-bytes =
         record {
-          constants = λ e. record { there = there-at 2 e; shows = constant-named fr (good .order) n here e (ltb-true _ _ (names-at 2 e)) };
-          overrides = λ e. record { there = there-at 3 e; shows = override-named fr (good .order) n here e (ltb-true _ _ (names-at 3 e)) };
-          globals = λ e. record { there = there-at 11 e; shows = global-named fr (good .order) n here e (ltb-true _ _ (names-at 11 e)) };
-          locals = λ e. record { there = there-at 12 e; shows = local-named fr (good .order) n here e (ltb-true _ _ (names-at 12 e)) };
+          constants = λ e. record {
+            there = there-at 2 e;
+            shows = constant-named fr (good .order) n here e
+                (ltb-true _ _ (names-at 2 e));
+          };
+          overrides = λ e. record {
+            there = there-at 3 e;
+            shows = override-named fr (good .order) n here e
+                (ltb-true _ _ (names-at 3 e));
+          };
+          globals = λ e. record {
+            there = there-at 11 e;
+            shows = global-named fr (good .order) n here e
+                (ltb-true _ _ (names-at 11 e));
+          };
+          locals = λ e. record {
+            there = there-at 12 e;
+            shows = local-named fr (good .order) n here e
+                (ltb-true _ _ (names-at 12 e));
+          };
           functions =
-              λ e. record { there = there-at 24 e; shows = function-named fr (good .order) n here e (ltb-true _ _ (names-at 24 e)) };
+              λ e. record {
+                there = there-at 24 e;
+                shows = function-named fr (good .order) n here e
+                    (ltb-true _ _ (names-at 24 e));
+              };
           arguments = λ e l. record { there = there-at 10 e l; shows = argument-named fr (good .order) n here e l };
           no-arguments = λ e l. no-argument fr (good .order) n here e l;
-          intersections = λ e l. record { there = there-at 30 e l; shows = intersection-named fr (good .order) n here e l };
+          intersections = λ e l.
+              record { there = there-at 30 e l; shows = intersection-named fr (good .order) n here e l };
           no-intersections = λ e l. no-intersection fr (good .order) n here e l;
-          vertex-returns = λ e l. record { there = there-at 28 e l; shows = vertex-return-named fr (good .order) n here e l };
+          vertex-returns = λ e l.
+              record { there = there-at 28 e l; shows = vertex-return-named fr (good .order) n here e l };
           no-vertex-returns = λ e l. no-vertex-return fr (good .order) n here e l;
           composes = λ e. components-named fr (good .order) n here e;
           components = λ e. there-at 5 e .1;
@@ -142,7 +172,8 @@ module _ (fr : List ℕ) (good : Good fr) where
       record {
         shows = λ e. members-named fr (good .order) n here e;
         members =
-            λ e. subst (λ (x : TypeForm). TypeThere fr n x) (q ∙ ap (λ (x : ℕ). typeAs (typeKindOf x) f) e) (type-named fr good n here);
+            λ e. subst (λ (x : TypeForm). TypeThere fr n x) (q ∙ ap (λ (x : ℕ). typeAs (typeKindOf x) f) e)
+            (type-named fr good n here);
       }
 
 -- ONE LAW of every accepted file: what its rows and types name is there, and shown by the bytes
@@ -154,4 +185,10 @@ pub record AllNamed (fr : List ℕ) : Type 0 where
 
 pub all-named : (fr : List ℕ) → Good fr → AllNamed fr
 all-named fr good =
-    record { types = type-named fr good; structs = struct-by-bytes fr good; rows = row-named fr good; bytes = row-by-bytes fr good }
+    record {
+      types = type-named fr good;
+      structs = struct-by-bytes fr good;
+      rows = row-named fr good;
+      bytes
+          = row-by-bytes fr good;
+    }

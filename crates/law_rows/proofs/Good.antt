@@ -1,5 +1,5 @@
--- A file whose frames pass checks 4 to 6, and the family and kind of the frames that numbers and ranges lead to: ranks rise, so the frames from one
--- start up to the next are of one family, and items of one kind. Assumes nothing.
+-- A file whose frames pass checks 4 to 6, and the family and kind of the frames that numbers and ranges lead to: ranks
+-- rise, so the frames from one start up to the next are of one family, and items of one kind.
 use Prim.Native.Nat.{ℕ, _+_, _*_, _≤_, _<_}
 use native.Mathlib.Omega.{arith}
 use mathlib.Core.Path.{_≡_, refl, ap}
@@ -20,7 +20,7 @@ use Rattle.archive.proofs.Checked.{Holds, accepted-when}
 use Rattle.archive.proofs.Ranks.{begins}
 use Rattle.archive.proofs.Files.{from-start}
 
--- the frames of an accepted file: every frame meets checks 4, 5 and 6 (`Accepts`, rule_file/proofs/Laws.antt)
+-- the frames of an accepted file: every frame meets checks 4, 5 and 6 (`Accepts`, law_file/proofs/Laws.antt)
 pub record Good (fr : List ℕ) : Type 0 where
   pub order : Holds orderOk fr
   pub fields : Holds fieldOk fr
@@ -58,9 +58,11 @@ pub record RankOfOther (f : Frame) : Type 0 where
   pub rank : rankOf f ≡ 256 * f .b0
 
 by-rank : (Q : Type 0) (f : Frame) → isKnown f ≡ true → (RankOfItem f → Q) → (RankOfOther f → Q) → Q
-by-rank Q f known item other = go (eqb (f .b0) 3) refl (and-first _ _ known) (and-second (leb 1 (f .b0) && ltb (f .b0) 6) _ known)
+by-rank Q f known item other = go (eqb (f .b0) 3) refl (and-first _ _ known)
+    (and-second (leb 1 (f .b0) && ltb (f .b0) 6) _ known)
   where
-    go : (e : Bool) → eqb (f .b0) 3 ≡ e → (leb 1 (f .b0) && ltb (f .b0) 6) ≡ true → (not e || (leb 1 (f .b1) && ltb (f .b1) 9)) ≡ true → Q
+    go : (e : Bool) → eqb (f .b0) 3 ≡ e → (leb 1 (f .b0) && ltb (f .b0) 6) ≡ true
+        → (not e || (leb 1 (f .b1) && ltb (f .b1) 9)) ≡ true → Q
     go true q a b =
         item (record {
           is = eqb-true _ _ q;
@@ -86,14 +88,22 @@ module _ (fr : List ℕ) (good : Good fr) where
   type-at k h =
       let w : k < frameCount fr = omega (arith, begins fr 512 .within) in
       let r = begins fr 512 .lower k h in
-      record { within = w; family-is = by-rank _ (frameAt fr k) (known-at k w) (λ i. absurd (omega arith)) (λ o. omega arith) }
+      record {
+        within = w;
+        family-is = by-rank _ (frameAt fr k) (known-at k w) (λ i. absurd (omega arith))
+            (λ o. omega arith);
+      }
 
   pub member-at : (k : ℕ) → start fr 512 ≤ k → k < start fr 769 → OfFamily fr 2 k
   member-at k l h =
       let w : k < frameCount fr = omega (arith, begins fr 769 .within) in
       let r = begins fr 769 .lower k h in
       let q = from-start fr (good .order) 512 k w .0 l in
-      record { within = w; family-is = by-rank _ (frameAt fr k) (known-at k w) (λ i. absurd (omega arith)) (λ o. omega arith) }
+      record {
+        within = w;
+        family-is = by-rank _ (frameAt fr k) (known-at k w) (λ i. absurd (omega arith))
+            (λ o. omega arith);
+      }
 
   -- the items of kind j stand before those of the next kind, and those of the last kind before the rows
   pub item-at : (j k : ℕ) → 1 ≤ j → j ≤ 7 → start fr (768 + j) ≤ k → k < start fr (769 + j) → IsItem fr j k
@@ -123,9 +133,17 @@ module _ (fr : List ℕ) (good : Good fr) where
       let w : k < frameCount fr = omega (arith, begins fr 1280 .within) in
       let r = begins fr 1280 .lower k h in
       let q = from-start fr (good .order) 1024 k w .0 l in
-      record { within = w; family-is = by-rank _ (frameAt fr k) (known-at k w) (λ i. absurd (omega arith)) (λ o. omega arith) }
+      record {
+        within = w;
+        family-is = by-rank _ (frameAt fr k) (known-at k w) (λ i. absurd (omega arith))
+            (λ o. omega arith);
+      }
 
   pub component-at : (k : ℕ) → start fr 1280 ≤ k → k < frameCount fr → OfFamily fr 5 k
   component-at k l w =
       let q = from-start fr (good .order) 1280 k w .0 l in
-      record { within = w; family-is = by-rank _ (frameAt fr k) (known-at k w) (λ i. absurd (omega arith)) (λ o. omega arith) }
+      record {
+        within = w;
+        family-is = by-rank _ (frameAt fr k) (known-at k w) (λ i. absurd (omega arith))
+            (λ o. omega arith);
+      }

@@ -1,4 +1,4 @@
--- What each rule makes of types in range is in range. By the selectors and the cases that rules are made of. Assumes nothing.
+-- What each rule makes of types in range is in range. By the selectors and the cases that rules are made of.
 use Prim.Native.Nat.{ℕ}
 use mathlib.Core.Path.{_≡_, refl, ap}
 use mathlib.Core.Bool.{true}
@@ -39,7 +39,8 @@ use Rattle.rule.specs.Answers.{TypeAnswer, value, Typed, given, refused}
 use Rattle.rule.specs.Things.{inRange}
 use Rattle.rule_rows.specs.declared.Pass.{Pass}
 use Rattle.rule_rows.specs.declared.Pass.the-variants as Pa
-use Rattle.rule_rows.specs.Access.{accessComponent, accessInto, accessThrough, bounded, member, memberPointer, indexComponent, indexInto, indexThrough, splatOf, swizzleOf}
+use Rattle.rule_rows.specs.Access.{accessComponent, accessInto, accessThrough, bounded, member, memberPointer}
+use Rattle.rule_rows.specs.Access.{indexComponent, indexInto, indexThrough, splatOf, swizzleOf}
 use Rattle.ir.specs.TypeMethods.{valueBase}
 use Rattle.ir.specs.declared.OptionScalar.{OptionScalar}
 use Rattle.ir.specs.declared.OptionScalar.the-variants as Os
@@ -50,8 +51,10 @@ use Rattle.rule_rows.specs.Wgsl.{wgslResult}
 use Rattle.rule_rows.specs.Operators.{timesScalar, product, orMismatch, boolsOf, logicalOf, castOf}
 use Rattle.rule_rows.proofs.Wgsl.{wgsl-is}
 use Rattle.rule_rows.specs.Results.{resultOf, special, cooperativeOf}
-use Rattle.law_rows.proofs.Ranged.{Each, IfSome, TypeInRange, isRefusal, TypedInRange, BaseInRange, refusal-number}
-use Rattle.law_rows.proofs.Selected.{by-scalar, by-vector, by-matrix, by-cooperative-matrix, by-atomic, by-value-pointer, by-image, by-struct, by-array, by-binding-array}
+use Rattle.law_rows.proofs.Ranged.{Each, IfSome, TypeInRange, isRefusal, TypedInRange, BaseInRange}
+use Rattle.law_rows.proofs.Ranged.{refusal-number}
+use Rattle.law_rows.proofs.Selected.{by-scalar, by-vector, by-matrix, by-cooperative-matrix, by-atomic}
+use Rattle.law_rows.proofs.Selected.{by-value-pointer, by-image, by-struct, by-array, by-binding-array}
 use Rattle.law_rows.proofs.Seen.{each-at}
 
 module _ (pass : Pass) (s : Starts) where
@@ -73,15 +76,18 @@ module _ (pass : Pass) (s : Starts) where
   pub matrix-in : (c r : VectorSize) (k : Scalar) → In (given (value (Ti.Matrix c r k)))
   matrix-in c r k = (refl, refl)
 
-  pub cooperative-in : (c r : CooperativeSize) (k : Scalar) (o : CooperativeRole) → In (given (value (Ti.CooperativeMatrix c r k o)))
+  pub cooperative-in : (c r : CooperativeSize) (k : Scalar) (o : CooperativeRole)
+      → In (given (value (Ti.CooperativeMatrix c r k o)))
   cooperative-in c r k o = (refl, refl)
 
-  pub value-pointer-in : (z : OptionVectorSize) (k : Scalar) (p : AddressSpace) → In (given (value (Ti.ValuePointer z k p)))
+  pub value-pointer-in : (z : OptionVectorSize) (k : Scalar) (p : AddressSpace)
+      → In (given (value (Ti.ValuePointer z k p)))
   value-pointer-in z k p = (refl, refl)
 
   -- ACCESS
 
-  pub access-component : (base : RowNumber) (k : Scalar) (p : AddressSpace) (z : OptionVectorSize) → In (accessComponent base k p z)
+  pub access-component : (base : RowNumber) (k : Scalar) (p : AddressSpace) (z : OptionVectorSize)
+      → In (accessComponent base k p z)
   access-component base k p (Ov.Some z) = value-pointer-in Ov.None k p
   access-component base k p Ov.None = no-type _ refl
 
@@ -94,7 +100,8 @@ module _ (pass : Pass) (s : Starts) where
       (by-binding-array s In t w (λ b h. h)
       (no-type _ refl)))))
 
-  pub access-through : (base : TypeNumber) (p : AddressSpace) (t : TypeInner) → BaseInRange s t → In (accessThrough base p t)
+  pub access-through : (base : TypeNumber) (p : AddressSpace) (t : TypeInner) → BaseInRange s t
+      → In (accessThrough base p t)
   access-through base p t w =
       by-array s In t w (λ b h. pointer-in b p h)
       (by-vector In t (λ z k. value-pointer-in Ov.None k p)
@@ -107,17 +114,21 @@ module _ (pass : Pass) (s : Starts) where
   pub bounded-in : (base : RowNumber) (i bound : ℕ) (a : TypeAnswer) → TypeInRange s a → In (bounded base i bound a)
   bounded-in base i bound a h = by-test In (ltb i bound) (λ q. h) (λ q. no-type _ refl)
 
-  pub member-in : (base : RowNumber) (i : ℕ) (t : Option TypeNumber) → IfSome (λ t. isType s t ≡ true) t → In (member base i t)
+  pub member-in : (base : RowNumber) (i : ℕ) (t : Option TypeNumber) → IfSome (λ t. isType s t ≡ true) t
+      → In (member base i t)
   member-in base i (some t) h = h
   member-in base i none h = no-type _ refl
 
-  pub member-pointer : (base : RowNumber) (i : ℕ) (p : AddressSpace) (t : Option TypeNumber) → IfSome (λ t. isType s t ≡ true) t
+  pub member-pointer : (base : RowNumber) (i : ℕ) (p : AddressSpace) (t : Option TypeNumber)
+      → IfSome (λ t. isType s t ≡ true) t
       → In (memberPointer base i p t)
   member-pointer base i p (some t) h = pointer-in t p h
   member-pointer base i p none h = no-type _ refl
 
-  pub index-component : (base : RowNumber) (i : ℕ) (k : Scalar) (p : AddressSpace) (z : OptionVectorSize) → In (indexComponent base i k p z)
-  index-component base i k p (Ov.Some z) = bounded-in base i _ (value (Ti.ValuePointer Ov.None k p)) (value-pointer-in Ov.None k p)
+  pub index-component : (base : RowNumber) (i : ℕ) (k : Scalar) (p : AddressSpace) (z : OptionVectorSize)
+      → In (indexComponent base i k p z)
+  index-component base i k p (Ov.Some z) = bounded-in base i _ (value (Ti.ValuePointer Ov.None k p))
+      (value-pointer-in Ov.None k p)
   index-component base i k p Ov.None = no-type _ refl
 
   pub index-into : (base : RowNumber) (i : ℕ) (members : List TypeNumber) (t : TypeInner) → BaseInRange s t
@@ -131,13 +142,15 @@ module _ (pass : Pass) (s : Starts) where
       (by-binding-array s In t w (λ b h. h)
       (no-type _ refl))))))
 
-  pub index-through : (base : RowNumber) (i : ℕ) (ty : TypeNumber) (p : AddressSpace) (members : List TypeNumber) (t : TypeInner)
+  pub index-through : (base : RowNumber) (i : ℕ) (ty : TypeNumber) (p : AddressSpace) (members : List TypeNumber)
+      (t : TypeInner)
       → BaseInRange s t → Each (λ t. isType s t ≡ true) members
       → In (indexThrough base i ty p members t)
   index-through base i ty p members t w all =
       by-array s In t w (λ b h. pointer-in b p h)
       (by-vector In t (λ z k. bounded-in base i _ (value (Ti.ValuePointer Ov.None k p)) (value-pointer-in Ov.None k p))
-      (by-matrix In t (λ c r k. bounded-in base i _ (value (Ti.ValuePointer (Ov.Some r) k p)) (value-pointer-in (Ov.Some r) k p))
+      (by-matrix In t (λ c r k. bounded-in base i _ (value (Ti.ValuePointer (Ov.Some r) k p))
+      (value-pointer-in (Ov.Some r) k p))
       (by-struct In t (member-pointer base i p (getElem? members i) (each-at _ members i all))
       (by-binding-array s In t w (λ b h. pointer-in b p h)
       (no-type _ refl)))))
@@ -218,21 +231,25 @@ module _ (pass : Pass) (s : Starts) where
 
   pub product-in : (a b : TypeAnswer) (x y : TypeInner) → TypeInRange s a → TypeInRange s b → In (product a b x y)
   product-in a b x y g h =
-      by-matrix In x (λ c r k. by-matrix In y (λ d q j. matrix-in d r k) (by-vector In y (λ z j. vector-in r k) (times-scalar a y g)))
+      by-matrix In x (λ c r k. by-matrix In y (λ d q j. matrix-in d r k)
+      (by-vector In y (λ z j. vector-in r k) (times-scalar a y g)))
       (by-vector In x (λ z k. by-matrix In y (λ d q j. vector-in d j) (by-vector In y (λ z j. g) (times-scalar a y g)))
       (by-scalar In x (λ k. h)
-      (by-cooperative-matrix In x (λ c r k o. by-cooperative-matrix In y (λ d q j w. cooperative-in d r k o) (times-scalar a y g))
+      (by-cooperative-matrix In x
+      (λ c r k o. by-cooperative-matrix In y (λ d q j w. cooperative-in d r k o) (times-scalar a y g))
       (times-scalar a y g))))
 
   pub bools-of : (t : TypeInner) → In (boolsOf t)
   bools-of t = by-scalar In t (λ k. scalar-in BOOL) (by-vector In t (λ z k. vector-in z BOOL) (no-type _ refl))
 
   pub logical-of : (t : TypeInner) → In (logicalOf t)
-  logical-of t = by-scalar In t (λ k. by-test In (equalScalars k BOOL) (λ q. scalar-in BOOL) (λ q. no-type _ refl)) (no-type _ refl)
+  logical-of t = by-scalar In t (λ k. by-test In (equalScalars k BOOL) (λ q. scalar-in BOOL) (λ q. no-type _ refl))
+      (no-type _ refl)
 
   pub cast-of : (to : ScalarKind) (convert : OptionBytes) (t : TypeInner) → In (castOf to convert t)
   cast-of to convert t =
-      by-scalar In t (λ k. scalar-in k) (by-vector In t (λ z k. vector-in z k) (by-matrix In t (λ c r k. matrix-in c r k) (no-type _ refl)))
+      by-scalar In t (λ k. scalar-in k)
+      (by-vector In t (λ z k. vector-in z k) (by-matrix In t (λ c r k. matrix-in c r k) (no-type _ refl)))
 
   -- RESULTS
 

@@ -1,5 +1,5 @@
--- In an accepted file what each row and each type names is there: check 6 has the numbers and the ranges, and the starts have the families. By the kinds
--- of rows and types. Assumes nothing.
+-- In an accepted file what each row and each type names is there: check 6 has the numbers and the ranges, and the
+-- starts have the families. By the kinds of rows and types.
 use Prim.Native.Nat.{ℕ, _+_, _-_, _≤_, _<_}
 use native.Mathlib.Decide.{decLt}
 use native.Mathlib.Omega.{arith}
@@ -29,7 +29,8 @@ use Rattle.archive.specs.Names.{isType, isRow, typeFormNames, rowFormNames}
 use Rattle.archive.specs.Parts.{isCompose, heldBy, membersOf, componentsOf}
 use Rattle.archive.specs.Access.{typeIn, rowIn}
 use Rattle.archive.proofs.Files.{type-names, row-names, part-early}
-use Rattle.law_rows.proofs.Good.{Good, OfFamily, IsItem, type-at, member-at, item-at, last-item-at, row-at, component-at}
+use Rattle.law_rows.proofs.Good.{Good, OfFamily, IsItem, type-at, member-at, item-at, last-item-at, row-at}
+use Rattle.law_rows.proofs.Good.{component-at}
 use Rattle.law_rows.proofs.There.{IsMember, IsComponent, TypeThere, RowThere}
 
 never : {X : Type 0} → _≡_ {A = ℕ} 0 1 → X
@@ -54,12 +55,15 @@ both : (a b : Bool) → a ≡ true → b ≡ true → (a && b) ≡ true
 both a b p q = rw (p, q)
 
 -- a struct holds its members, and a compose its components
-struct-holds : (s : Starts) (o : ℕ) (f : Frame) → f .b0 ≡ 1 → f .b1 ≡ 9 → heldBy s o f ≡ membersOf s (record { 0 = o }) f
+struct-holds : (s : Starts) (o : ℕ) (f : Frame) → f .b0 ≡ 1 → f .b1 ≡ 9 → heldBy s o f
+    ≡ membersOf s (record { 0 = o }) f
 struct-holds s o f a b =
-    ap (λ (c : Bool). cond c (membersOf s (record { 0 = o }) f) (cond (isCompose f) (componentsOf s (record { 0 = o - s .rows }) f) He.Nothing))
+    ap (λ (c : Bool). cond c (membersOf s (record { 0 = o }) f)
+    (cond (isCompose f) (componentsOf s (record { 0 = o - s .rows }) f) He.Nothing))
     (both _ _ (eq-eqb _ _ a) (eq-eqb _ _ b))
 
-compose-holds : (s : Starts) (o : ℕ) (f : Frame) → f .b0 ≡ 4 → f .b1 ≡ 5 → heldBy s o f ≡ componentsOf s (record { 0 = o - s .rows }) f
+compose-holds : (s : Starts) (o : ℕ) (f : Frame) → f .b0 ≡ 4 → f .b1 ≡ 5 → heldBy s o f
+    ≡ componentsOf s (record { 0 = o - s .rows }) f
 compose-holds s o f a b = rw (a, b)
 
 module _ (fr : List ℕ) (good : Good fr) where
@@ -68,7 +72,8 @@ module _ (fr : List ℕ) (good : Good fr) where
     abbrev of-type : Frame
     of-type = frameAt fr (n .0)
 
-    member-there : typeKindOf (byte of-type 1) ≡ Tk.Struct → half of-type 2 + half of-type 4 ≤ startsOf fr .constants - startsOf fr .members
+    member-there : typeKindOf (byte of-type 1) ≡ Tk.Struct
+        → half of-type 2 + half of-type 4 ≤ startsOf fr .constants - startsOf fr .members
         → (i : ℕ) → i < half of-type 4 → IsMember fr n (startsOf fr .members + half of-type 2 + i)
     unfolding startsOf
     member-there e fits i l =
@@ -77,10 +82,12 @@ module _ (fr : List ℕ) (good : Good fr) where
         record {
           frame = frame;
           early = ltb-true _ _ (part-early fr (good .index) k (frame .within) (n .0) _ _ (Ow.Struct n) (is .within)
-              (struct-holds (startsOf fr) (n .0) of-type (is .family-is) (struct-byte _ e)) (omega arith) (omega arith));
+              (struct-holds (startsOf fr) (n .0) of-type (is .family-is) (struct-byte _ e)) (omega arith)
+              (omega arith));
         }
 
-    type-there : (k : TypeKind) → typeKindOf (byte of-type 1) ≡ k → typeFormNames (startsOf fr) n (typeAs k of-type) ≡ true
+    type-there : (k : TypeKind) → typeKindOf (byte of-type 1) ≡ k → typeFormNames (startsOf fr) n (typeAs k of-type)
+        ≡ true
         → TypeThere fr n (typeAs k of-type)
     type-there Tk.Unknown e h = tt
     type-there Tk.Scalar e h = tt
@@ -105,14 +112,16 @@ module _ (fr : List ℕ) (good : Good fr) where
       let is = type-at fr good (n .0) (ltb-true _ _ here) in
       let f = frameAt fr (n .0) in
       let q : typeIn fr (startsOf fr) n ≡ typeOf f = rw here in
-      rw q (type-there n is (typeKindOf (byte f 1)) refl (type-names fr (good .index) (n .0) (is .within) (is .family-is)))
+      rw q (type-there n is (typeKindOf (byte f 1)) refl
+      (type-names fr (good .index) (n .0) (is .within) (is .family-is)))
 
   -- ROWS
   module _ (n : RowNumber) (is : OfFamily fr 4 (startsOf fr .rows + n .0)) where
     abbrev of-row : Frame
     of-row = frameAt fr (startsOf fr .rows + n .0)
 
-    component-there : rowKindOf (byte of-row 1) ≡ Rk.Compose → word of-row 12 + half of-row 4 ≤ startsOf fr .end - startsOf fr .components
+    component-there : rowKindOf (byte of-row 1) ≡ Rk.Compose
+        → word of-row 12 + half of-row 4 ≤ startsOf fr .end - startsOf fr .components
         → (i : ℕ) → i < half of-row 4 → IsComponent fr n (startsOf fr .components + word of-row 12 + i)
     unfolding startsOf
     component-there e fits i l =
@@ -120,12 +129,14 @@ module _ (fr : List ℕ) (good : Good fr) where
         let frame = component-at fr good k (omega arith) (omega arith) in
         let o = startsOf fr .rows + n .0 in
         let early : componentOf (frameAt fr k) .0 < o - startsOf fr .rows = ltb-true _ _
-        (part-early fr (good .index) k (frame .within) o _ _ (Ow.Compose (record { 0 = o - startsOf fr .rows })) (is .within)
+        (part-early fr (good .index) k (frame .within) o _ _ (Ow.Compose (record { 0 = o - startsOf fr .rows }))
+        (is .within)
         (compose-holds (startsOf fr) o of-row (is .family-is) (compose-byte _ e)) (omega arith) (omega arith)) in
         record { frame = frame; early = omega arith }
 
     -- item i of kind j, whose family begins at its own start and ends at the next one
-    item-there : (j i : ℕ) → 1 ≤ j → j ≤ 7 → i < start fr (769 + j) - start fr (768 + j) → IsItem fr j (start fr (768 + j) + i)
+    item-there : (j i : ℕ) → 1 ≤ j → j ≤ 7 → i < start fr (769 + j) - start fr (768 + j)
+        → IsItem fr j (start fr (768 + j) + i)
     item-there j i a b l = item-at fr good j _ a b (omega arith) (omega arith)
 
     row-there : (k : RowKind) → rowKindOf (byte of-row 1) ≡ k → rowFormNames (startsOf fr) n (rowAs k of-row) ≡ true
@@ -136,8 +147,11 @@ module _ (fr : List ℕ) (good : Good fr) where
     row-there Rk.Constant e h = item-there 1 _ (omega arith) (omega arith) (ltb-true _ _ h)
     row-there Rk.Override e h = item-there 2 _ (omega arith) (omega arith) (ltb-true _ _ h)
     row-there Rk.ZeroValue e h = h
-    row-there Rk.Compose e h =
-        (and-first _ _ h, component-there e (leb-true _ _ (and-second (isType (startsOf fr) (record { 0 = half of-row 2 })) _ h)))
+    row-there Rk.Compose e h = (
+      and-first _ _ h,
+      component-there e
+          (leb-true _ _ (and-second (isType (startsOf fr) (record { 0 = half of-row 2 })) _ h)),
+    )
     row-there Rk.Access e h = ltb-true _ _ h
     row-there Rk.AccessIndex e h = ltb-true _ _ h
     row-there Rk.Splat e h = ltb-true _ _ h
@@ -150,7 +164,8 @@ module _ (fr : List ℕ) (good : Good fr) where
     row-there Rk.ImageLoad e h = ltb-true _ _ h
     row-there Rk.ImageQuery e h = h
     row-there Rk.Unary e h = ltb-true _ _ h
-    row-there Rk.Binary e h = (ltb-true _ _ (and-first _ _ h), ltb-true _ _ (and-second (ltb (half of-row 2) (n .0)) _ h))
+    row-there Rk.Binary e h =
+        (ltb-true _ _ (and-first _ _ h), ltb-true _ _ (and-second (ltb (half of-row 2) (n .0)) _ h))
     row-there Rk.Select e h = ltb-true _ _ h
     row-there Rk.Derivative e h = ltb-true _ _ h
     row-there Rk.Relational e h = h
@@ -172,7 +187,8 @@ module _ (fr : List ℕ) (good : Good fr) where
   pub row-frame : (n : RowNumber) → isRow (startsOf fr) n ≡ true → OfFamily fr 4 (startsOf fr .rows + n .0)
   unfolding startsOf
   row-frame n here =
-      let l : n .0 < startsOf fr .components - startsOf fr .rows = ltb-true _ _ here in row-at fr good _ (omega arith) (omega arith)
+      let l : n .0 < startsOf fr .components - startsOf fr .rows = ltb-true _ _ here in
+      row-at fr good _ (omega arith) (omega arith)
 
   -- every row of the file: what it names is there
   pub row-named : (n : RowNumber) → isRow (startsOf fr) n ≡ true → RowThere fr n (rowIn fr (startsOf fr) n)

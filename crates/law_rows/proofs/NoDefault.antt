@@ -1,5 +1,6 @@
--- No default is an answer: in an accepted file no reading comes to a number out of range, a row not yet typed or a malformed frame. Row by row, since every
--- rule keeps within the file; and the operands of the table are what check 6 has as earlier rows. Assumes nothing.
+-- No default is an answer: in an accepted file no reading comes to a number out of range, a row not yet typed or a
+-- malformed frame. Row by row, since every rule keeps within the file; and the operands of the table are what check 6
+-- has as earlier rows.
 use Prim.Native.Nat.{ℕ, _≤_, _<_}
 use native.Mathlib.Omega.{arith}
 use mathlib.Core.Path.{_≡_, refl}
@@ -46,7 +47,8 @@ steps-later : (fr : List ℕ) (m n : ℕ) → m ≤ n → (l : List Step) → Ea
 steps-later fr m n w [] h = tt
 steps-later fr m n w (step p c ∷ l) h = ((place-later m n w p (h .0 .0), h .0 .1), steps-later fr m n w l (h .1))
 
-reading-later : (pass : Pass) (fr : List ℕ) (m n : ℕ) → m ≤ n → (r : Reading Typed) → ReadingInRange pass fr m r → ReadingInRange pass fr n r
+reading-later : (pass : Pass) (fr : List ℕ) (m n : ℕ) → m ≤ n → (r : Reading Typed) → ReadingInRange pass fr m r
+    → ReadingInRange pass fr n r
 reading-later pass fr m n w r h = record { steps = steps-later fr m n w (r .steps) (h .steps); end = h .end }
 
 module _ (pass : Pass) (fr : List ℕ) (m : ℕ) where
@@ -56,16 +58,19 @@ module _ (pass : Pass) (fr : List ℕ) (m : ℕ) where
   kept (step p c ∷ l) h = (h .0, kept l (h .1))
 
   -- followed over earlier readings that are in range, a rule that keeps within the file has a reading in range
-  follows : (earlier : Readings) → ((n : RowNumber) → n .0 < m → ReadingInRange pass fr m (earlier n)) → {rule : Rule Typed} → Within pass fr m rule
+  follows : (earlier : Readings) → ((n : RowNumber) → n .0 < m → ReadingInRange pass fr m (earlier n))
+      → {rule : Rule Typed} → Within pass fr m rule
       → ReadingInRange pass fr m (follow (see fr) earlier rule)
   follows earlier all (ends h) = record { steps = tt; end = h }
   follows earlier all (comes p c {k} place there next) = go (see fr c) refl (λ s q. follows earlier all (next s q))
     where
-      go : (o : Option (Seen c)) → see fr c ≡ o → ((s : Seen c) → see fr c ≡ some s → ReadingInRange pass fr m (follow (see fr) earlier (k s)))
+      go : (o : Option (Seen c)) → see fr c ≡ o
+          → ((s : Seen c) → see fr c ≡ some s → ReadingInRange pass fr m (follow (see fr) earlier (k s)))
           → ReadingInRange pass fr m (follow (see fr) earlier (come p c k))
       go none q ih = rw (q, follow) (record { steps = ((place, there), tt); end = tt })
       go (some s) q ih = rw (q, follow) (record { steps = ((place, there), ih s q .steps); end = ih s q .end })
-  follows earlier all (Ranged.reads {n} {k} l next) = go (earlier n .end) refl (all n l .end) (λ t h. follows earlier all (next t h))
+  follows earlier all (Ranged.reads {n} {k} l next) = go (earlier n .end) refl (all n l .end)
+      (λ t h. follows earlier all (next t h))
     where
       own : Each (StepInRange fr m) (placed (λ p. p) (earlier n .steps))
       own = kept (earlier n .steps) (all n l .steps)
@@ -76,33 +81,41 @@ module _ (pass : Pass) (fr : List ℕ) (m : ℕ) where
       go none q h ih = rw (q, follow) (record { steps = own; end = tt })
       go (some t) q h ih =
           rw (q, follow)
-          (record
-          { steps = each-append (StepInRange fr m) (placed (λ p. p) (earlier n .steps)) (follow (see fr) earlier (k t) .steps) own (ih t h .steps); end = ih t h .end })
+          (record {
+            steps = each-append (StepInRange fr m) (placed (λ p. p) (earlier n .steps))
+                (follow (see fr) earlier (k t) .steps) own (ih t h .steps);
+            end = ih t h .end;
+          })
 
 -- NO READING COMES TO A DEFAULT: the reading of every row is in range
 pub no-default : (pass : Pass) (fr : List ℕ) → Good fr → (n : ℕ) → n ≤ rowCount (startsOf fr) → (m : ℕ) → m < n
     → ReadingInRange pass fr m (getD (readings (see fr) (typing pass) n) m (record { steps = []; end = some absent }))
 no-default pass fr good =
-    in-order-all (ReadingInRange pass fr) (λ earlier m. follow (see fr) (amongReadings earlier) (typing pass m)) (record {
+    in-order-all (ReadingInRange pass fr) (λ earlier m. follow (see fr) (amongReadings earlier) (typing pass m))
+    (record {
       steps =
           [];
       end = some absent;
     }) (rowCount (startsOf fr))
     (λ n l w all.
-    follows pass fr n (amongReadings l) (λ r q. reading-later pass fr (r .0) n (omega arith) (amongReadings l r) (all (r .0) q))
+    follows pass fr n (amongReadings l)
+    (λ r q. reading-later pass fr (r .0) n (omega arith) (amongReadings l r) (all (r .0) q))
     (rule-keeps pass fr good n (row-there fr n w)))
 
 -- and so of the readings that a rule over the first n rows comes to
-pub earlier-in-range : (pass : Pass) (fr : List ℕ) → Good fr → (n : ℕ) → n ≤ rowCount (startsOf fr) → (r : RowNumber) → r .0 < n
+pub earlier-in-range : (pass : Pass) (fr : List ℕ) → Good fr → (n : ℕ) → n ≤ rowCount (startsOf fr) → (r : RowNumber)
+    → r .0 < n
     → ReadingInRange pass fr n (amongReadings (readings (see fr) (typing pass) n) r)
 earlier-in-range pass fr good n w r q =
-    reading-later pass fr (r .0) n (omega arith) (amongReadings (readings (see fr) (typing pass) n) r) (no-default pass fr good n w (r .0) q)
+    reading-later pass fr (r .0) n (omega arith) (amongReadings (readings (see fr) (typing pass) n) r)
+    (no-default pass fr good n w (r .0) q)
 
 -- and of the reading that the claim on later readers speaks of
 pub reading-in-range : (pass : Pass) (fr : List ℕ) → Good fr → (n : ℕ) → n < rowCount (startsOf fr)
     → Each (StepInRange fr n) (reading (see fr) (typing pass) n (typing pass n))
 reading-in-range pass fr good n w =
-    follows pass fr n (amongReadings (readings (see fr) (typing pass) n)) (earlier-in-range pass fr good n (omega arith))
+    follows pass fr n (amongReadings (readings (see fr) (typing pass) n))
+    (earlier-in-range pass fr good n (omega arith))
     (rule-keeps pass fr good n (row-there fr n w)) .steps
 
 -- OPERANDS
@@ -190,15 +203,19 @@ module _ (pass : Pass) (fr : List ℕ) (n : RowNumber) where
   shown-earlier (Row.cooperativeLoad c r o m) h = (h, tt)
   shown-earlier (Row.cooperativeMultiplyAdd m) h = (h, tt)
 
-  -- every operand that a row of the file reads is an earlier row; that the readings are the table's is `file-reads` (Reading.antt)
+  -- every operand that a row of the file reads is an earlier row; that the readings are the table's is `file-reads`
+  -- (Reading.antt)
   pub operands-earlier : Good fr → isRow (startsOf fr) n ≡ true → (x : Shown) → see fr (kind n) ≡ some x
       → Earlier n (reads pass x .operands)
   operands-earlier good here x q = shown-earlier x (rw q at (row-seen fr good n here))
 
--- so what stands for a row that is not there is never taken: an earlier row is among the answers, and among the readings
+-- so what stands for a row that is not there is never taken: an earlier row is among the answers, and among the
+-- readings
 pub answer-there : (pass : Pass) (fr : List ℕ) (n : ℕ) (k : RowNumber) → k .0 < n → (d : Result Typed)
-    → among (answers (see fr) (typing pass) (λ m. newer) n) k ≡ getD (answers (see fr) (typing pass) (λ m. newer) n) (k .0) d
-answer-there pass fr n k l d = in-order-there (λ earlier m. run (see fr) (among earlier) newer (typing pass m)) n (k .0) l (told absent) d
+    → among (answers (see fr) (typing pass) (λ m. newer) n) k
+    ≡ getD (answers (see fr) (typing pass) (λ m. newer) n) (k .0) d
+answer-there pass fr n k l d = in-order-there (λ earlier m. run (see fr) (among earlier) newer (typing pass m)) n
+    (k .0) l (told absent) d
 
 pub reading-there : (pass : Pass) (fr : List ℕ) (n : ℕ) (k : RowNumber) → k .0 < n → (d : Reading Typed)
     → amongReadings (readings (see fr) (typing pass) n) k ≡ getD (readings (see fr) (typing pass) n) (k .0) d

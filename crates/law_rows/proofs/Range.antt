@@ -1,5 +1,6 @@
--- The range of answers: every answer of ours over an accepted file is a type of the file or a value that a comparison gives neither 5 nor 6, a refusal 10
--- to 20, in the second pass 41 too, or newer at the row itself or an earlier one. Row by row, since every rule keeps within the file. Assumes nothing.
+-- The range of answers: every answer of ours over an accepted file is a type of the file or a value that a comparison
+-- gives neither 5 nor 6, a refusal 10 to 20, in the second pass 41 too, or newer at the row itself or an earlier one.
+-- Row by row, since every rule keeps within the file.
 use Prim.Native.Nat.{ℕ, _≤_, _<_}
 use native.Mathlib.Omega.{arith}
 use mathlib.Core.Path.{_≡_, refl}
@@ -32,18 +33,21 @@ place-later m n l composed h = h
 place-later m n l nowhere h = h
 place-later m n l (chosen f) h = h
 
-answer-later : (pass : Pass) (fr : List ℕ) (m n : ℕ) → m ≤ n → (a : Result Typed) → InRange pass fr m a → InRange pass fr n a
+answer-later : (pass : Pass) (fr : List ℕ) (m n : ℕ) → m ≤ n → (a : Result Typed) → InRange pass fr m a
+    → InRange pass fr n a
 answer-later pass fr m n l (told t) h = h
 answer-later pass fr m n l (newer p) h = place-later m n l p h
 
 module _ (pass : Pass) (fr : List ℕ) (m : ℕ) where
   -- run over earlier answers that are in range, a rule that keeps within the file ends in range
-  runs : (earlier : Answers) → ((n : RowNumber) → n .0 < m → InRange pass fr m (earlier n)) → {rule : Rule Typed} → Within pass fr m rule
+  runs : (earlier : Answers) → ((n : RowNumber) → n .0 < m → InRange pass fr m (earlier n)) → {rule : Rule Typed}
+      → Within pass fr m rule
       → InRange pass fr m (run (see fr) earlier newer rule)
   runs earlier all (ends h) = h
   runs earlier all (comes p c {k} place there next) = go (see fr c) refl (λ s q. runs earlier all (next s q))
     where
-      go : (o : Option (Seen c)) → see fr c ≡ o → ((s : Seen c) → see fr c ≡ some s → InRange pass fr m (run (see fr) earlier newer (k s)))
+      go : (o : Option (Seen c)) → see fr c ≡ o
+          → ((s : Seen c) → see fr c ≡ some s → InRange pass fr m (run (see fr) earlier newer (k s)))
           → InRange pass fr m (run (see fr) earlier newer (come p c k))
       go none q ih = rw (q, run) place
       go (some s) q ih = rw (q, run) (ih s q)
@@ -63,7 +67,8 @@ row-there fr m l = lt-ltb m (rowCount (startsOf fr)) l
 pub range : (pass : Pass) (fr : List ℕ) → Good fr → (n : ℕ) → n ≤ rowCount (startsOf fr) → (m : ℕ) → m < n
     → InRange pass fr m (getD (answers (see fr) (typing pass) (λ m. newer) n) m (told absent))
 range pass fr good =
-    in-order-all (InRange pass fr) (λ earlier m. run (see fr) (among earlier) newer (typing pass m)) (told absent) (rowCount (startsOf fr))
+    in-order-all (InRange pass fr) (λ earlier m. run (see fr) (among earlier) newer (typing pass m)) (told absent)
+    (rowCount (startsOf fr))
     (λ n l w all.
     runs pass fr n (among l) (λ r q. answer-later pass fr (r .0) n (omega arith) (among l r) (all (r .0) q))
     (rule-keeps pass fr good n (row-there fr n w)))
@@ -73,4 +78,6 @@ pub ours-in-range : (pass : Pass) (fr : List ℕ) → Good fr → (n : ℕ) → 
     → InRange pass fr n (ours (see fr) (typing pass) n (typing pass n))
 ours-in-range pass fr good n w =
     let earlier = answers (see fr) (typing pass) (λ m. newer) n in
-    runs pass fr n (among earlier) (λ r q. answer-later pass fr (r .0) n (omega arith) (among earlier r) (range pass fr good n (omega arith) (r .0) q)) (rule-keeps pass fr good n (row-there fr n w))
+    runs pass fr n (among earlier)
+    (λ r q. answer-later pass fr (r .0) n (omega arith) (among earlier r)
+    (range pass fr good n (omega arith) (r .0) q)) (rule-keeps pass fr good n (row-there fr n w))

@@ -1,5 +1,5 @@
--- What lies in range of a file: types, answers and places, and the things that a reading comes to. Definitions alone, with the numbers of refusals.
--- Assumes nothing.
+-- What lies in range of a file: types, answers and places, and the things that a reading comes to. Definitions alone,
+-- with the numbers of refusals.
 use Prim.Native.Nat.{ℕ, _≤_, _<_}
 use native.Mathlib.Omega.{arith}
 use mathlib.Core.Path.{_≡_}
@@ -16,7 +16,8 @@ use Rattle.archive.specs.declared.Starts.{Starts}
 use Rattle.archive.specs.Starts.{startsOf}
 use Rattle.archive.specs.Names.{isType, isRow}
 use Rattle.rule.specs.declared.Fault.the-variants as Fa
-use Rattle.rule.specs.Answers.{TypeAnswer, number, value, malformed, Typed, given, refused, chosenRefusal, Place, row, component, composed, nowhere, chosen, Result, told, newer}
+use Rattle.rule.specs.Answers.{TypeAnswer, number, value, malformed, Typed, given, refused, chosenRefusal, Place, row}
+use Rattle.rule.specs.Answers.{component, composed, nowhere, chosen, Result, told, newer}
 use Rattle.rule.specs.Things.{Form, Thing, Seen, kind, form, texels, structNumber, fault, valueFault, see}
 use Rattle.rule.specs.Rule.{Rule, done, come, past, Step, step}
 use Rattle.rule_rows.specs.declared.Pass.{Pass}
@@ -41,13 +42,15 @@ isMade (Ti.AccelerationStructure q) = false
 isMade (Ti.RayQuery q) = false
 isMade (Ti.BindingArray b z) = false
 
--- a type answer: the number of a type of the file, or a value that a rule makes and that a comparison gives neither 5 nor 6; so no struct is one
+-- a type answer: the number of a type of the file, or a value that a rule makes and that a comparison gives neither 5
+-- nor 6; so no struct is one
 abbrev pub TypeInRange : Starts → TypeAnswer → Type 0
 TypeInRange s (number t) = isType s t ≡ true
 TypeInRange s (value t) = (valueFault s t ≡ Fa.Sound) × (isMade t ≡ true)
 TypeInRange s (malformed f) = ⊥
 
--- the numbers of refusals: 10 to 20, and in the second pass 41 too (document 02, request 3); 22 is newer, and no refusal here
+-- the numbers of refusals: 10 to 20, and in the second pass 41 too (document 02, request 3); 22 is newer, and no
+-- refusal here
 abbrev pub isRefusal : Pass → ℕ → Bool
 isRefusal Pa.First n = leb 10 n && leb n 20
 isRefusal Pa.Second n = (leb 10 n && leb n 20) || eqb n 41
@@ -123,18 +126,21 @@ pub record FormInRange (s : Starts) (x : Form) : Type 0 where
 
 -- RULES
 
--- a rule of row m, along what it sees in a file: it ends in range, comes to things that are there, at row m or an earlier one, and reads earlier rows
--- only, whose newer things keep their places; over answers of theirs that are in range
+-- a rule of row m, along what it sees in a file: it ends in range, comes to things that are there, at row m or an
+-- earlier one, and reads earlier rows only, whose newer things keep their places; over answers of theirs that are in
+-- range
 pub data Within (pass : Pass) (fr : List ℕ) (m : ℕ) : Rule Typed → Type 0 where
   ends : {t : Typed} → TypedInRange pass (startsOf fr) t → Within pass fr m (done t)
   comes : (p : Place) (c : Thing) {k : Seen c → Rule Typed} → PlaceInRange m p → There fr c
       → ((s : Seen c) → see fr c ≡ some s → Within pass fr m (k s))
       → Within pass fr m (come p c k)
-  reads : {n : RowNumber} {k : Typed → Rule Typed} → n .0 < m → ((t : Typed) → TypedInRange pass (startsOf fr) t → Within pass fr m (k t))
+  reads : {n : RowNumber} {k : Typed → Rule Typed} → n .0 < m
+      → ((t : Typed) → TypedInRange pass (startsOf fr) t → Within pass fr m (k t))
       → Within pass fr m (past n (λ p. p) k)
 
 -- a refusal with a number of the first pass is one of either
-pub refusal-number : (pass : Pass) (e : Refusal) → isRefusal Pa.First (refusalValues e .number) ≡ true → RefusalInRange pass e
+pub refusal-number : (pass : Pass) (e : Refusal) → isRefusal Pa.First (refusalValues e .number) ≡ true
+    → RefusalInRange pass e
 refusal-number pass e h = record { number-is = go pass }
   where
     go : (p : Pass) → isRefusal p (refusalValues e .number) ≡ true

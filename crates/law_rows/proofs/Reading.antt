@@ -1,5 +1,5 @@
--- The reading of every row is the table's, whatever a file shows and whatever the earlier readings are: each step of a rule is a step of its line. By the
--- steps that rules are made of, then by the rows. Assumes nothing.
+-- The reading of every row is the table's, whatever a file shows and whatever the earlier readings are: each step of a
+-- rule is a step of its line. By the steps that rules are made of, then by the rows.
 use Prim.Native.Nat.{ℕ}
 use mathlib.Core.Path.{_≡_, refl, sym, ap, _∙_}
 use mathlib.Core.Bool.{Bool, true, false}
@@ -29,7 +29,9 @@ use Rattle.rule_rows.specs.Steps.{operand, look, sameAs, byType, byBoth, throug
 use Rattle.rule_rows.specs.Images.{sampled, sampledFrom, sampledOf, imageSample, imageQuery}
 use Rattle.rule_rows.specs.Operators.{product, binary, wgslOf, binaryBy, relational}
 use Rattle.rule_rows.specs.Typed.{resolve, typed, typing}
-use Rattle.law_rows.specs.Reads.{reads, sampleReads, queryReads, binaryReads, binaryReadsBy, relationalReads, unlessRefused, unlessNewer, baseThing, classThing, stepTo, lineSteps, shownSteps, rowReading}
+use Rattle.law_rows.specs.Reads.{reads, sampleReads, queryReads, binaryReads, binaryReadsBy, relationalReads}
+use Rattle.law_rows.specs.Reads.{unlessRefused, unlessNewer, baseThing, classThing, stepTo, lineSteps, shownSteps}
+use Rattle.law_rows.specs.Reads.{rowReading}
 
 -- an operand's steps keep their places
 kept : (xs : List Step) → placed (λ p. p) xs ≡ xs
@@ -41,7 +43,8 @@ module _ (sight : Sight) (earlier : Readings) where
   steps r = follow sight earlier r .steps
 
   -- an operand is read
-  operand-steps : (n : RowNumber) (k : TypeAnswer → Rule Typed) (rest : TypeAnswer → List Step) → ((a : TypeAnswer) → steps (k a) ≡ rest a)
+  operand-steps : (n : RowNumber) (k : TypeAnswer → Rule Typed) (rest : TypeAnswer → List Step)
+      → ((a : TypeAnswer) → steps (k a) ≡ rest a)
       → steps (operand n k) ≡ earlier n .steps ++ unlessRefused (earlier n .end) rest
   operand-steps n k rest h = go (earlier n .end) refl
     where
@@ -49,12 +52,14 @@ module _ (sight : Sight) (earlier : Readings) where
       go none q = rw (q, steps, follow) (kept (earlier n .steps) ∙ sym (append-nil (earlier n .steps)))
       go (some (given a)) q =
           rw (q, steps, follow)
-          (ap (λ (l : List Step). l ++ steps (k a)) (kept (earlier n .steps)) ∙ ap (λ (l : List Step). earlier n .steps ++ l) (h a))
+          (ap (λ (l : List Step). l ++ steps (k a)) (kept (earlier n .steps))
+          ∙ ap (λ (l : List Step). earlier n .steps ++ l) (h a))
       go (some (refused e)) q = rw (q, steps, follow) (ap (λ (l : List Step). l ++ []) (kept (earlier n .steps)))
       go (some (chosenRefusal f)) q = rw (q, steps, follow) (ap (λ (l : List Step). l ++ []) (kept (earlier n .steps)))
 
   -- a thing is come to
-  come-steps : (p : Place) (c : Thing) (k : Seen c → Rule Typed) (rest : List Step) → ((s : Seen c) → sight c ≡ some s → steps (k s) ≡ rest)
+  come-steps : (p : Place) (c : Thing) (k : Seen c → Rule Typed) (rest : List Step)
+      → ((s : Seen c) → sight c ≡ some s → steps (k s) ≡ rest)
       → steps (come p c k) ≡ step p c ∷ unlessNewer (sight c) rest
   come-steps p c k rest h = go (sight c) refl
     where
@@ -65,8 +70,10 @@ module _ (sight : Sight) (earlier : Readings) where
   -- A TYPE'S PARTS: a pointer's base, an image's class
 
   base-steps : (here : RowNumber) (th : TypeNumber → AddressSpace → Form → Typed) (e : Typed) (t : TypeInner)
-      → steps (ifPointer t (λ b s. look here (number b) (λ c. done (th b s c))) (done e)) ≡ stepTo sight (row here) (ifPointer t (λ b s. some (form (number b))) none) []
-  base-steps here th e (Ti.Pointer b s) = come-steps (row here) (form (number b)) (λ c. done (th b s c)) [] (λ c q. refl)
+      → steps (ifPointer t (λ b s. look here (number b) (λ c. done (th b s c))) (done e))
+      ≡ stepTo sight (row here) (ifPointer t (λ b s. some (form (number b))) none) []
+  base-steps here th e (Ti.Pointer b s) = come-steps (row here) (form (number b)) (λ c. done (th b s c)) []
+      (λ c q. refl)
   base-steps here th e (Ti.Scalar x0) = refl
   base-steps here th e (Ti.Vector x0 x1) = refl
   base-steps here th e (Ti.Matrix x0 x1 x2) = refl
@@ -83,7 +90,8 @@ module _ (sight : Sight) (earlier : Readings) where
 
   class-steps : (here image : RowNumber) (t : TypeInner)
       → steps (sampledFrom here image t) ≡ stepTo sight (row here) (ifImage t (λ d c. some (texels c)) none) []
-  class-steps here image (Ti.Image d a c) = come-steps (row here) (texels c) (λ s. done (given (value (sampledOf s)))) [] (λ s q. refl)
+  class-steps here image (Ti.Image d a c) = come-steps (row here) (texels c)
+      (λ s. done (given (value (sampledOf s)))) [] (λ s q. refl)
   class-steps here image (Ti.Scalar x0) = refl
   class-steps here image (Ti.Vector x0 x1) = refl
   class-steps here image (Ti.Matrix x0 x1 x2) = refl
@@ -104,31 +112,41 @@ module _ (sight : Sight) (earlier : Readings) where
   answer-steps n = operand-steps n (λ a. done (given a)) (λ a. []) (λ a. refl)
 
   into-steps : (here n : RowNumber) (f : TypeInner → Typed)
-      → steps (byType here n f) ≡ earlier n .steps ++ unlessRefused (earlier n .end) (λ a. step (row here) (form a) ∷ unlessNewer (sight (form a)) [])
-  into-steps here n f = operand-steps n _ _ (λ a. come-steps (row here) (form a) (λ x. done (f (x .inner))) [] (λ x q. refl))
+      → steps (byType here n f) ≡ earlier n .steps
+      ++ unlessRefused (earlier n .end) (λ a. step (row here) (form a) ∷ unlessNewer (sight (form a)) [])
+  into-steps here n f = operand-steps n _ _
+      (λ a. come-steps (row here) (form a) (λ x. done (f (x .inner))) [] (λ x q. refl))
 
   into-base-steps : (here n : RowNumber) (th : TypeNumber → AddressSpace → Form → Typed) (f : Form → Typed)
       → steps (byBase here n th f)
       ≡ earlier n .steps ++ unlessRefused (earlier n .end)
-      (λ a. step (row here) (form a) ∷ unlessNewer (sight (form a)) (stepTo sight (row here) (baseThing (sight (form a))) []))
+      (λ a. step (row here) (form a) ∷ unlessNewer (sight (form a))
+      (stepTo sight (row here) (baseThing (sight (form a))) []))
   into-base-steps here n th f =
       operand-steps n _ _
-      (λ a. come-steps (row here) (form a) (throughBase here th f) (stepTo sight (row here) (baseThing (sight (form a))) [])
-      (λ x q. base-steps here th (f x) (x .inner) ∙ ap (λ (o : Option Form). stepTo sight (row here) (baseThing o) []) (sym q)))
+      (λ a. come-steps (row here) (form a) (throughBase here th f)
+      (stepTo sight (row here) (baseThing (sight (form a))) [])
+      (λ x q. base-steps here th (f x) (x .inner)
+      ∙ ap (λ (o : Option Form). stepTo sight (row here) (baseThing o) []) (sym q)))
 
   into-class-steps : (here n : RowNumber)
       → steps (sampled here n)
       ≡ earlier n .steps ++ unlessRefused (earlier n .end)
-      (λ a. step (row here) (form a) ∷ unlessNewer (sight (form a)) (stepTo sight (row here) (classThing (sight (form a))) []))
+      (λ a. step (row here) (form a) ∷ unlessNewer (sight (form a))
+      (stepTo sight (row here) (classThing (sight (form a))) []))
   into-class-steps here n =
       operand-steps n _ _
-      (λ a. come-steps (row here) (form a) (λ x. sampledFrom here n (x .inner)) (stepTo sight (row here) (classThing (sight (form a))) [])
-      (λ x q. class-steps here n (x .inner) ∙ ap (λ (o : Option Form). stepTo sight (row here) (classThing o) []) (sym q)))
+      (λ a. come-steps (row here) (form a) (λ x. sampledFrom here n (x .inner))
+      (stepTo sight (row here) (classThing (sight (form a))) [])
+      (λ x q. class-steps here n (x .inner)
+      ∙ ap (λ (o : Option Form). stepTo sight (row here) (classThing o) []) (sym q)))
 
   into-both-steps : (here l r : RowNumber) (f : TypeAnswer → TypeAnswer → TypeInner → TypeInner → Typed)
       → steps (byBoth here l r f)
-      ≡ earlier l .steps ++ unlessRefused (earlier l .end) (λ a. earlier r .steps ++ unlessRefused (earlier r .end) (λ b.
-      step (row here) (form a) ∷ unlessNewer (sight (form a)) (step (row here) (form b) ∷ unlessNewer (sight (form b)) [])))
+      ≡ earlier l .steps ++ unlessRefused (earlier l .end)
+      (λ a. earlier r .steps ++ unlessRefused (earlier r .end) (λ b.
+      step (row here) (form a) ∷ unlessNewer (sight (form a))
+      (step (row here) (form b) ∷ unlessNewer (sight (form b)) [])))
   into-both-steps here l r f =
       operand-steps l _ _ (λ a. operand-steps r _ _ (λ b.
       come-steps (row here) (form a) (λ x. look here b (λ y. done (f a b (x .inner) (y .inner)))) _
@@ -136,11 +154,13 @@ module _ (sight : Sight) (earlier : Readings) where
 
   -- BY THE ROWS
 
-  sample-steps : (here n : RowNumber) (g : Bool) → steps (imageSample here n g) ≡ lineSteps sight earlier here (sampleReads n g)
+  sample-steps : (here n : RowNumber) (g : Bool) → steps (imageSample here n g)
+      ≡ lineSteps sight earlier here (sampleReads n g)
   sample-steps here n true = into-steps here n _
   sample-steps here n false = into-class-steps here n
 
-  query-steps : (here n : RowNumber) (q : ImageQuery) → steps (imageQuery here n q) ≡ lineSteps sight earlier here (queryReads n q)
+  query-steps : (here n : RowNumber) (q : ImageQuery) → steps (imageQuery here n q)
+      ≡ lineSteps sight earlier here (queryReads n q)
   query-steps here n Iq.Size = into-steps here n _
   query-steps here n Iq.NumLevels = refl
   query-steps here n Iq.NumLayers = refl
@@ -179,7 +199,8 @@ module _ (sight : Sight) (earlier : Readings) where
   relational-steps here Rf.IsNan n = into-steps here n _
   relational-steps here Rf.IsInf n = into-steps here n _
 
-  resolve-steps : (pass : Pass) (here : RowNumber) (s : Shown) → steps (resolve pass here s) ≡ lineSteps sight earlier here (reads pass s)
+  resolve-steps : (pass : Pass) (here : RowNumber) (s : Shown) → steps (resolve pass here s)
+      ≡ lineSteps sight earlier here (reads pass s)
   resolve-steps pass here (Row.literal l) = refl
   resolve-steps pass here (Row.constant t) = refl
   resolve-steps pass here (Row.override t) = refl
@@ -215,14 +236,17 @@ module _ (sight : Sight) (earlier : Readings) where
   resolve-steps pass here (Row.cooperativeMultiplyAdd n) = answer-steps n
 
   -- THE READING of every row is the table's
-  pub reads-are : (pass : Pass) (r : RowNumber) → follow sight earlier (typed pass r) .steps ≡ rowReading pass sight earlier r
+  pub reads-are : (pass : Pass) (r : RowNumber) → follow sight earlier (typed pass r) .steps
+      ≡ rowReading pass sight earlier r
   reads-are pass r = go (sight (kind r)) refl
     where
-      go : (o : Option Shown) → sight (kind r) ≡ o → steps (typed pass r) ≡ step (row r) (kind r) ∷ shownSteps pass sight earlier r o
+      go : (o : Option Shown) → sight (kind r) ≡ o → steps (typed pass r)
+          ≡ step (row r) (kind r) ∷ shownSteps pass sight earlier r o
       go none q = rw (q, steps, follow)
       go (some s) q = rw (q, steps, follow) (ap (λ (l : List Step). step (row r) (kind r) ∷ l) (resolve-steps pass r s))
 
 -- and so over the rows of a file
 pub file-reads : (pass : Pass) (fr : List ℕ) (n : ℕ)
-    → reading (see fr) (typing pass) n (typing pass n) ≡ rowReading pass (see fr) (amongReadings (readings (see fr) (typing pass) n)) (record { 0 = n })
+    → reading (see fr) (typing pass) n (typing pass n)
+    ≡ rowReading pass (see fr) (amongReadings (readings (see fr) (typing pass) n)) (record { 0 = n })
 file-reads pass fr n = reads-are (see fr) (amongReadings (readings (see fr) (typing pass) n)) pass (record { 0 = n })

@@ -1,5 +1,5 @@
--- In an accepted file what a row shows, and what a type that is looked into shows, is in range: the items, members and components that they name are there,
--- and these name types and rows of the file. By the cases of rows and types. Assumes nothing.
+-- In an accepted file what a row shows, and what a type that is looked into shows, is in range: the items, members and
+-- components that they name are there, and these name types and rows of the file. By the cases of rows and types.
 use Prim.Native.Nat.{ℕ, zero, suc, _+_, _-_, _<_}
 use native.Mathlib.Omega.{arith}
 use mathlib.Core.Path.{_≡_, refl, sym, ap, _∙_}
@@ -30,7 +30,8 @@ use Rattle.archive.specs.Access.{typeIn, rowIn}
 use Rattle.archive.proofs.Files.{item-names}
 use Rattle.rule.specs.declared.Fault.the-variants as Fa
 use Rattle.rule.specs.Answers.{TypeAnswer, number, value, malformed}
-use Rattle.rule.specs.Things.{listed, itemType, itemResult, maybeItem, shown, kind, form, isCount, inRange, arrayFault, valueFault, faultOf, seeForm, seeRow, see}
+use Rattle.rule.specs.Things.{listed, itemType, itemResult, maybeItem, shown, kind, form, isCount, inRange, arrayFault}
+use Rattle.rule.specs.Things.{valueFault, faultOf, seeForm, seeRow, see}
 use Rattle.rule.proofs.Shows.{value-shows}
 use Rattle.law_rows.proofs.Good.{Good, IsItem}
 use Rattle.law_rows.proofs.There.{TypeThere, RowThere, InnerThere, ExpressionThere, ShownInRange}
@@ -50,7 +51,8 @@ module _ {A : Type 0} (P : A → Type 0) where
   pub each-listed : (f : ℕ → A) (n : ℕ) → ((i : ℕ) → i < n → P (f i)) → Each P (listed f n)
   unfolding listed
   each-listed f zero h = tt
-  each-listed f (suc n) h = each-append (listed f n) (f n ∷ []) (each-listed f n (λ i l. h i (omega arith))) (h n (omega arith), tt)
+  each-listed f (suc n) h = each-append (listed f n) (f n ∷ []) (each-listed f n (λ i l. h i (omega arith)))
+      (h n (omega arith), tt)
 
   -- an item by its place, where there is one; with what stands for one that is not there
   pub each-at : (l : List A) (i : ℕ) → Each P l → IfSome P (getElem? l i)
@@ -102,14 +104,17 @@ module _ (fr : List ℕ) (good : Good fr) where
   item-is j k i = ap (λ (b : ℕ). itemAs (itemKindOf b) (frameAt fr k)) (i .kind-is)
 
   item-in : (j k : ℕ) → IsItem fr j k → itemNames (startsOf fr) (itemAs (itemKindOf j) (frameAt fr k)) ≡ true
-  item-in j k i = ap (itemNames (startsOf fr)) (sym (item-is j k i)) ∙ item-names fr (good .index) k (i .within) (i .family-is)
+  item-in j k i = ap (itemNames (startsOf fr)) (sym (item-is j k i))
+      ∙ item-names fr (good .index) k (i .within) (i .family-is)
 
   -- its type, by the law for its kind
-  typed-item : (j k : ℕ) (i : IsItem fr j k) → isType (startsOf fr) (itemType (itemAs (itemKindOf j) (frameAt fr k))) ≡ true
+  typed-item : (j k : ℕ) (i : IsItem fr j k) → isType (startsOf fr) (itemType (itemAs (itemKindOf j) (frameAt fr k)))
+      ≡ true
       → isType (startsOf fr) (itemType (itemOf (frameAt fr k))) ≡ true
   typed-item j k i h = ap (λ (x : Item). isType (startsOf fr) (itemType x)) (item-is j k i) ∙ h
 
-  maybe-item : (first last n : ℕ) → (n < last - first → isType (startsOf fr) (itemType (itemOf (frameAt fr (first + n)))) ≡ true)
+  maybe-item : (first last n : ℕ)
+      → (n < last - first → isType (startsOf fr) (itemType (itemOf (frameAt fr (first + n)))) ≡ true)
       → IfSome (λ t. isType (startsOf fr) t ≡ true) (maybeItem fr first last (record { 0 = n }))
   maybe-item first last n h =
       by-test (IfSome (λ t. isType (startsOf fr) t ≡ true)) (ltb n (last - first)) (λ q. h (ltb-true _ _ q)) (λ q. tt)
@@ -140,7 +145,8 @@ module _ (fr : List ℕ) (good : Good fr) where
   expression-shows n (Ex.Relational f m) h = h
   expression-shows n Ex.Math h = tt
   expression-shows n (Ex.As m k c) h = h
-  expression-shows n (Ex.CallResult i) h = ap (λ (x : Item). resultNames (startsOf fr) (itemResult x)) (item-is 6 _ h) ∙ item-in 6 _ h
+  expression-shows n (Ex.CallResult i) h = ap (λ (x : Item). resultNames (startsOf fr) (itemResult x)) (item-is 6 _ h)
+      ∙ item-in 6 _ h
   expression-shows n (Ex.AtomicResult t) h = h
   expression-shows n (Ex.WorkGroupUniformLoadResult t) h = h
   expression-shows n Ex.ArrayLength h = tt
@@ -152,20 +158,24 @@ module _ (fr : List ℕ) (good : Good fr) where
   expression-shows n (Ex.CooperativeLoad c r o m) h = h
   expression-shows n (Ex.CooperativeMultiplyAdd m) h = h
 
-  row-shows : (n : RowNumber) (r : RowForm) → RowThere fr n r → IfSome (ShownInRange (startsOf fr) n) (seeRow fr (startsOf fr) r)
+  row-shows : (n : RowNumber) (r : RowForm) → RowThere fr n r
+      → IfSome (ShownInRange (startsOf fr) n) (seeRow fr (startsOf fr) r)
   row-shows n (Ro.Known e) h = expression-shows n e h
   row-shows n Ro.Unknown h = tt
 
   -- what a row of the file shows is in range
-  pub row-seen : (n : RowNumber) → isRow (startsOf fr) n ≡ true → IfSome (ShownInRange (startsOf fr) n) (see fr (kind n))
+  pub row-seen : (n : RowNumber) → isRow (startsOf fr) n ≡ true
+      → IfSome (ShownInRange (startsOf fr) n) (see fr (kind n))
   row-seen n here = row-shows n (rowIn fr (startsOf fr) n) (row-named fr good n here)
 
   -- TYPES
   module _ (n : TypeNumber) (here : isType (startsOf fr) n ≡ true) where
     earlier-type : (b : TypeNumber) → b .0 < n .0 → isType (startsOf fr) b ≡ true
-    earlier-type b l = lt-ltb (b .0) (typeCount (startsOf fr)) (omega (arith, ltb-true (n .0) (typeCount (startsOf fr)) here))
+    earlier-type b l = lt-ltb (b .0) (typeCount (startsOf fr))
+        (omega (arith, ltb-true (n .0) (typeCount (startsOf fr)) here))
 
-    inner-shows : (t : TypeInner) → InnerThere fr n t → IfSome (FormInRange (startsOf fr)) (seeForm fr (startsOf fr) (Tf.Known t))
+    inner-shows : (t : TypeInner) → InnerThere fr n t
+        → IfSome (FormInRange (startsOf fr)) (seeForm fr (startsOf fr) (Tf.Known t))
     inner-shows (Ti.Scalar k) h = record { base = tt; members = tt }
     inner-shows (Ti.Vector z k) h = record { base = tt; members = tt }
     inner-shows (Ti.Matrix c r k) h = record { base = tt; members = tt }
@@ -174,7 +184,8 @@ module _ (fr : List ℕ) (good : Good fr) where
     inner-shows (Ti.Pointer b p) h = record { base = earlier-type b h; members = tt }
     inner-shows (Ti.ValuePointer z k p) h = record { base = tt; members = tt }
     inner-shows (Ti.Array b z t) h = record { base = earlier-type b (h .0); members = tt }
-    inner-shows (Ti.Struct m j t) h = record { base = tt; members = each-listed _ _ j (λ i l. earlier-type _ (h i l .early)) }
+    inner-shows (Ti.Struct m j t) h
+        = record { base = tt; members = each-listed _ _ j (λ i l. earlier-type _ (h i l .early)) }
     inner-shows (Ti.Image d a c) h = record { base = tt; members = tt }
     inner-shows (Ti.Sampler q) h = record { base = tt; members = tt }
     inner-shows (Ti.AccelerationStructure q) h = record { base = tt; members = tt }
@@ -186,9 +197,11 @@ module _ (fr : List ℕ) (good : Good fr) where
     form-shows Tf.Unknown h = tt
 
   -- what a type that a comparison gives neither 5 nor 6 shows is in range
-  pub sound-seen : (a : TypeAnswer) → faultOf (startsOf fr) a ≡ Fa.Sound → IfSome (FormInRange (startsOf fr)) (see fr (form a))
+  pub sound-seen : (a : TypeAnswer) → faultOf (startsOf fr) a ≡ Fa.Sound
+      → IfSome (FormInRange (startsOf fr)) (see fr (form a))
   sound-seen (number n) e =
-      let here = range-sound (isType (startsOf fr) n) e in form-shows n here (typeIn fr (startsOf fr) n) (type-named fr good n here)
+      let here = range-sound (isType (startsOf fr) n) e in
+      form-shows n here (typeIn fr (startsOf fr) n) (type-named fr good n here)
   sound-seen (value t) e = rw (value-shows fr t e) (record { base = value-base (startsOf fr) t e; members = tt })
   sound-seen (malformed f) e = never (cc)
 

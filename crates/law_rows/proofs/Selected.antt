@@ -1,4 +1,4 @@
--- What holds of a selector's outcome: what holds of the case that it treats, and of the rest. By the cases of a type. Assumes nothing.
+-- What holds of a selector's outcome: what holds of the case that it treats, and of the rest. By the cases of a type.
 use mathlib.Core.Path.{_≡_}
 use mathlib.Core.Bool.{true}
 use Rattle.ir.specs.declared.TypeNumber.{TypeNumber}
@@ -15,11 +15,13 @@ use Rattle.ir.specs.declared.TypeInner.the-variants as Ti
 use Rattle.archive.specs.declared.Starts.{Starts}
 use Rattle.archive.specs.Names.{isType}
 use Rattle.rule_types.specs.Canonical.{ifPointer}
-use Rattle.rule_rows.specs.Selectors.{ifScalar, ifVector, ifMatrix, ifCooperativeMatrix, ifAtomic, ifValuePointer, ifArray, ifStruct, ifImage, ifBindingArray}
+use Rattle.rule_rows.specs.Selectors.{ifScalar, ifVector, ifMatrix, ifCooperativeMatrix, ifAtomic, ifValuePointer}
+use Rattle.rule_rows.specs.Selectors.{ifArray, ifStruct, ifImage, ifBindingArray}
 use Rattle.law_rows.proofs.Ranged.{BaseInRange}
 
 module _ {X : Type 0} (P : X → Type 0) where
-  pub by-scalar : (t : TypeInner) {f : Scalar → X} {rest : X} → ((k : Scalar) → P (f k)) → P rest → P (ifScalar t f rest)
+  pub by-scalar : (t : TypeInner) {f : Scalar → X} {rest : X} → ((k : Scalar) → P (f k)) → P rest
+      → P (ifScalar t f rest)
   by-scalar (Ti.Scalar k) h rest-in = h k
   by-scalar (Ti.Vector z k) h rest-in = rest-in
   by-scalar (Ti.Matrix c j k) h rest-in = rest-in
@@ -35,7 +37,8 @@ module _ {X : Type 0} (P : X → Type 0) where
   by-scalar (Ti.RayQuery q) h rest-in = rest-in
   by-scalar (Ti.BindingArray b z) h rest-in = rest-in
 
-  pub by-vector : (t : TypeInner) {f : VectorSize → Scalar → X} {rest : X} → ((z : VectorSize) (k : Scalar) → P (f z k)) → P rest
+  pub by-vector : (t : TypeInner) {f : VectorSize → Scalar → X} {rest : X} → ((z : VectorSize) (k : Scalar) → P (f z k))
+      → P rest
       → P (ifVector t f rest)
   by-vector (Ti.Scalar k) h rest-in = rest-in
   by-vector (Ti.Vector z k) h rest-in = h z k
@@ -52,7 +55,8 @@ module _ {X : Type 0} (P : X → Type 0) where
   by-vector (Ti.RayQuery q) h rest-in = rest-in
   by-vector (Ti.BindingArray b z) h rest-in = rest-in
 
-  pub by-matrix : (t : TypeInner) {f : VectorSize → VectorSize → Scalar → X} {rest : X} → ((c r : VectorSize) (k : Scalar) → P (f c r k))
+  pub by-matrix : (t : TypeInner) {f : VectorSize → VectorSize → Scalar → X} {rest : X}
+      → ((c r : VectorSize) (k : Scalar) → P (f c r k))
       → P rest → P (ifMatrix t f rest)
   by-matrix (Ti.Scalar k) h rest-in = rest-in
   by-matrix (Ti.Vector z k) h rest-in = rest-in
@@ -69,8 +73,10 @@ module _ {X : Type 0} (P : X → Type 0) where
   by-matrix (Ti.RayQuery q) h rest-in = rest-in
   by-matrix (Ti.BindingArray b z) h rest-in = rest-in
 
-  pub by-cooperative-matrix : (t : TypeInner) {f : CooperativeSize → CooperativeSize → Scalar → CooperativeRole → X} {rest : X}
-      → ((c r : CooperativeSize) (k : Scalar) (o : CooperativeRole) → P (f c r k o)) → P rest → P (ifCooperativeMatrix t f rest)
+  pub by-cooperative-matrix :
+      (t : TypeInner) {f : CooperativeSize → CooperativeSize → Scalar → CooperativeRole → X} {rest : X}
+      → ((c r : CooperativeSize) (k : Scalar) (o : CooperativeRole) → P (f c r k o)) → P rest
+      → P (ifCooperativeMatrix t f rest)
   by-cooperative-matrix (Ti.Scalar k) h rest-in = rest-in
   by-cooperative-matrix (Ti.Vector z k) h rest-in = rest-in
   by-cooperative-matrix (Ti.Matrix c j k) h rest-in = rest-in
@@ -86,7 +92,8 @@ module _ {X : Type 0} (P : X → Type 0) where
   by-cooperative-matrix (Ti.RayQuery q) h rest-in = rest-in
   by-cooperative-matrix (Ti.BindingArray b z) h rest-in = rest-in
 
-  pub by-atomic : (t : TypeInner) {f : Scalar → X} {rest : X} → ((k : Scalar) → P (f k)) → P rest → P (ifAtomic t f rest)
+  pub by-atomic : (t : TypeInner) {f : Scalar → X} {rest : X} → ((k : Scalar) → P (f k)) → P rest
+      → P (ifAtomic t f rest)
   by-atomic (Ti.Scalar k) h rest-in = rest-in
   by-atomic (Ti.Vector z k) h rest-in = rest-in
   by-atomic (Ti.Matrix c j k) h rest-in = rest-in
@@ -119,7 +126,8 @@ module _ {X : Type 0} (P : X → Type 0) where
   by-value-pointer (Ti.RayQuery q) h rest-in = rest-in
   by-value-pointer (Ti.BindingArray b z) h rest-in = rest-in
 
-  pub by-image : (t : TypeInner) {f : ImageDimension → ImageClass → X} {rest : X} → ((d : ImageDimension) (c : ImageClass) → P (f d c))
+  pub by-image : (t : TypeInner) {f : ImageDimension → ImageClass → X} {rest : X}
+      → ((d : ImageDimension) (c : ImageClass) → P (f d c))
       → P rest → P (ifImage t f rest)
   by-image (Ti.Scalar k) h rest-in = rest-in
   by-image (Ti.Vector z k) h rest-in = rest-in
@@ -171,7 +179,8 @@ module _ {X : Type 0} (s : Starts) (P : X → Type 0) where
   by-pointer (Ti.RayQuery q) w h rest-in = rest-in
   by-pointer (Ti.BindingArray b z) w h rest-in = rest-in
 
-  pub by-array : (t : TypeInner) {f : TypeNumber → X} {rest : X} → BaseInRange s t → ((b : TypeNumber) → isType s b ≡ true → P (f b))
+  pub by-array : (t : TypeInner) {f : TypeNumber → X} {rest : X} → BaseInRange s t
+      → ((b : TypeNumber) → isType s b ≡ true → P (f b))
       → P rest → P (ifArray t f rest)
   by-array (Ti.Scalar k) w h rest-in = rest-in
   by-array (Ti.Vector z k) w h rest-in = rest-in

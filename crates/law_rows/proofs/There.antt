@@ -1,5 +1,5 @@
--- What a row and a type name, as statements of a file's frames: each number and range leads to frames of the right family and kind, and each row or type
--- that must be earlier is (document 01, "The file"). Definitions alone. Assumes nothing.
+-- What a row and a type name, as statements of a file's frames: each number and range leads to frames of the right
+-- family and kind, and each row or type that must be earlier is (document 01, "The file"). Definitions alone.
 use Prim.Native.Nat.{ℕ, _+_, _-_, _<_}
 use mathlib.Core.Path.{_≡_}
 use mathlib.Core.Bool.{true}
@@ -55,8 +55,8 @@ abbrev pub TypeThere : List ℕ → TypeNumber → TypeForm → Type 0
 TypeThere fr n (Tf.Known t) = InnerThere fr n t
 TypeThere fr n Tf.Unknown = Unit {0}
 
--- ROWS: an operand is earlier than row n, an item is of its kind, a type is of the file, and a compose's range holds components. An argument index is
--- free, and a special type may be missing; so of these only what is there.
+-- ROWS: an operand is earlier than row n, an item is of its kind, a type is of the file, and a compose's range holds
+-- components. An argument index is free, and a special type may be missing; so of these only what is there.
 abbrev pub ExpressionThere : List ℕ → RowNumber → Expression → Type 0
 ExpressionThere fr n (Ex.Literal l) = Unit {0}
 ExpressionThere fr n (Ex.Constant i) = IsItem fr 1 (startsOf fr .constants + i .0)
@@ -68,7 +68,8 @@ ExpressionThere fr n (Ex.Access m) = m .0 < n .0
 ExpressionThere fr n (Ex.AccessIndex m i) = m .0 < n .0
 ExpressionThere fr n (Ex.Splat z m) = m .0 < n .0
 ExpressionThere fr n (Ex.Swizzle z m) = m .0 < n .0
-ExpressionThere fr n (Ex.FunctionArgument i) = i < startsOf fr .locals - startsOf fr .arguments → IsItem fr 4 (startsOf fr .arguments + i)
+ExpressionThere fr n (Ex.FunctionArgument i) = i < startsOf fr .locals - startsOf fr .arguments
+    → IsItem fr 4 (startsOf fr .arguments + i)
 ExpressionThere fr n (Ex.GlobalVariable i) = IsItem fr 3 (startsOf fr .globals + i .0)
 ExpressionThere fr n (Ex.LocalVariable i) = IsItem fr 5 (startsOf fr .locals + i .0)
 ExpressionThere fr n (Ex.Load m) = m .0 < n .0
@@ -100,7 +101,8 @@ abbrev pub RowThere : List ℕ → RowNumber → RowForm → Type 0
 RowThere fr n (Ro.Known e) = ExpressionThere fr n e
 RowThere fr n Ro.Unknown = Unit {0}
 
--- WHAT A ROW SHOWS is in range: its types are types of the file, the rows that it reads are earlier than row n, and so are its components
+-- WHAT A ROW SHOWS is in range: its types are types of the file, the rows that it reads are earlier than row n, and so
+-- are its components
 abbrev pub ShownInRange : Starts → RowNumber → Shown → Type 0
 ShownInRange s n (Row.literal l) = Unit {0}
 ShownInRange s n (Row.constant t) = isType s t ≡ true

@@ -1,5 +1,6 @@
--- What each row reads and what it looks into, in order, as a table; written from document 01, "A row's type", and not from the rules: the row's own
--- kind, then the operands that it reads, with their own readings, then the types that it looks at; the reading ends at the first refusal or newer thing.
+-- What each row reads and what it looks into, in order, as a table; written from document 01, "A row's type", and not
+-- from the rules: the row's own kind, then the operands that it reads, with their own readings, then the types that it
+-- looks at; the reading ends at the first refusal or newer thing.
 use Prim.Native.Nat.{ℕ}
 use mathlib.Core.Bool.{Bool, true, false}
 use mathlib.Core.List.{List, [], _∷_, _++_}
@@ -21,7 +22,8 @@ use Rattle.rule_rows.specs.declared.Pass.{Pass}
 use Rattle.rule_rows.specs.declared.Pass.the-variants as Pa
 use Rattle.rule_rows.specs.Selectors.{ifImage}
 
--- what is looked into: the type of an operand, by its place among those read; that type's base, if it is a Pointer; that type's class, if it is an Image
+-- what is looked into: the type of an operand, by its place among those read; that type's base, if it is a Pointer;
+-- that type's class, if it is an Image
 pub data Look : Type 0 where
   type base class : ℕ → Look
 
@@ -65,8 +67,8 @@ queryReads n Iq.NumLevels = nothing
 queryReads n Iq.NumLayers = nothing
 queryReads n Iq.NumSamples = nothing
 
--- Multiply reads left, then right; the other operators left only. Comparisons and logical operators look into its type; arithmetic, bits and shifts do
--- not.
+-- Multiply reads left, then right; the other operators left only. Comparisons and logical operators look into its type;
+-- arithmetic, bits and shifts do not.
 abbrev pub binaryReads : BinaryOperator → RowNumber → RowNumber → Reads
 binaryReads Bo.Add l r = answer l
 binaryReads Bo.Subtract l r = answer l
@@ -147,7 +149,8 @@ unlessRefused none rest = []
 -- the operands in order, each with its own reading; the rest goes on with their types
 abbrev pub operandSteps : Readings → List RowNumber → (List TypeAnswer → List Step) → List Step
 operandSteps earlier [] rest = rest []
-operandSteps earlier (n ∷ ns) rest = earlier n .steps ++ unlessRefused (earlier n .end) (λ a. operandSteps earlier ns (λ ts. rest (a ∷ ts)))
+operandSteps earlier (n ∷ ns) rest = earlier n .steps
+    ++ unlessRefused (earlier n .end) (λ a. operandSteps earlier ns (λ ts. rest (a ∷ ts)))
 
 -- a thing that shows nothing is newer, and ends the reading
 abbrev pub unlessNewer : {X : Type 0} → Option X → List Step → List Step
@@ -200,4 +203,5 @@ shownSteps pass sight earlier here none = []
 
 -- the reading of the row `here`: its own kind, then its line of the table
 abbrev pub rowReading : Pass → Sight → Readings → RowNumber → List Step
-rowReading pass sight earlier here = step (row here) (kind here) ∷ shownSteps pass sight earlier here (sight (kind here))
+rowReading pass sight earlier here = step (row here) (kind here) ∷ shownSteps pass sight earlier here
+    (sight (kind here))

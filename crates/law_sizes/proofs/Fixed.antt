@@ -1,5 +1,5 @@
 -- In an accepted file a type names earlier types only, so what a type fills is worked out from what the types it
--- names fill. Assumes nothing.
+-- names fill.
 use Prim.Native.Nat.{ℕ, zero, suc, _<_}
 use native.Mathlib.Omega.{arith}
 use mathlib.Core.Path.{_≡_, refl, sym, ap}
@@ -19,9 +19,8 @@ use Rattle.law_rows.proofs.Good.{Good}
 use Rattle.law_rows.proofs.There.{TypeThere}
 use Rattle.law_rows.proofs.Named.{type-named}
 use Rattle.rule_sizes.specs.declared.Measure.{Measure}
-use Rattle.rule_sizes.specs.declared.Parts.{Parts}
-use Rattle.rule_sizes.specs.Sizes.{arrayOf, partsOf, structOf, sizedArray, ofForm, measureIn}
-use Rattle.rule_sizes.specs.Meaning.{member}
+use Rattle.rule_sizes.specs.Sizes.{Parts, arrayOf, partsOf, structOf, sizedArray, ofForm, measureIn}
+use Rattle.rule_sizes.specs.Meaning.{structMember}
 use Rattle.rule_sizes.proofs.Laws.{look-earlier}
 
 module _ (fr : List ℕ) where
@@ -29,7 +28,7 @@ module _ (fr : List ℕ) where
   pub data PartOf : TypeForm → TypeNumber → Type 0 where
     element : (b : TypeNumber) (z : ArraySize) (stride : ℕ) → PartOf (Tf.Known (Ti.Array b z stride)) b
     part : (first : MemberNumber) (count span i : ℕ) → i < count
-        → PartOf (Tf.Known (Ti.Struct first count span)) (member fr first i .ty)
+        → PartOf (Tf.Known (Ti.Struct first count span)) (structMember fr first i .ty)
 
   part-early : (n : TypeNumber) (t : TypeForm) (b : TypeNumber) → TypeThere fr n t → PartOf t b → b .0 < n .0
   part-early n t b h (PartOf.element e z stride) = h .0
@@ -38,7 +37,7 @@ module _ (fr : List ℕ) where
   -- PARTS THAT FILL ALIKE: so does the type
   module _ (f g : TypeNumber → Measure) where
     parts-alike : (first : MemberNumber) (k : ℕ)
-        → ((i : ℕ) → i < k → f (member fr first i .ty) ≡ g (member fr first i .ty))
+        → ((i : ℕ) → i < k → f (structMember fr first i .ty) ≡ g (structMember fr first i .ty))
         → partsOf fr (startsOf fr) f first k ≡ partsOf fr (startsOf fr) g first k
     unfolding partsOf
     parts-alike first zero h = refl

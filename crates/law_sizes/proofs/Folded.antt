@@ -1,6 +1,6 @@
 -- A struct's members, taken in order: either all have sizes, and then the struct's alignment, its last end and
 -- whether all stand well are what its members' alignments and sizes say; or the lowest of their faults is passed on.
--- By the members in order, for any measures of types. Assumes nothing.
+-- By the members in order, for any measures of types.
 use Prim.Native.Nat.{ℕ, zero, suc, _+_, _≤_, _<_}
 use native.Mathlib.Decide.{decLt}
 use native.Mathlib.Omega.{arith}
@@ -18,10 +18,9 @@ use Rattle.rule_sizes.specs.declared.Alignment.the-variants.{Two}
 use Rattle.rule_sizes.specs.declared.SizeFault.{SizeFault}
 use Rattle.rule_sizes.specs.declared.Measure.{Measure}
 use Rattle.rule_sizes.specs.declared.Measure.the-variants.{Fills, Faulty}
-use Rattle.rule_sizes.specs.declared.Parts.the-variants.{Laid, Broken}
 use Rattle.rule_sizes.specs.Wgsl.{isMultiple}
-use Rattle.rule_sizes.specs.Sizes.{joined, partsOf}
-use Rattle.rule_sizes.specs.Meaning.{member, Placed}
+use Rattle.rule_sizes.specs.Sizes.{Laid, Broken, joined, partsOf}
+use Rattle.rule_sizes.specs.Meaning.{structMember, Placed}
 use Rattle.law_sizes.proofs.Greatest.{topOf}
 
 pub never : {X : Type 0} → _≡_ {A = ℕ} 0 1 → X
@@ -46,17 +45,18 @@ sizeIn (Faulty k p) = 0
 -- PLACES, by the alignments and sizes of members
 module _ (fr : List ℕ) (first : MemberNumber) (aligns : ℕ → Alignment) (sizes : ℕ → ℕ) where
   abbrev pub offset : ℕ → ℕ
-  offset i = member fr first i .offset
+  offset i = structMember fr first i .offset
 
   -- where the first k members end
   abbrev pub endOf : ℕ → ℕ
   endOf zero = 0
-  endOf (suc k) = member fr first k .offset + sizes k
+  endOf (suc k) = structMember fr first k .offset + sizes k
 
   -- whether they stand well
   abbrev pub placedOf : ℕ → Bool
   placedOf zero = true
-  placedOf (suc k) = placedOf k && (isMultiple (aligns k) (member fr first k .offset) && leb (endOf k) (member fr first k .offset))
+  placedOf (suc k) = placedOf k
+      && (isMultiple (aligns k) (structMember fr first k .offset) && leb (endOf k) (structMember fr first k .offset))
 
   multiples-of : (k : ℕ) → placedOf k ≡ true → (i : ℕ) → i < k → isMultiple (aligns i) (offset i) ≡ true
   multiples-of zero e i l = absurd (omega arith)
@@ -64,7 +64,8 @@ module _ (fr : List ℕ) (first : MemberNumber) (aligns : ℕ → Alignment) (si
     where
       go : Dec (i < k) → (i < k → isMultiple (aligns i) (offset i) ≡ true) → isMultiple (aligns i) (offset i) ≡ true
       go (yes m) ih = ih m
-      go (no m) ih = let q : i ≡ k = omega arith in rw q (and-first (isMultiple (aligns k) (offset k)) _ (and-second (placedOf k) _ e))
+      go (no m) ih = let q : i ≡ k = omega arith in
+          rw q (and-first (isMultiple (aligns k) (offset k)) _ (and-second (placedOf k) _ e))
 
   apart-of : (k : ℕ) → placedOf k ≡ true → (i : ℕ) → suc i < k → offset i + sizes i ≤ offset (suc i)
   apart-of zero e i l = absurd (omega arith)
@@ -77,7 +78,8 @@ module _ (fr : List ℕ) (first : MemberNumber) (aligns : ℕ → Alignment) (si
       go (yes m) ih = ih m
       go (no m) ih =
           let q : k ≡ suc i = omega arith in
-          let h : leb (endOf (suc i)) (offset (suc i)) ≡ true = rw q at last in leb-true (endOf (suc i)) (offset (suc i)) h
+          let h : leb (endOf (suc i)) (offset (suc i)) ≡ true = rw q at last in
+          leb-true (endOf (suc i)) (offset (suc i)) h
 
   placed-all : (k : ℕ) → ((i : ℕ) → i < k → isMultiple (aligns i) (offset i) ≡ true)
       → ((i : ℕ) → suc i < k → offset i + sizes i ≤ offset (suc i)) → placedOf k ≡ true
@@ -101,7 +103,8 @@ module _ (fr : List ℕ) (first : MemberNumber) (aligns : ℕ → Alignment) (si
   abbrev pub stands : ℕ → Alignment → ℕ → Bool
   stands k a span = placedOf k && (leb (endOf k) span && isMultiple a span)
 
-  pub stands-placed : (k : ℕ) (a : Alignment) (span : ℕ) → stands k a span ≡ true → Placed fr first k aligns sizes a span
+  pub stands-placed : (k : ℕ) (a : Alignment) (span : ℕ) → stands k a span ≡ true
+      → Placed fr first k aligns sizes a span
   stands-placed k a span e =
       let p = and-first (placedOf k) _ e in
       let q = and-second (placedOf k) _ e in
@@ -112,7 +115,8 @@ module _ (fr : List ℕ) (first : MemberNumber) (aligns : ℕ → Alignment) (si
         whole = and-second (leb (endOf k) span) _ q;
       }
 
-  pub placed-stands : (k : ℕ) (a : Alignment) (span : ℕ) → Placed fr first k aligns sizes a span → stands k a span ≡ true
+  pub placed-stands : (k : ℕ) (a : Alignment) (span : ℕ) → Placed fr first k aligns sizes a span → stands k a span
+      ≡ true
   placed-stands k a span p =
       and-both (placedOf k) _ (placed-all k (p .multiples) (p .apart))
       (and-both (leb (endOf k) span) _ (le-leb (endOf k) span (ends-within k span (p .holds))) (p .whole))
@@ -121,26 +125,29 @@ module _ (fr : List ℕ) (first : MemberNumber) (aligns : ℕ → Alignment) (si
 module _ (fr : List ℕ) (f : TypeNumber → Measure) (first : MemberNumber) where
   -- what member i fills
   abbrev pub fills : ℕ → Measure
-  fills i = f (member fr first i .ty)
+  fills i = f (structMember fr first i .ty)
 
   -- where the first k members have these alignments and sizes
   pub laid : (aligns : ℕ → Alignment) (sizes : ℕ → ℕ) (k : ℕ)
-      → ((i : ℕ) → i < k → f (member fr first i .ty) ≡ Fills (aligns i) (sizes i))
-      → partsOf fr (startsOf fr) f first k ≡ Laid (topOf aligns k) (endOf fr first aligns sizes k) (placedOf fr first aligns sizes k)
+      → ((i : ℕ) → i < k → f (structMember fr first i .ty) ≡ Fills (aligns i) (sizes i))
+      → partsOf fr (startsOf fr) f first k
+      ≡ Laid (topOf aligns k) (endOf fr first aligns sizes k) (placedOf fr first aligns sizes k)
   unfolding partsOf joined
   laid aligns sizes zero h = refl
   laid aligns sizes (suc k) h = rw (laid aligns sizes k (λ i l. h i (omega arith)), h k (omega arith))
 
   -- all of the first k have sizes
   abbrev pub AllFill : ℕ → Type 0
-  AllFill k = (i : ℕ) → i < k → f (member fr first i .ty) ≡ Fills (alignIn (f (member fr first i .ty))) (sizeIn (f (member fr first i .ty)))
+  AllFill k = (i : ℕ) → i < k → f (structMember fr first i .ty)
+      ≡ Fills (alignIn (f (structMember fr first i .ty))) (sizeIn (f (structMember fr first i .ty)))
 
   -- one of the first k has this fault, and none has a lower one
   pub record FirstLow (k : ℕ) (j : SizeFault) (p : TypeNumber) : Type 0 where
     pub one : ℕ
     pub there : one < k
-    pub is : f (member fr first one .ty) ≡ Faulty j p
-    pub low : (i : ℕ) (l : SizeFault) (q : TypeNumber) → i < k → f (member fr first i .ty) ≡ Faulty l q → p .0 ≤ q .0
+    pub is : f (structMember fr first one .ty) ≡ Faulty j p
+    pub low : (i : ℕ) (l : SizeFault) (q : TypeNumber) → i < k → f (structMember fr first i .ty) ≡ Faulty l q
+        → p .0 ≤ q .0
 
   pub data Folded (k : ℕ) : Type 0 where
     filled : AllFill k → Folded k
@@ -168,7 +175,7 @@ module _ (fr : List ℕ) (f : TypeNumber → Measure) (first : MemberNumber) whe
   same-place : (j l : SizeFault) (p q : TypeNumber) → Faulty j p ≡ Faulty l q → p .0 ≤ q .0
   same-place j l p q e = let s : p ≡ q = cc in rw s (omega arith)
 
-  more : (k : ℕ) (m : Measure) → Folded k → f (member fr first k .ty) ≡ m → Folded (suc k)
+  more : (k : ℕ) (m : Measure) → Folded k → f (structMember fr first k .ty) ≡ m → Folded (suc k)
   unfolding partsOf joined
   more k (Fills a z) (filled h) e = filled (all-more k a z h e)
   more k (Faulty j q) (filled h) e =
@@ -177,7 +184,8 @@ module _ (fr : List ℕ) (f : TypeNumber → Measure) (first : MemberNumber) whe
         one = k;
         there = omega arith;
         is = e;
-        low = low-more k q (λ i l r m d. never (let x = sym (h i m) ∙ d in cc)) (λ l r d. same-place j l q r (sym e ∙ d));
+        low = low-more k q (λ i l r m d. never (let x = sym (h i m) ∙ d in cc))
+            (λ l r d. same-place j l q r (sym e ∙ d));
       })
   more k (Fills a z) (broken j p b o) e =
       broken j p (rw (b, e))
@@ -196,7 +204,8 @@ module _ (fr : List ℕ) (f : TypeNumber → Measure) (first : MemberNumber) whe
             one = o .one;
             there = omega (arith, o .there);
             is = o .is;
-            low = low-more k p (o .low) (λ i r d. omega (arith, leb-true (p .0) (q .0) h, same-place l i q r (sym e ∙ d)));
+            low = low-more k p (o .low)
+                (λ i r d. omega (arith, leb-true (p .0) (q .0) h, same-place l i q r (sym e ∙ d)));
           })
       go false h =
           broken l q (rw (b, e, h))
@@ -205,9 +214,10 @@ module _ (fr : List ℕ) (f : TypeNumber → Measure) (first : MemberNumber) whe
             there = omega arith;
             is = e;
             low =
-                low-more k q (λ i r x m d. omega (arith, leb-false (p .0) (q .0) h, o .low i r x m d)) (λ i r d. same-place l i q r (sym e ∙ d));
+                low-more k q (λ i r x m d. omega (arith, leb-false (p .0) (q .0) h, o .low i r x m d))
+                (λ i r d. same-place l i q r (sym e ∙ d));
           })
 
   pub folded : (k : ℕ) → Folded k
   folded zero = filled (λ i l. absurd (omega arith))
-  folded (suc k) = more k (f (member fr first k .ty)) (folded k) refl
+  folded (suc k) = more k (f (structMember fr first k .ty)) (folded k) refl

@@ -1,5 +1,5 @@
 -- The alignment of a struct, worked out member by member, is the greatest of its members' alignments. By the members
--- in order. Assumes nothing.
+-- in order.
 use Prim.Native.Nat.{ℕ, zero, suc, _≤_, _<_}
 use native.Mathlib.Decide.{decLt}
 use native.Mathlib.Omega.{arith}
@@ -28,11 +28,13 @@ same-bytes a b e = sym (alignment-back a) ∙ ap alignmentOf e ∙ alignment-bac
 
 pub greater-left : (b a : Alignment) → bytes b ≤ bytes (greater b a)
 greater-left b a =
-    by-test (λ (x : Alignment). bytes b ≤ bytes x) (ltb (bytes b) (bytes a)) (λ q. omega (arith, ltb-true (bytes b) (bytes a) q)) (λ q. omega arith)
+    by-test (λ (x : Alignment). bytes b ≤ bytes x) (ltb (bytes b) (bytes a))
+    (λ q. omega (arith, ltb-true (bytes b) (bytes a) q)) (λ q. omega arith)
 
 pub greater-right : (b a : Alignment) → bytes a ≤ bytes (greater b a)
 greater-right b a =
-    by-test (λ (x : Alignment). bytes a ≤ bytes x) (ltb (bytes b) (bytes a)) (λ q. omega arith) (λ q. ltb-false (bytes b) (bytes a) q)
+    by-test (λ (x : Alignment). bytes a ≤ bytes x) (ltb (bytes b) (bytes a)) (λ q. omega arith)
+    (λ q. ltb-false (bytes b) (bytes a) q)
 
 greater-two : (a : Alignment) → greater Two a ≡ a
 greater-two Two = refl
@@ -67,7 +69,8 @@ module _ (aligns : ℕ → Alignment) where
 
   pub top-greatest : (k : ℕ) → 0 < k → Greatest aligns k (topOf aligns k)
   top-greatest zero h = absurd (omega arith)
-  top-greatest (suc k) h = let r = top-reached k in record { one = r .one; there = r .there; is = r .is; bound = top-bound (suc k) }
+  top-greatest (suc k) h = let r = top-reached k in
+      record { one = r .one; there = r .there; is = r .is; bound = top-bound (suc k) }
 
   pub greatest-top : (k : ℕ) (a : Alignment) → Greatest aligns k a → topOf aligns k ≡ a
   greatest-top zero a g = absurd (omega (arith, g .there))

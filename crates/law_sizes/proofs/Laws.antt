@@ -1,7 +1,7 @@
 -- The two laws of sizes, for every accepted file, both ways. `fills-when`: what is worked out of a type is this
 -- alignment and size exactly where the type has them. `fault-when`: it is this number at this type exactly where that
 -- is the lowest faulty type that it rests on. One way by Meant.antt; the other because what a type has, and a fault
--- of its own, is what is worked out of it. Assumes nothing.
+-- of its own, is what is worked out of it.
 use Prim.Native.Nat.{ℕ, zero, suc, _*_, _≤_, _<_}
 use native.Mathlib.Omega.{arith}
 use mathlib.Core.Path.{_≡_, refl, sym, ap, _∙_}
@@ -30,9 +30,12 @@ use Rattle.rule_sizes.specs.declared.SizeFault.the-variants.{Unmeasured, Mispla
 use Rattle.rule_sizes.specs.declared.Measure.{Measure}
 use Rattle.rule_sizes.specs.declared.Measure.the-variants.{Fills, Faulty}
 use Rattle.rule_sizes.specs.Wgsl.{integerAlign, floatAlign, numberAlign}
-use Rattle.rule_sizes.specs.Sizes.{scalarMeasure, vectorMeasure, matrixMeasure, arrayOf, partsOf, spanned, structOf, ofInner, ofForm, measureIn}
-use Rattle.rule_sizes.specs.Meaning.{Integer, Float, Number, Listed, member, Greatest, Has, RestsOn, Fault, LowestFault}
-use Rattle.law_sizes.proofs.Scalars.{Given, integer-given, float-given, number-given, integer-has, float-has, number-has}
+use Rattle.rule_sizes.specs.Sizes.{scalarMeasure, vectorMeasure, matrixMeasure, arrayOf, partsOf, spanned, structOf}
+use Rattle.rule_sizes.specs.Sizes.{ofInner, ofForm, measureIn}
+use Rattle.rule_sizes.specs.Meaning.{Integer, Float, Number, Listed, structMember, Greatest, Has, RestsOn, Fault}
+use Rattle.rule_sizes.specs.Meaning.{LowestFault}
+use Rattle.law_sizes.proofs.Scalars.{Given, integer-given, float-given, number-given, integer-has, float-has}
+use Rattle.law_sizes.proofs.Scalars.{number-has}
 use Rattle.law_sizes.proofs.Greatest.{greatest-top}
 use Rattle.law_sizes.proofs.Folded.{stands, stands-placed, placed-stands, laid, Folded, folded}
 use Rattle.law_sizes.proofs.Fixed.{fixed}
@@ -114,16 +117,19 @@ module _ (fr : List ℕ) (good : Good fr) where
 
   of-struct : (n : TypeNumber) (first : MemberNumber) (count span : ℕ)
       → typeAt fr n ≡ Tf.Known (Ti.Struct first count span) → 0 < count
-      → measureIn fr (startsOf fr) n ≡ spanned n (partsOf fr (startsOf fr) (measureIn fr (startsOf fr)) first count) span
+      → measureIn fr (startsOf fr) n
+      ≡ spanned n (partsOf fr (startsOf fr) (measureIn fr (startsOf fr)) first count) span
   unfolding structOf
   of-struct n first count span e l = of-form n _ e ∙ rw (positive count l)
 
   -- a struct whose members have sizes, by the test of their places
-  of-members : (n : TypeNumber) (first : MemberNumber) (count span : ℕ) (aligns : ℕ → Alignment) (sizes : ℕ → ℕ) (a : Alignment)
+  of-members : (n : TypeNumber) (first : MemberNumber) (count span : ℕ) (aligns : ℕ → Alignment) (sizes : ℕ → ℕ)
+      (a : Alignment)
       → typeAt fr n ≡ Tf.Known (Ti.Struct first count span)
-      → ((i : ℕ) → i < count → measureIn fr (startsOf fr) (member fr first i .ty) ≡ Fills (aligns i) (sizes i))
+      → ((i : ℕ) → i < count → measureIn fr (startsOf fr) (structMember fr first i .ty) ≡ Fills (aligns i) (sizes i))
       → Greatest aligns count a
-      → measureIn fr (startsOf fr) n ≡ cond (stands fr first aligns sizes count a span) (Fills a span) (Faulty Misplaced n)
+      → measureIn fr (startsOf fr) n
+      ≡ cond (stands fr first aligns sizes count a span) (Fills a span) (Faulty Misplaced n)
   unfolding spanned
   of-members n first count span aligns sizes a e h g =
       of-struct n first count span e (omega (arith, g .there))
@@ -137,9 +143,11 @@ module _ (fr : List ℕ) (good : Good fr) where
   has-is n a z (Has.matrix m c r k b e h) = of-form n _ e ∙ ap (matrixMeasure n c r) (float-has k b h)
   has-is n a z (Has.atomic m k b e h) = of-form n _ e ∙ ap (scalarMeasure n) (integer-has k b h)
   has-is n a z (Has.array m b count stride c y e h s l) =
-      of-array n b count stride e (Fills c y) (has-is b c y h) ∙ rw (strided-is fr c y stride s, lt-ltb (count * stride) 4294967296 l)
+      of-array n b count stride e (Fills c y) (has-is b c y h)
+      ∙ rw (strided-is fr c y stride s, lt-ltb (count * stride) 4294967296 l)
   has-is n a z (Has.struct m first count span aligns sizes c e h g p) =
-      of-members n first count span aligns sizes c e (λ i l. has-is (member fr first i .ty) (aligns i) (sizes i) (h i l)) g
+      of-members n first count span aligns sizes c e
+      (λ i l. has-is (structMember fr first i .ty) (aligns i) (sizes i) (h i l)) g
       ∙ rw (placed-stands fr first aligns sizes count c span p)
 
   -- A FAULT OF ITS OWN is worked out of it
@@ -149,10 +157,12 @@ module _ (fr : List ℕ) (good : Good fr) where
   fault-is n k (Fault.stride m b count stride a z e h s) =
       of-array n b count stride e (Fills a z) (has-is b a z h) ∙ rw (untrue _ (λ q. s (strided fr a z stride q)))
   fault-is n k (Fault.members m first count span aligns sizes a e h g p) =
-      of-members n first count span aligns sizes a e (λ i l. has-is (member fr first i .ty) (aligns i) (sizes i) (h i l)) g
+      of-members n first count span aligns sizes a e
+      (λ i l. has-is (structMember fr first i .ty) (aligns i) (sizes i) (h i l)) g
       ∙ rw (untrue _ (λ q. p (stands-placed fr first aligns sizes count a span q)))
   fault-is n k (Fault.huge m b count stride a z e h s l) =
-      of-array n b count stride e (Fills a z) (has-is b a z h) ∙ rw (strided-is fr a z stride s, le-ltb (count * stride) 4294967296 l)
+      of-array n b count stride e (Fills a z) (has-is b a z h)
+      ∙ rw (strided-is fr a z stride s, le-ltb (count * stride) 4294967296 l)
 
   -- NO LOWER FAULT: where a type rests on one with a fault of its own, it has no size, and the fault that it is given
   -- is at that type or a lower one
@@ -172,19 +182,22 @@ module _ (fr : List ℕ) (good : Good fr) where
 
   members-low : (j n : TypeNumber) (first : MemberNumber) (count span i : ℕ) (f : TypeNumber → Measure) → i < count
       → Folded fr f first count
-      → Low j (f (member fr first i .ty)) → Low j (spanned n (partsOf fr (startsOf fr) f first count) span)
+      → Low j (f (structMember fr first i .ty)) → Low j (spanned n (partsOf fr (startsOf fr) f first count) span)
   unfolding spanned
   members-low j n first count span i f l (Folded.filled all) h = absurd (rw (all i l) at h)
-  members-low j n first count span i f l (Folded.broken k p b o) h = rw b (lower-yet j p (f (member fr first i .ty)) (λ r q e. o .low i r q l e) h)
+  members-low j n first count span i f l (Folded.broken k p b o) h = rw b
+      (lower-yet j p (f (structMember fr first i .ty)) (λ r q e. o .low i r q l e) h)
 
   pub low : (n j : TypeNumber) (l : SizeFault) → RestsOn fr n j → Fault fr j l → Low j (measureIn fr (startsOf fr) n)
   low n j l (RestsOn.itself m) h = rw (fault-is n l h) (omega arith)
   low n j l (RestsOn.element m b i count stride e r) h =
-      rw (of-array n b count stride e (measureIn fr (startsOf fr) b) refl) (array-low j n (measureIn fr (startsOf fr) b) count stride (low b j l r h))
+      rw (of-array n b count stride e (measureIn fr (startsOf fr) b) refl)
+      (array-low j n (measureIn fr (startsOf fr) b) count stride (low b j l r h))
   low n j l (RestsOn.part m i first count span p e q r) h =
       rw (of-struct n first count span e (omega (arith, q)))
-      (members-low j n first count span p (measureIn fr (startsOf fr)) q (folded fr (measureIn fr (startsOf fr)) first count)
-      (low (member fr first p .ty) j l r h))
+      (members-low j n first count span p (measureIn fr (startsOf fr)) q
+      (folded fr (measureIn fr (startsOf fr)) first count)
+      (low (structMember fr first p .ty) j l r h))
 
   -- THE LAWS
 
@@ -194,7 +207,12 @@ module _ (fr : List ℕ) (good : Good fr) where
   lowest-fault : (n m : TypeNumber) (k : SizeFault) → measureIn fr (startsOf fr) n ≡ Faulty k m → LowestFault fr n m k
   lowest-fault n m k e =
       let h : RestsOn fr n m × Fault fr m k = rw e at (meant fr good n) in
-      record { rests = h .0; fault = h .1; lowest = λ j l r f. let g : Low j (Faulty k m) = rw e at (low n j l r f) in g }
+      record {
+        rests = h .0;
+        fault = h .1;
+        lowest = λ j l r f. let g : Low j (Faulty k m) = rw e at (low n j l r f) in
+            g;
+      }
 
   pub same-number : (m q : TypeNumber) → m .0 ≤ q .0 → q .0 ≤ m .0 → m ≡ q
   same-number m q a b = let e : m .0 ≡ q .0 = omega (arith, a, b) in ap (λ (x : ℕ). record { 0 = x }) e
@@ -208,5 +226,6 @@ module _ (fr : List ℕ) (good : Good fr) where
       let own : Fault fr m l = rw s (g .fault) in
       let d : Faulty k m ≡ Faulty l m = sym (fault-is m k (h .fault)) ∙ fault-is m l own in rw (sym s) (sym d)
 
-  pub fault-when : (n m : TypeNumber) (k : SizeFault) → (measureIn fr (startsOf fr) n ≡ Faulty k m) ↔ LowestFault fr n m k
+  pub fault-when : (n m : TypeNumber) (k : SizeFault)
+      → (measureIn fr (startsOf fr) n ≡ Faulty k m) ↔ LowestFault fr n m k
   fault-when n m k = (lowest-fault n m k, λ h. is-lowest n m k h (measureIn fr (startsOf fr) n) refl)

@@ -1,6 +1,5 @@
 -- What is worked out means what it says: a type has the alignment and size that it is given; the fault that it is
 -- given is the named type's own, and the type rests on that type. By the form of the type, over the earlier types.
--- Assumes nothing.
 use Prim.Native.Nat.{ℕ, zero, suc, _*_, _<_}
 use native.Mathlib.Omega.{arith}
 use mathlib.Core.Path.{_≡_, refl, sym, _∙_}
@@ -31,11 +30,14 @@ use Rattle.rule_sizes.specs.declared.SizeFault.the-variants.{Unmeasured, Mispla
 use Rattle.rule_sizes.specs.declared.Measure.{Measure}
 use Rattle.rule_sizes.specs.declared.Measure.the-variants.{Fills, Faulty}
 use Rattle.rule_sizes.specs.Wgsl.{isMultiple, integerAlign, floatAlign, numberAlign}
-use Rattle.rule_sizes.specs.Sizes.{scalarMeasure, vectorMeasure, matrixMeasure, arrayOf, partsOf, spanned, structOf, sizedArray, ofInner, ofForm, measureIn}
-use Rattle.rule_sizes.specs.Meaning.{Integer, Float, Number, Listed, member, Strided, Has, RestsOn, Fault}
-use Rattle.law_sizes.proofs.Scalars.{Given, integer-given, float-given, number-given, integer-has, float-has, number-has}
+use Rattle.rule_sizes.specs.Sizes.{scalarMeasure, vectorMeasure, matrixMeasure, arrayOf, partsOf, spanned, structOf}
+use Rattle.rule_sizes.specs.Sizes.{sizedArray, ofInner, ofForm, measureIn}
+use Rattle.rule_sizes.specs.Meaning.{Integer, Float, Number, Listed, structMember, Strided, Has, RestsOn, Fault}
+use Rattle.law_sizes.proofs.Scalars.{Given, integer-given, float-given, number-given, integer-has, float-has}
+use Rattle.law_sizes.proofs.Scalars.{number-has}
 use Rattle.law_sizes.proofs.Greatest.{topOf, top-greatest}
-use Rattle.law_sizes.proofs.Folded.{never, alignIn, sizeIn, stands, stands-placed, placed-stands, laid, AllFill, FirstLow, Folded, folded}
+use Rattle.law_sizes.proofs.Folded.{never, alignIn, sizeIn, stands, stands-placed, placed-stands, laid, AllFill}
+use Rattle.law_sizes.proofs.Folded.{FirstLow, Folded, folded}
 use Rattle.law_sizes.proofs.Fixed.{there, fixed}
 
 -- WHAT IS IN THE LIST, by each form that may be outside it
@@ -114,7 +116,11 @@ module _ (fr : List ℕ) where
 
   pub strided : (a : Alignment) (z stride : ℕ) → (isMultiple a stride && leb z stride) ≡ true → Strided a z stride
   strided a z stride e =
-      record { multiple = and-first (isMultiple a stride) _ e; holds = leb-true z stride (and-second (isMultiple a stride) _ e) }
+      record {
+        multiple = and-first (isMultiple a stride) _ e;
+        holds = leb-true z stride
+            (and-second (isMultiple a stride) _ e);
+      }
 
   pub strided-is : (a : Alignment) (z stride : ℕ) → Strided a z stride → (isMultiple a stride && leb z stride) ≡ true
   strided-is a z stride s = rw (s .multiple, le-leb z stride (s .holds))
@@ -128,8 +134,10 @@ module _ (fr : List ℕ) where
       by-test (Meant n) (isMultiple a stride && leb z stride)
       (λ q. by-test (Meant n) (ltb (count * stride) 4294967296)
       (λ l. Has.array n b count stride a z e h (strided a z stride q) (ltb-true (count * stride) 4294967296 l))
-      (λ l. own n Huge (Fault.huge n b count stride a z e h (strided a z stride q) (ltb-false (count * stride) 4294967296 l))))
-      (λ q. own n Misplaced (Fault.stride n b count stride a z e h (λ s. never (let x = sym q ∙ strided-is a z stride s in cc))))
+      (λ l. own n Huge (Fault.huge n b count stride a z e h (strided a z stride q)
+      (ltb-false (count * stride) 4294967296 l))))
+      (λ q. own n Misplaced
+      (Fault.stride n b count stride a z e h (λ s. never (let x = sym q ∙ strided-is a z stride s in cc))))
 
   sized-meant : (n b : TypeNumber) (z : ArraySize) (stride : ℕ) (f : TypeNumber → Measure)
       → typeAt fr n ≡ Tf.Known (Ti.Array b z stride) → Meant b (f b)
@@ -139,13 +147,15 @@ module _ (fr : List ℕ) where
   sized-meant n b As.Dynamic stride f e h = out n _ e (λ l. l)
 
   -- A STRUCT
-  module _ (n : TypeNumber) (first : MemberNumber) (count span : ℕ) (e : typeAt fr n ≡ Tf.Known (Ti.Struct first count span))
-      (f : TypeNumber → Measure) (h : (i : ℕ) → i < count → Meant (member fr first i .ty) (f (member fr first i .ty))) where
+  module _ (n : TypeNumber) (first : MemberNumber) (count span : ℕ)
+      (e : typeAt fr n ≡ Tf.Known (Ti.Struct first count span))
+      (f : TypeNumber → Measure)
+      (h : (i : ℕ) → i < count → Meant (structMember fr first i .ty) (f (structMember fr first i .ty))) where
     abbrev aligns : ℕ → Alignment
-    aligns i = alignIn (f (member fr first i .ty))
+    aligns i = alignIn (f (structMember fr first i .ty))
 
     abbrev sizes : ℕ → ℕ
-    sizes i = sizeIn (f (member fr first i .ty))
+    sizes i = sizeIn (f (structMember fr first i .ty))
 
     filled-meant : 0 < count → AllFill fr f first count
         → Meant n (spanned n (partsOf fr (startsOf fr) f first count) span)
@@ -153,7 +163,7 @@ module _ (fr : List ℕ) where
     filled-meant some all =
         let g = top-greatest aligns count some in
         let each : (i : ℕ) → i < count
-        → Has fr (member fr first i .ty) (aligns i) (sizes i) = λ i l. rw (all i l) at (h i l) in
+        → Has fr (structMember fr first i .ty) (aligns i) (sizes i) = λ i l. rw (all i l) at (h i l) in
         rw (laid fr f first aligns sizes count all)
         (by-test (Meant n) (stands fr first aligns sizes count (topOf aligns count) span)
         (λ q. Has.struct n first count span aligns sizes (topOf aligns count) e each g
@@ -163,10 +173,11 @@ module _ (fr : List ℕ) where
 
     broken-meant : (k : SizeFault) (p : TypeNumber) → FirstLow fr f first count k p → Meant n (Faulty k p)
     broken-meant k p o =
-        let q : Meant (member fr first (o .one) .ty) (Faulty k p) = rw (o .is) at (h (o .one) (o .there)) in
+        let q : Meant (structMember fr first (o .one) .ty) (Faulty k p) = rw (o .is) at (h (o .one) (o .there)) in
         (RestsOn.part n p first count span (o .one) e (o .there) (q .0), q .1)
 
-    parts-meant : 0 < count → Folded fr f first count → Meant n (spanned n (partsOf fr (startsOf fr) f first count) span)
+    parts-meant : 0 < count → Folded fr f first count
+        → Meant n (spanned n (partsOf fr (startsOf fr) f first count) span)
     unfolding spanned
     parts-meant some (Folded.filled all) = filled-meant some all
     parts-meant some (Folded.broken k p b o) = rw b (broken-meant k p o)
@@ -182,7 +193,8 @@ module _ (fr : List ℕ) where
         positive (suc c) d = omega arith
 
   -- ANY TYPE
-  inner-meant : (n : TypeNumber) (t : TypeInner) (f : TypeNumber → Measure) → typeAt fr n ≡ Tf.Known t → InnerThere fr n t
+  inner-meant : (n : TypeNumber) (t : TypeInner) (f : TypeNumber → Measure) → typeAt fr n ≡ Tf.Known t
+      → InnerThere fr n t
       → ((b : TypeNumber) → b .0 < n .0 → Meant b (f b)) → Meant n (ofInner fr (startsOf fr) f n t)
   inner-meant n (Ti.Scalar k) f e h ih = scalar-meant n k e (numberAlign k) refl (number-given k)
   inner-meant n (Ti.Vector z k) f e h ih = vector-meant n z k e (numberAlign k) refl (number-given k)
@@ -208,7 +220,8 @@ module _ (fr : List ℕ) where
     below : (limit : ℕ) (n : TypeNumber) → n .0 < limit → Meant n (measureIn fr (startsOf fr) n)
     below zero n l = absurd (omega arith)
     below (suc limit) n l =
-        rw (fixed fr good n) (form-meant n (typeAt fr n) (measureIn fr (startsOf fr)) refl (there fr good n) (λ b m. below limit b (omega arith)))
+        rw (fixed fr good n) (form-meant n (typeAt fr n) (measureIn fr (startsOf fr)) refl (there fr good n)
+        (λ b m. below limit b (omega arith)))
 
     pub meant : (n : TypeNumber) → Meant n (measureIn fr (startsOf fr) n)
     meant n = below (suc (n .0)) n (omega arith)

@@ -23,9 +23,12 @@ scalar-is s r e =
     let b = scalarKindNumber (r .kind) in
     let v = widthNumber (s .width) in
     let w = widthNumber (r .width) in
-    let k : s .kind ≡ r .kind = sym (scalarKind-back (s .kind)) ∙ ap scalarKindOf (eqb-true a b (and-first (eqb a b) (eqb v w) e)) ∙ scalarKind-back (r .kind) in
-    let l : s .width ≡ r .width = sym (width-back (s .width)) ∙ ap widthOf (eqb-true v w (and-second (eqb a b) (eqb v w) e)) ∙ width-back (r .width) in
-    ap (λ (x : ScalarKind). record { kind = x; width = s .width }) k ∙ ap (λ (x : Width). record { kind = r .kind; width = x }) l
+    let k : s .kind ≡ r .kind = sym (scalarKind-back (s .kind))
+    ∙ ap scalarKindOf (eqb-true a b (and-first (eqb a b) (eqb v w) e)) ∙ scalarKind-back (r .kind) in
+    let l : s .width ≡ r .width = sym (width-back (s .width))
+    ∙ ap widthOf (eqb-true v w (and-second (eqb a b) (eqb v w) e)) ∙ width-back (r .width) in
+    ap (λ (x : ScalarKind). record { kind = x; width = s .width }) k
+    ∙ ap (λ (x : Width). record { kind = r .kind; width = x }) l
 
 either : {X : Type 0} (a b : Bool) → (a || b) ≡ true → (a ≡ true → X) → (b ≡ true → X) → X
 either true b e f g = f refl
@@ -40,7 +43,8 @@ Given L k Oa.None = Unit {0}
 pub integer-given : (k : Scalar) → Given Integer k (integerAlign k)
 integer-given k =
     by-test (Given Integer k) (equalScalars k I32 || equalScalars k U32)
-    (λ e. either (equalScalars k I32) (equalScalars k U32) e (λ q. rw (scalar-is k I32 q) Integer.i32) (λ q. rw (scalar-is k U32 q) Integer.u32)) (λ e. tt)
+    (λ e. either (equalScalars k I32) (equalScalars k U32) e (λ q. rw (scalar-is k I32 q) Integer.i32)
+    (λ q. rw (scalar-is k U32 q) Integer.u32)) (λ e. tt)
 
 pub float-given : (k : Scalar) → Given Float k (floatAlign k)
 float-given k =

@@ -1,5 +1,5 @@
 -- A size is the source's own (`TypeInner::try_size`, proc/type_methods.rs, lines 230 to 284) wherever a type has one,
--- but for the source's upper limit. By the forms of the list. Assumes nothing.
+-- but for the source's upper limit. By the forms of the list.
 use Prim.Native.Nat.{ℕ, _*_}
 use mathlib.Core.Path.{_≡_, refl, ap, _∙_}
 use mathlib.Core.List.{List}
@@ -76,7 +76,8 @@ matrix-width Quad Quad k a Float.f16 = refl
 pub source-size : (fr : List ℕ) (n : TypeNumber) (a : Alignment) (z : ℕ) → Has fr n a z
     → sourceSize (typeAt fr n) ≡ some z
 source-size fr n a z (Has.scalar m k b e h) = ap sourceSize e ∙ ap some (number-width k b h)
-source-size fr n a z (Has.vector m s k b e h) = ap sourceSize e ∙ ap (λ (w : ℕ). some (vectorSizeNumber s * w)) (number-width k b h)
+source-size fr n a z (Has.vector m s k b e h) = ap sourceSize e
+    ∙ ap (λ (w : ℕ). some (vectorSizeNumber s * w)) (number-width k b h)
 source-size fr n a z (Has.matrix m c r k b e h) = ap sourceSize e ∙ ap some (matrix-width c r k b h)
 source-size fr n a z (Has.atomic m k b e h) = ap sourceSize e ∙ ap some (integer-width k b h)
 source-size fr n a z (Has.array m b count stride c y e h s l) = ap sourceSize e

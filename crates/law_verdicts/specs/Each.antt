@@ -1,4 +1,5 @@
--- One answer for each row, and one verdict for each compose (document 01, the end of "The file" and "Cases": one line a row, and one more after a compose).
+-- One answer for each row, and one verdict for each compose (document 01, the end of "The file" and "Cases": one line a
+-- row, and one more after a compose).
 use Prim.Native.Nat.{ℕ, _+_}
 use mathlib.Core.Path.{_≡_}
 use mathlib.Core.Bool.{cond}

@@ -1,13 +1,16 @@
--- The verdicts that are ours, and what their frames hold (document 01, "Numbers handed back" and the end of "The file").
+-- The verdicts that are ours, and what their frames hold (document 01, "Numbers handed back" and the end of "The
+-- file").
 use Prim.Native.Nat.{ℕ, _<_}
 use mathlib.Core.Path.{_≡_}
 use mathlib.Core.Logic.{_↔_}
 use Rattle.frames.specs.declared.Frame.{Frame}
 use Rattle.frames.specs.Bytes.{byte, half, word}
-use Rattle.rule.specs.Answers.{Judgement, passes, notComposed, count, part, broken, component, composed, Result, told, newer, verdictFrame}
+use Rattle.rule.specs.Answers.{Judgement, passes, notComposed, count, part, broken, component, composed, Result, told}
+use Rattle.rule.specs.Answers.{newer, verdictFrame}
 
--- a verdict of ours on a compose of m components: it passes, the type is not composed, two counts differ, a component is not as asked or refused, or newer
--- at the composed type or at a component. A chosen verdict is none, and so is a newer thing at any other place.
+-- a verdict of ours on a compose of m components: it passes, the type is not composed, two counts differ, a component
+-- is not as asked or refused, or newer at the composed type or at a component. A chosen verdict is none, and so is a
+-- newer thing at any other place.
 pub data OurVerdict (m : ℕ) : Result Judgement → Type 0 where
   itPasses : OurVerdict m (told passes)
   noComposed : OurVerdict m (told notComposed)
@@ -36,5 +39,6 @@ pub record VerdictLaid (n m : ℕ) (v : Result Judgement) : Type 0 where
   pub family : byte (frameOf n v) 0 ≡ 11
   pub values : Writes m (byte (frameOf n v) 1) (word (frameOf n v) 4) (word (frameOf n v) 8)
   pub row : half (frameOf n v) 2 ≡ n
-  -- b4-7 of a 22 are hex ffffffff exactly where the composed type itself is newer: a count, of b4-5 of its row, is at most 65,535
+  -- b4-7 of a 22 are hex ffffffff exactly where the composed type itself is newer: a count, of b4-5 of its row, is at
+  -- most 65,535
   pub whole : m < 65536 → byte (frameOf n v) 1 ≡ 22 → (word (frameOf n v) 4 ≡ 0xffff_ffff) ↔ (v ≡ newer composed)

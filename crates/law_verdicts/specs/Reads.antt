@@ -1,6 +1,7 @@
--- What a verdict comes to, in order, as a table with a line for each composed kind; written from document 01, "A compose's verdict" and "Same type or not",
--- and not from the rule. First the composed type is looked into. Then, by its line, the count is checked, and the components are taken in order: the
--- component's row, with its own reading, and then what the component is held against. The reading ends with what decides.
+-- What a verdict comes to, in order, as a table with a line for each composed kind; written from document 01, "A
+-- compose's verdict" and "Same type or not", and not from the rule. First the composed type is looked into. Then, by
+-- its line, the count is checked, and the components are taken in order: the component's row, with its own reading, and
+-- then what the component is held against. The reading ends with what decides.
 use Prim.Native.Nat.{ℕ, suc}
 use mathlib.Core.Bool.{Bool, false, cond, not, _&&_, _||_}
 use mathlib.Core.List.{List, [], _∷_, _++_}
@@ -34,15 +35,16 @@ pub data Against : Type 0 where
   column : VectorSize → Scalar → Against
   sameAs : TypeNumber → Against
 
--- a line of the table: the count that is checked before any component is come to, if one is; and what component i is held against
-pub record Line : Type 0 where
+-- a line of the table: the count that is checked before any component is come to, if one is; and what component i is
+-- held against
+pub record ReadLine : Type 0 where
   pub counts : Option ℕ
   pub each : ℕ → Against
 
 -- THE TABLE; a kind that has no line is never composed, and nothing is come to after it
 
 -- an array of constant size has a line; of another size it has none
-abbrev pub arrayLine : TypeNumber → ArraySize → Option Line
+abbrev pub arrayLine : TypeNumber → ArraySize → Option ReadLine
 arrayLine base (As.Constant n) = some (record { counts = some n; each = λ (i : ℕ). sameAs base })
 arrayLine base (As.Pending o) = none
 arrayLine base As.Dynamic = none
@@ -51,24 +53,27 @@ arrayLine base As.Dynamic = none
 abbrev pub memberAt : List TypeNumber → ℕ → TypeNumber
 memberAt members i = getD members i (record { 0 = 0 })
 
--- by the composed type, with the types of a struct's members. A vector adds its components up, and its total is checked last.
-abbrev pub line : List TypeNumber → TypeInner → Option Line
-line members (Ti.Vector z k) = some (record { counts = none; each = λ (i : ℕ). partOf k })
-line members (Ti.Matrix c r k) = some (record { counts = some (vectorSizeNumber c); each = λ (i : ℕ). column r k })
-line members (Ti.Array b z t) = arrayLine b z
-line members (Ti.Struct m n t) = some (record { counts = some (length members); each = λ (i : ℕ). sameAs (memberAt members i) })
-line members (Ti.Scalar k) = none
-line members (Ti.CooperativeMatrix c r k o) = none
-line members (Ti.Atomic k) = none
-line members (Ti.Pointer b p) = none
-line members (Ti.ValuePointer z k p) = none
-line members (Ti.Image d a c) = none
-line members (Ti.Sampler q) = none
-line members (Ti.AccelerationStructure q) = none
-line members (Ti.RayQuery q) = none
-line members (Ti.BindingArray b z) = none
+-- by the composed type, with the types of a struct's members. A vector adds its components up, and its total is checked
+-- last.
+abbrev pub readLine : List TypeNumber → TypeInner → Option ReadLine
+readLine members (Ti.Vector z k) = some (record { counts = none; each = λ (i : ℕ). partOf k })
+readLine members (Ti.Matrix c r k) = some (record { counts = some (vectorSizeNumber c); each = λ (i : ℕ). column r k })
+readLine members (Ti.Array b z t) = arrayLine b z
+readLine members (Ti.Struct m n t) = some
+    (record { counts = some (length members); each = λ (i : ℕ). sameAs (memberAt members i) })
+readLine members (Ti.Scalar k) = none
+readLine members (Ti.CooperativeMatrix c r k o) = none
+readLine members (Ti.Atomic k) = none
+readLine members (Ti.Pointer b p) = none
+readLine members (Ti.ValuePointer z k p) = none
+readLine members (Ti.Image d a c) = none
+readLine members (Ti.Sampler q) = none
+readLine members (Ti.AccelerationStructure q) = none
+readLine members (Ti.RayQuery q) = none
+readLine members (Ti.BindingArray b z) = none
 
--- THE COMPARISON of two answers ("Same type or not"): what it comes to, and whether they are the same type, by what a file shows
+-- THE COMPARISON of two answers ("Same type or not"): what it comes to, and whether they are the same type, by what a
+-- file shows
 
 -- the base of a type that was looked into, if it is a pointer
 abbrev pub baseOf : Option Form → List Thing
@@ -88,7 +93,8 @@ saysYes none = false
 abbrev pub eitherStruct : Sight → TypeAnswer → TypeAnswer → Bool
 eitherStruct sight a b = saysYes (sight (structNumber a)) || saysYes (sight (structNumber b))
 
--- identical answers need nothing; else it is asked whether either is the number of a struct; else both are looked into, with the base of a pointer
+-- identical answers need nothing; else it is asked whether either is the number of a struct; else both are looked into,
+-- with the base of a pointer
 abbrev pub comparison : Sight → TypeAnswer → TypeAnswer → List Thing
 comparison sight a b =
     cond (identical a b) []
@@ -101,7 +107,8 @@ pointerForm t s none = none
 
 -- the canonical form of a type that was looked into; none where that, or a pointer's base, is of unknown kind
 abbrev pub canonicalForm : Sight → Option Form → Option TypeInner
-canonicalForm sight (some x) = ifPointer (x .inner) (λ b s. pointerForm (x .inner) s (sight (form (number b)))) (some (x .inner))
+canonicalForm sight (some x) = ifPointer (x .inner) (λ b s. pointerForm (x .inner) s (sight (form (number b))))
+    (some (x .inner))
 canonicalForm sight none = none
 
 -- two canonical forms are equal; an unknown one is equal to none, and no reading goes on from it
@@ -113,7 +120,8 @@ equalForms none v = false
 -- identical answers are the same type; else the number of a struct is not; else canonical forms are compared
 abbrev pub areSame : Sight → TypeAnswer → TypeAnswer → Bool
 areSame sight a b =
-    identical a b || (not (eitherStruct sight a b) && equalForms (canonicalForm sight (sight (form a))) (canonicalForm sight (sight (form b))))
+    identical a b || (not (eitherStruct sight a b)
+    && equalForms (canonicalForm sight (sight (form a))) (canonicalForm sight (sight (form b))))
 
 -- A COMPONENT, by its answer: what is come to, and whether it is as asked
 
@@ -145,14 +153,15 @@ abbrev pub thingSteps : Sight → Place → List Thing → List Step → List St
 thingSteps sight p [] rest = rest
 thingSteps sight p (c ∷ cs) rest = step p c ∷ unlessNewer (sight c) (thingSteps sight p cs rest)
 
--- the components from component i on: the row with its own reading, all of it at this component; then what the component comes to; one that is refused,
--- or newer, or not as asked, ends the reading
+-- the components from component i on: the row with its own reading, all of it at this component; then what the
+-- component comes to; one that is refused, or newer, or not as asked, ends the reading
 unfoldable pub partSteps : Sight → Readings → (ℕ → Against) → ℕ → List RowNumber → List Step
 partSteps sight earlier each i [] = []
 partSteps sight earlier each i (n ∷ parts) =
     placed (λ p. component i) (earlier n .steps)
     ++ unlessRefused (earlier n .end) (λ a.
-    thingSteps sight (component i) (comesTo sight (each i) a) (cond (isAsAsked sight (each i) a) (partSteps sight earlier each (suc i) parts) []))
+    thingSteps sight (component i) (comesTo sight (each i) a)
+    (cond (isAsAsked sight (each i) a) (partSteps sight earlier each (suc i) parts) []))
 
 -- a count that differs ends the reading
 abbrev pub ifCounted : Option ℕ → ℕ → List Step → List Step
@@ -160,15 +169,17 @@ ifCounted (some expected) given rest = cond (eqb expected given) rest []
 ifCounted none given rest = rest
 
 -- a line: the count, then the components
-abbrev pub lineSteps : Sight → Readings → List RowNumber → Option Line → List Step
-lineSteps sight earlier parts (some l) = ifCounted (l .counts) (length parts) (partSteps sight earlier (l .each) 0 parts)
+abbrev pub lineSteps : Sight → Readings → List RowNumber → Option ReadLine → List Step
+lineSteps sight earlier parts (some l) = ifCounted (l .counts) (length parts)
+    (partSteps sight earlier (l .each) 0 parts)
 lineSteps sight earlier parts none = []
 
 -- a composed type that shows nothing is newer
 abbrev pub formSteps : Sight → Readings → List RowNumber → Option Form → List Step
-formSteps sight earlier parts (some x) = lineSteps sight earlier parts (line (x .members) (x .inner))
+formSteps sight earlier parts (some x) = lineSteps sight earlier parts (readLine (x .members) (x .inner))
 formSteps sight earlier parts none = []
 
 -- the reading of the verdict on a compose of type t from these rows
 abbrev pub verdictReading : Sight → Readings → TypeNumber → List RowNumber → List Step
-verdictReading sight earlier t parts = step composed (form (number t)) ∷ formSteps sight earlier parts (sight (form (number t)))
+verdictReading sight earlier t parts = step composed (form (number t)) ∷ formSteps sight earlier parts
+    (sight (form (number t)))

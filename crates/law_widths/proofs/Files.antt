@@ -1,5 +1,5 @@
--- The frames of an accepted file have the four widths alone: every frame meets check 5, which asks it of each type that holds a scalar, and of each As row.
--- Assumes nothing.
+-- The frames of an accepted file have the four widths alone: every frame meets check 5, which asks it of each type that
+-- holds a scalar, and of each As row.
 use Prim.Native.Nat.{ℕ}
 use mathlib.Core.Path.{_≡_, sym, _∙_}
 use mathlib.Core.List.{List}
@@ -11,7 +11,7 @@ use Rattle.frames.proofs.Families.{fit-type, fit-row}
 use Rattle.archive.specs.Checks.{fieldOk}
 use Rattle.archive.proofs.Checked.{Holds}
 use Rattle.rule_file.specs.File.{readFile}
-use Rattle.rule_file.proofs.Laws.{accepted-when}
+use Rattle.law_file.proofs.Laws.{accepted-when}
 use Rattle.law_widths.specs.Widths.{FileWidths}
 use Rattle.law_widths.proofs.Values.{fitting-width, as-width}
 
@@ -23,5 +23,6 @@ checked-widths fr fields = record {
 }
 
 -- the frames of an accepted file
-pub file-widths : (limit : ℕ) (t : List ℕ) (f : ℕ) (room : AnswerRoom) (n : ℕ) → readFile limit t f room ≡ Accepted n → FileWidths (decoded t n)
+pub file-widths : (limit : ℕ) (t : List ℕ) (f : ℕ) (room : AnswerRoom) (n : ℕ) → readFile limit t f room ≡ Accepted n
+    → FileWidths (decoded t n)
 file-widths limit t f room n e = checked-widths (decoded t n) (accepted-when limit t f room n .0 e .fields)

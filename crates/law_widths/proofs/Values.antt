@@ -1,5 +1,5 @@
--- A type that is written has one of the four widths, since a width has no other number; so has a frame that fits the layout of its kind, by the test of its
--- scalar. Case by case of the kind. Assumes nothing.
+-- A type that is written has one of the four widths, since a width has no other number; so has a frame that fits the
+-- layout of its kind, by the test of its scalar. Case by case of the kind.
 use Prim.Native.Nat.{ℕ}
 use native.Mathlib.Omega.{arith}
 use mathlib.Core.Path.{_≡_, refl, sym, ap, _∙_}
@@ -18,7 +18,8 @@ use Rattle.answers.specs.declared.Answer.the-variants as An
 use Rattle.answers.specs.Numbers.{SaidOf, type, noPointer, refused}
 use Rattle.frames.specs.declared.Frame.{Frame}
 use Rattle.frames.specs.Bytes.{byte}
-use Rattle.frames.specs.Fields.{read, fits, fitsAll, isConvert, vectorSize, optionSize, cooperativeSize, scalar, scalarKind, convert}
+use Rattle.frames.specs.Fields.{read, fits, fitsAll, isConvert, vectorSize, optionSize, cooperativeSize, scalar}
+use Rattle.frames.specs.Fields.{scalarKind, convert}
 use Rattle.frames.specs.Layout.{typeLayout, rowLayout}
 use Rattle.frames.specs.Out.{typeFrame, resolutionFrame, answerFrame}
 use Rattle.rule_types.proofs.Seen.{never}
@@ -72,7 +73,8 @@ scalar-back f h = (
 )
 
 -- what holds of a kind holds of its number
-moved : (f : Frame) (k n : ℕ) → eqb k n ≡ true → fitsAll (typeLayout (typeKindOf k)) f ≡ true → fitsAll (typeLayout (typeKindOf n)) f ≡ true
+moved : (f : Frame) (k n : ℕ) → eqb k n ≡ true → fitsAll (typeLayout (typeKindOf k)) f ≡ true
+    → fitsAll (typeLayout (typeKindOf n)) f ≡ true
 moved f k n p t = ap (λ (j : ℕ). fitsAll (typeLayout (typeKindOf j)) f) (sym (eqb-true k n p)) ∙ t
 
 -- the scalar of a frame that fits its kind's layout fits
@@ -82,11 +84,14 @@ holds f k h t = go (eqb k 1) (eqb k 2) (eqb k 3) (eqb k 4) (eqb k 5) (eqb k 7) r
     go : (a b c d e g : Bool) → eqb k 1 ≡ a → eqb k 2 ≡ b → eqb k 3 ≡ c → eqb k 4 ≡ d → eqb k 5 ≡ e → eqb k 7 ≡ g
         → (a || (b || (c || (d || (e || g))))) ≡ true → fits scalar f ≡ true
     go true b c d e g p1 p2 p3 p4 p5 p7 q = and-first (fits scalar f) _ (moved f k 1 p1 t)
-    go false true c d e g p1 p2 p3 p4 p5 p7 q = and-first (fits scalar f) _ (and-second (fits (vectorSize 2) f) _ (moved f k 2 p2 t))
+    go false true c d e g p1 p2 p3 p4 p5 p7 q = and-first (fits scalar f) _
+        (and-second (fits (vectorSize 2) f) _ (moved f k 2 p2 t))
     go false false true d e g p1 p2 p3 p4 p5 p7 q =
-        and-first (fits scalar f) _ (and-second (fits (vectorSize 3) f) _ (and-second (fits (vectorSize 2) f) _ (moved f k 3 p3 t)))
+        and-first (fits scalar f) _
+        (and-second (fits (vectorSize 3) f) _ (and-second (fits (vectorSize 2) f) _ (moved f k 3 p3 t)))
     go false false false true e g p1 p2 p3 p4 p5 p7 q =
-        and-first (fits scalar f) _ (and-second (fits (cooperativeSize 3) f) _ (and-second (fits (cooperativeSize 2) f) _ (moved f k 4 p4 t)))
+        and-first (fits scalar f) _
+        (and-second (fits (cooperativeSize 3) f) _ (and-second (fits (cooperativeSize 2) f) _ (moved f k 4 p4 t)))
     go false false false false true g p1 p2 p3 p4 p5 p7 q = and-first (fits scalar f) _ (moved f k 5 p5 t)
     go false false false false false true p1 p2 p3 p4 p5 p7 q =
         and-first (fits scalar f) _ (and-second (fits (optionSize 2) f) _ (moved f k 7 p7 t))
@@ -99,16 +104,19 @@ fitting-width f t h = and-second (ltb (byte f 4) 6) (isWidth (byte f 5)) (holds 
 -- a flag and a width that fit
 converts : (f : Frame) → isConvert (byte f 7) (byte f 8) ≡ true → AsWidth f
 converts f h =
-    let t : cond (eqb (byte f 7) 1) (isWidth (byte f 8)) (eqb (byte f 8) 0) ≡ true = and-second (ltb (byte f 7) 2) _ h in
+    let t : cond (eqb (byte f 7) 1) (isWidth (byte f 8)) (eqb (byte f 8) 0)
+    ≡ true = and-second (ltb (byte f 7) 2) _ h in
     record {
       flag = ltb-true (byte f 7) 2 (and-first (ltb (byte f 7) 2) _ h);
       set = λ e. sym (ap (λ (b : ℕ). cond (eqb b 1) (isWidth (byte f 8)) (eqb (byte f 8) 0)) e) ∙ t;
       clear =
-          λ e. eqb-true (byte f 8) 0 (sym (ap (λ (b : ℕ). cond (eqb b 1) (isWidth (byte f 8)) (eqb (byte f 8) 0)) e) ∙ t);
+          λ e. eqb-true (byte f 8) 0
+          (sym (ap (λ (b : ℕ). cond (eqb b 1) (isWidth (byte f 8)) (eqb (byte f 8) 0)) e) ∙ t);
     }
 
 -- an As row that fits its layout
 pub as-width : (f : Frame) → byte f 1 ≡ 23 → fitsAll (rowLayout (rowKindOf (byte f 1))) f ≡ true → AsWidth f
 as-width f e t =
-    let u : fitsAll (rowLayout (rowKindOf 23)) f ≡ true = ap (λ (k : ℕ). fitsAll (rowLayout (rowKindOf k)) f) (sym e) ∙ t in
+    let u : fitsAll (rowLayout (rowKindOf 23)) f ≡ true = ap (λ (k : ℕ). fitsAll (rowLayout (rowKindOf k)) f) (sym e)
+    ∙ t in
     converts f (and-first (fits convert f) _ (and-second (fits (scalarKind 6) f) _ u))

@@ -1,5 +1,5 @@
--- Widths over bytes (document 02, request 2): in the frames of an accepted file, and in every value handed back, a width is 1, 2, 4 or 8 (`isWidth`,
--- ir/specs/Numbers.antt).
+-- Widths over bytes (document 02, request 2): in the frames of an accepted file, and in every value handed back, a
+-- width is 1, 2, 4 or 8 (`isWidth`, ir/specs/Numbers.antt).
 use Prim.Native.Nat.{ℕ, _<_}
 use mathlib.Core.Path.{_≡_}
 use mathlib.Core.Bool.{Bool, true, false, _||_}
@@ -9,7 +9,8 @@ use Rattle.ir.specs.Numbers.{isWidth}
 use Rattle.frames.specs.declared.Frame.{Frame}
 use Rattle.frames.specs.Bytes.{byte, frameAt, frameCount}
 
--- the kinds of types that hold a scalar, in bytes 4 and 5: Scalar, Vector, Matrix, CooperativeMatrix, Atomic and ValuePointer
+-- the kinds of types that hold a scalar, in bytes 4 and 5: Scalar, Vector, Matrix, CooperativeMatrix, Atomic and
+-- ValuePointer
 abbrev pub holdsScalar : ℕ → Bool
 holdsScalar k = eqb k 1 || (eqb k 2 || (eqb k 3 || (eqb k 4 || (eqb k 5 || eqb k 7))))
 
@@ -26,7 +27,8 @@ pub record AsWidth (f : Frame) : Type 0 where
 -- the frames of a file: types are family 1, As rows family 4, kind 23
 pub record FileWidths (fr : List ℕ) : Type 0 where
   pub types : (k : ℕ) → k < frameCount fr → byte (frameAt fr k) 0 ≡ 1 → RealWidth (frameAt fr k)
-  pub conversions : (k : ℕ) → k < frameCount fr → byte (frameAt fr k) 0 ≡ 4 → byte (frameAt fr k) 1 ≡ 23 → AsWidth (frameAt fr k)
+  pub conversions : (k : ℕ) → k < frameCount fr → byte (frameAt fr k) 0 ≡ 4 → byte (frameAt fr k) 1 ≡ 23
+      → AsWidth (frameAt fr k)
 
 -- a frame handed back: a value is family 9
 abbrev pub ValueWidth : Frame → Type 0

@@ -1,4 +1,4 @@
--- A count read digit by digit: the number so far is what the digits spell, and more digits spell no less. Assumes nothing.
+-- A count read digit by digit: the number so far is what the digits spell, and more digits spell no less.
 use Prim.Native.Nat.{ℕ, zero, suc, _+_, _*_, _-_, _≤_, _<_}
 use native.Mathlib.Decide.{decLe}
 use native.Mathlib.Numerals.{add-one}
@@ -36,7 +36,13 @@ pub step : (w : List ℕ) (n k d : ℕ) → Exact w n k → k < length w → isD
     → Exact w (10 * n + d) (k + 1)
 unfolding allBelow
 step w n k d i h dg ed s =
-    record { few = omega (arith, h); digits = rw (add-one, i .digits, dg); small = s; exact = one-digit w n k d (i .exact) ed }
+    record {
+      few = omega (arith, h);
+      digits = rw (add-one, i .digits, dg);
+      small = s;
+      exact = one-digit w n k d
+          (i .exact) ed;
+    }
 
 spells-more : (w : List ℕ) (k m : ℕ) → k ≤ m → spells w k ≤ spells w m
 unfolding spells
@@ -53,8 +59,10 @@ unfolding countOf
 no-number w k h e = go (allBelow (isDigit w) (length w)) refl
   where
     go : (b : Bool) → allBelow (isDigit w) (length w) ≡ b
-        → None ≡ cond (ltb 0 (length w) && (b && ltb (spells w (length w)) 4294967296)) (Some (spells w (length w))) None
-    go true p = let t = all-each (isDigit w) (length w) k p h in let z : _≡_ {A = Bool} true false = sym t ∙ e in let y : _≡_ {A = ℕ} 0 1 = cc in absurd (omega arith)
+        → None ≡ cond (ltb 0 (length w) && (b && ltb (spells w (length w)) 4294967296))
+        (Some (spells w (length w))) None
+    go true p = let t = all-each (isDigit w) (length w) k p h in let z : _≡_ {A = Bool} true false = sym t ∙ e in
+        let y : _≡_ {A = ℕ} 0 1 = cc in absurd (omega arith)
     go false p = rw (and-false (ltb 0 (length w)))
 
 -- a number that is too large

@@ -1,5 +1,5 @@
 -- Words that the programs take: `wgsl` is these four letters and no others, and of two words either may come first. By
--- cases. Assumes nothing.
+-- cases.
 use Prim.Native.Nat.{ℕ}
 use mathlib.Core.Path.{_≡_, refl}
 use mathlib.Core.Bool.{Bool, true, false, _&&_}
@@ -29,9 +29,15 @@ wgsl-only (a ∷ b ∷ c ∷ []) e = cc
 wgsl-only (a ∷ b ∷ c ∷ d ∷ []) e =
     let bcd = and-second (eqb a 119) (eqb b 103 && (eqb c 115 && eqb d 108)) e in
     let cd = and-second (eqb b 103) (eqb c 115 && eqb d 108) bcd in
-    rw (eqb-true a 119 (and-first (eqb a 119) _ e), eqb-true b 103 (and-first (eqb b 103) _ bcd), eqb-true c 115 (and-first (eqb c 115) _ cd), eqb-true d 108 (and-second (eqb c 115) _ cd))
+    rw (
+      eqb-true a 119 (and-first (eqb a 119) _ e),
+      eqb-true b 103 (and-first (eqb b 103) _ bcd),
+      eqb-true c 115 (and-first (eqb c 115) _ cd),
+      eqb-true d 108 (and-second (eqb c 115) _ cd),
+    )
 wgsl-only (a ∷ b ∷ c ∷ d ∷ x ∷ w) e =
-    let n : length (a ∷ b ∷ c ∷ d ∷ x ∷ w) ≡ 4 = eqb-true _ 4 (and-first (eqb (length (a ∷ b ∷ c ∷ d ∷ x ∷ w)) 4) _ e) in
+    let n : length (a ∷ b ∷ c ∷ d ∷ x ∷ w)
+    ≡ 4 = eqb-true _ 4 (and-first (eqb (length (a ∷ b ∷ c ∷ d ∷ x ∷ w)) 4) _ e) in
     absurd (omega (arith, n))
 
 pub either-order : (v w : Word) → askedBy v w ≡ askedBy w v

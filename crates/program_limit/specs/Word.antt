@@ -24,14 +24,17 @@ unfoldable pub spells : List ℕ → ℕ → ℕ
 spells w zero = 0
 spells w (suc n) = 10 * spells w n + (getD w n 0 - 48)
 
--- the limit that holds by the number that a word spells, however long it is; a word that is empty or has another byte is none
+-- the limit that holds by the number that a word spells, however long it is; a word that is empty or has another byte
+-- is none
 unfoldable pub limitOf : List ℕ → Word
-limitOf w = cond (ltb 0 (length w) && allBelow (isDigit w) (length w)) (Limit (mostFrames (spells w (length w)))) Neither
+limitOf w = cond (ltb 0 (length w) && allBelow (isDigit w) (length w))
+    (Limit (mostFrames (spells w (length w)))) Neither
 
 -- a word is the four letters `wgsl`
 unfoldable pub isWgsl : List ℕ → Bool
 isWgsl w =
-    eqb (length w) 4 && (eqb (getD w 0 0) 119 && (eqb (getD w 1 0) 103 && (eqb (getD w 2 0) 115 && eqb (getD w 3 0) 108)))
+    eqb (length w) 4 && (eqb (getD w 0 0) 119
+    && (eqb (getD w 1 0) 103 && (eqb (getD w 2 0) 115 && eqb (getD w 3 0) 108)))
 
 -- what a word says
 unfoldable pub wordOf : List ℕ → Word

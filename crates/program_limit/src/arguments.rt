@@ -21,7 +21,8 @@ fn word_at(i: usize) -> Word {
     word_of(&word[..n])
 }
 
-// What the arguments ask for: the limit that holds, which is 1,024 where none is handed in, and whether the second pass.
+// What the arguments ask for: the limit that holds, which is 1,024 where none is handed in, and whether the second
+// pass.
 // Other arguments, and more than two, are told on standard error, with what is taken.
 pub fn asked() -> Asked {
     if os::arg_count() <= 3 {

@@ -1,8 +1,9 @@
-// Replays the texts of the file `cases`, good and damaged, and prints for each its name, the number and place that reading it
-// gives, and what became of the frame buffer. tools/replay_cases.py writes the cases and what must be printed.
+// Replays the texts of the file `cases`, good and damaged, and prints for each its name, the number and place that
+// reading it gives, and what became of the frame buffer. tools/replay_cases.py writes the cases and what must be
+// printed.
 //
-// A case is a line of 59 bytes: the name with blanks up to 40, a blank, the frame buffer's length in 5 digits, a blank, the
-// text's length in 5 digits, a blank, the limit in 5 digits, a line feed. The text follows, and one line feed more.
+// A case is a line of 59 bytes: the name with blanks up to 40, a blank, the frame buffer's length in 5 digits, a blank,
+// the text's length in 5 digits, a blank, the limit in 5 digits, a line feed. The text follows, and one line feed more.
 use answers::MAX_FRAMES;
 use answers::MAX_TEXT_BYTES;
 use answers::Outcome;

@@ -1,9 +1,9 @@
-// Replays the file `cases`: prints for each case its first line, what typing its text writes, and for each of its pairs of frames
-// whether they are the same type. oracle/store.py writes the cases and what must be printed.
+// Replays the file `cases`: prints for each case its first line, what typing its text writes, and for each of its pairs
+// of frames whether they are the same type. oracle/store.py writes the cases and what must be printed.
 //
-// A case begins with a line of 59 bytes: the name with blanks up to 40, a blank, the source of what must be printed in 5 letters, a
-// blank, the text's length in 5 digits, a blank, the length of the pairs in 5 digits, a line feed. The text follows, then two lines
-// of 32 digits for each pair, and one line feed more.
+// A case begins with a line of 59 bytes: the name with blanks up to 40, a blank, the source of what must be printed in
+// 5 letters, a blank, the text's length in 5 digits, a blank, the length of the pairs in 5 digits, a line feed. The
+// text follows, then two lines of 32 digits for each pair, and one line feed more.
 use answers::MAX_FRAME_BYTES;
 use answers::MAX_LIMIT;
 use answers::MAX_LINE_BYTES;
@@ -96,7 +96,8 @@ fn print_pairs(text: &[u8], lines: &[u8]) {
     }
 }
 
-// Fills `text` with a case's text, and `more` with the lines of its pairs and the line feed after them, and replays the case.
+// Fills `text` with a case's text, and `more` with the lines of its pairs and the line feed after them, and replays the
+// case.
 fn case(fd: i32, text: &mut [u8], more: &mut [u8]) {
     io::read_full(fd, text);
     print_types(text);

@@ -1,4 +1,5 @@
-// What follows for AccessIndex from the forms that its rule has looked into: the source's ResolveContext::resolve (proc/typifier.rs), arm by arm.
+// What follows for AccessIndex from the forms that its rule has looked into: the source's ResolveContext::resolve
+// (proc/typifier.rs), arm by arm.
 use answers::Answer;
 use archive::Starts;
 use archive_access::families::member_at;

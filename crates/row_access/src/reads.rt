@@ -1,4 +1,5 @@
-// Access, AccessIndex, Splat, Swizzle, Load and CooperativeLoad: each reads its operand, looks into its type, and ends by the form.
+// Access, AccessIndex, Splat, Swizzle, Load and CooperativeLoad: each reads its operand, looks into its type, and ends
+// by the form.
 use super::access::access_into;
 use super::access::access_through;
 use super::access::splat_of;

@@ -1,4 +1,4 @@
--- What Multiply comes to where both operands show a form: a product, as the code hands it on, is the rule's. Assumes nothing.
+-- What Multiply comes to where both operands show a form: a product, as the code hands it on, is the rule's.
 use Prim.Native.Nat.{ℕ}
 use mathlib.Core.Path.{_≡_, refl, sym, ap, _∙_}
 use mathlib.Core.List.{List}
@@ -17,7 +17,8 @@ use Rattle.row_multiply.specs.declared.Times.{Times}
 use Rattle.row_multiply.specs.declared.Times.the-variants as Tm
 use Rattle.row_multiply.specs.Timed.{timed, timesOf}
 
-by-times : (a b : TypeResolution) (t : Times) → timesOf (An.Resolved a) (An.Resolved b) t ≡ told (timed (resolved a) (resolved b) t)
+by-times : (a b : TypeResolution) (t : Times) → timesOf (An.Resolved a) (An.Resolved b) t
+    ≡ told (timed (resolved a) (resolved b) t)
 by-times a b Tm.Left = refl
 by-times a b Tm.Right = refl
 by-times a b (Tm.Value t) = refl
@@ -29,4 +30,5 @@ module _ (fr : List ℕ) (s : Starts) (here : RowNumber) (an pl : List ℕ) (l r
       → timesOf (answerIn an pl l) (answerIn an pl r) by ≡ ruled fr s an pl (multiply here l r)
   times-seen p q by h =
       both-seen product fr s here an pl l r p q (timesOf (answerIn an pl l) (answerIn an pl r) by)
-      (λ a b u v. ap (λ x. timesOf x (answerIn an pl r) by) u ∙ ap (λ y. timesOf (An.Resolved a) y by) v ∙ by-times a b by ∙ sym (ap told (h (resolved a) (resolved b))))
+      (λ a b u v. ap (λ x. timesOf x (answerIn an pl r) by) u ∙ ap (λ y. timesOf (An.Resolved a) y by) v
+      ∙ by-times a b by ∙ sym (ap told (h (resolved a) (resolved b))))

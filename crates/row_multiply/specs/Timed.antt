@@ -1,5 +1,5 @@
--- Not part of any public statement: for proofs and code only. What a product is, as the code hands it on: the type of the left or the right operand, as the
--- operand has it, a value, or number 18.
+-- Not part of any public statement: for proofs and code only. What a product is, as the code hands it on: the type of
+-- the left or the right operand, as the operand has it, a value, or number 18.
 use Rattle.answers.specs.declared.Answer.{Answer}
 use Rattle.answers.specs.declared.Refusal.the-variants.{IncompatibleOperands}
 use Rattle.rule.specs.Answers.{TypeAnswer, value, Typed, given, refused, Result, told}

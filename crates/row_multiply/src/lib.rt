@@ -1,4 +1,5 @@
-// Multiply: proc/typifier.rs, lines 565 to 622. `reads` reads both operands and looks into their types; `by_form` says what follows from the forms.
+// Multiply: proc/typifier.rs, lines 565 to 622. `reads` reads both operands and looks into their types; `by_form` says
+// what follows from the forms.
 pub mod by_form;
 pub mod reads;
 

@@ -1,6 +1,6 @@
-// Multiply: looks into the left operand's type, then the right's, and ends by the forms; where one shows no form, by the
-// answers in the order that they are read. Where the frames of both answers show scalars, vectors or matrices, it ends
-// by these.
+// Multiply: looks into the left operand's type, then the right's, and ends by the forms; where one shows no form, by
+// the answers in the order that they are read. Where the frames of both answers show scalars, vectors or matrices, it
+// ends by these.
 use super::Times;
 use super::by_form::product;
 use answers::Answer;

@@ -1,5 +1,5 @@
 -- What the frame of an operand's answer shows of its type, before any look, is what a look sees. By the cases of the
--- answer's family and of the kind. And a look goes by three of the places where families begin. Assumes nothing.
+-- answer's family and of the kind. And a look goes by three of the places where families begin.
 use Prim.Native.Nat.{ℕ}
 use mathlib.Core.Path.{_≡_, refl, sym, ap, _∙_}
 use mathlib.Core.Bool.{Bool, true, false, cond, _||_}
@@ -42,7 +42,8 @@ unfolding answerIn answerOf unresolvedOf
 past-frame an pl n = go (ltb (n .0) (length pl))
   where
     go : (b : Bool)
-        → cond b (answerOf (frameAt an (getD pl (n .0) 0))) (An.Refused MissingSpecialType) ≡ answerOf (cond b (frameAt an (getD pl (n .0) 0)) zeroFrame)
+        → cond b (answerOf (frameAt an (getD pl (n .0) 0))) (An.Refused MissingSpecialType)
+        ≡ answerOf (cond b (frameAt an (getD pl (n .0) 0)) zeroFrame)
     go true = refl
     go false = refl
 
@@ -72,7 +73,8 @@ matrix-form f e = ap (λ (k : ℕ). typeAs (typeKindOf k) f) e
 
 pub cooperative-form : (f : Frame) → byte f 1 ≡ 4
     → typeOf f
-    ≡ Tf.Known (Ti.CooperativeMatrix (cooperativeSizeOf (byte f 2)) (cooperativeSizeOf (byte f 3)) (read scalar f) (cooperativeRoleOf (byte f 6)))
+    ≡ Tf.Known (Ti.CooperativeMatrix (cooperativeSizeOf (byte f 2)) (cooperativeSizeOf (byte f 3)) (read scalar f)
+    (cooperativeRoleOf (byte f 6)))
 unfolding typeOf
 cooperative-form f e = ap (λ (k : ℕ). typeAs (typeKindOf k) f) e
 
@@ -118,7 +120,8 @@ unfolding plainOf
 zero-plain t e = never (cc)
 
 module _ (fr : List ℕ) (s : Starts) (here : RowNumber) where
-  shown-by : (f : Frame) (t : TypeInner) → plainOf (typedFrame fr s f) ≡ Tf.Known t → lookedBy fr s here (answerOf f) ≡ Lo.Seen t
+  shown-by : (f : Frame) (t : TypeInner) → plainOf (typedFrame fr s f) ≡ Tf.Known t → lookedBy fr s here (answerOf f)
+      ≡ Lo.Seen t
   unfolding answerOf
   shown-by f t e = go (eqb (byte f 0) 8) (eqb (byte f 0) 9) refl refl e
     where
@@ -134,13 +137,15 @@ module _ (fr : List ℕ) (s : Starts) (here : RowNumber) where
       go false false p q h = zero-plain t h
 
   -- where the frame of row n's answer shows a form, a look sees it
-  pub plain-seen : (an pl : List ℕ) (n : RowNumber) (t : TypeInner) → plainOf (typedFrame fr s (pastFrame an pl n)) ≡ Tf.Known t
+  pub plain-seen : (an pl : List ℕ) (n : RowNumber) (t : TypeInner) → plainOf (typedFrame fr s (pastFrame an pl n))
+      ≡ Tf.Known t
       → lookedIn fr s an pl here n ≡ Lo.Seen t
   unfolding lookedIn
   plain-seen an pl n t e = ap (lookedBy fr s here) (past-frame an pl n) ∙ shown-by (pastFrame an pl n) t e
 
   -- and so it does where the code has these frames and this form
-  pub shown-seen : (an pl : List ℕ) (n : RowNumber) {f g : Frame} {p : TypeForm} {t : TypeInner} → f ≡ pastFrame an pl n → g ≡ typedFrame fr s f
+  pub shown-seen : (an pl : List ℕ) (n : RowNumber) {f g : Frame} {p : TypeForm} {t : TypeInner} → f ≡ pastFrame an pl n
+      → g ≡ typedFrame fr s f
       → p ≡ plainOf g → p ≡ Tf.Known t → lookedIn fr s an pl here n ≡ Lo.Seen t
   shown-seen an pl n {f} {g} {p} {t} a b c e =
       plain-seen an pl n t (ap (λ x. plainOf (typedFrame fr s x)) (sym a) ∙ ap plainOf (sym b) ∙ sym c ∙ e)

@@ -1,4 +1,4 @@
--- An arm that names several operators: a function that has one value at each of them has it there. Assumes nothing.
+-- An arm that names several operators: a function that has one value at each of them has it there.
 use Prim.Native.Nat.{ℕ}
 use mathlib.Core.Path.{_≡_, refl, ap, _∙_}
 use mathlib.Core.List.{List, map}

@@ -1,5 +1,5 @@
--- What a rule gives, step by step, by what the code found there: the answer in the buffer, the form of a type, a pointer's base, an image's class. For any
--- frames and answers. By the cases of each. Assumes nothing.
+-- What a rule gives, step by step, by what the code found there: the answer in the buffer, the form of a type, a
+-- pointer's base, an image's class. For any frames and answers. By the cases of each.
 use Prim.Native.Nat.{ℕ}
 use mathlib.Core.Path.{_≡_, refl, sym, ap, _∙_}
 use mathlib.Core.List.{List, [], _∷_}
@@ -34,7 +34,8 @@ use Rattle.rule_rows.specs.Typed.{typed}
 use Rattle.rule_rows.specs.Answered.{toResult}
 use Rattle.rule_rows.specs.ForProofs.{sampledIn}
 use Rattle.rule_rows.specs.OverBuffer.{answerIn, ruled}
-use Rattle.row_operands.specs.Past.{ruledShown, formed, endedBy, lookedAt, lookedBy, lookedIn, OfBoth, rightBy, leftBy, rightRead, leftRead}
+use Rattle.row_operands.specs.Past.{ruledShown, formed, endedBy, lookedAt, lookedBy, lookedIn, OfBoth, rightBy}
+use Rattle.row_operands.specs.Past.{leftBy, rightRead, leftRead}
 
 -- by what was found
 abbrev onForm : {X : Type 0} → TypeForm → (TypeInner → X) → X → X
@@ -86,13 +87,16 @@ module _ (fr : List ℕ) (s : Starts) (an pl : List ℕ) where
     into a k (Tf.Known i) q = rw (q, run)
     into a k Tf.Unknown q = rw (q, run)
 
-    looked-form : (f : TypeForm) (g : TypeInner → Result Typed) → onForm f g (newer (row here)) ≡ onLooked (lookedAt here f) g
+    looked-form : (f : TypeForm) (g : TypeInner → Result Typed) → onForm f g (newer (row here))
+        ≡ onLooked (lookedAt here f) g
     looked-form (Tf.Known i) g = refl
     looked-form Tf.Unknown g = refl
 
     looked-answer : (k : Form → Rule Typed) (x : Answer)
-        → onAnswer x (λ t. ran (look here (resolved t) k)) ≡ onLooked (lookedBy fr s here x) (λ i. ran (k (formed fr s i)))
-    looked-answer k (An.Resolved t) = into (resolved t) k (formIn fr s (resolved t)) refl ∙ looked-form (formIn fr s (resolved t)) _
+        → onAnswer x (λ t. ran (look here (resolved t) k))
+        ≡ onLooked (lookedBy fr s here x) (λ i. ran (k (formed fr s i)))
+    looked-answer k (An.Resolved t) = into (resolved t) k (formIn fr s (resolved t)) refl
+        ∙ looked-form (formIn fr s (resolved t)) _
     looked-answer k (An.Refused e) = refl
     looked-answer k (An.Newer r) = refl
 
@@ -103,7 +107,8 @@ module _ (fr : List ℕ) (s : Starts) (an pl : List ℕ) where
 
     module _ (n : RowNumber) where
       -- the answer follows from the inner form
-      pub type-seen : (f : TypeInner → Typed) {i : TypeInner} → lookedIn fr s an pl here n ≡ Lo.Seen i → told (f i) ≡ ran (byType here n f)
+      pub type-seen : (f : TypeInner → Typed) {i : TypeInner} → lookedIn fr s an pl here n ≡ Lo.Seen i → told (f i)
+          ≡ ran (byType here n f)
       unfolding ruled
       type-seen f q = sym (look-run n _ ∙ ap (λ (l : Looked). onLooked l (λ j. told (f j))) q)
 
@@ -131,8 +136,10 @@ module _ (fr : List ℕ) (s : Starts) (an pl : List ℕ) where
       class-run (Ti.RayQuery x0) = refl
       class-run (Ti.BindingArray x0 x1) = refl
 
-      pub sampled-seen : {i : TypeInner} → lookedIn fr s an pl here n ≡ Lo.Seen i → told (sampledIn n i) ≡ ran (sampled here n)
-      sampled-seen {i} q = sym (look-run n _ ∙ ap (λ (l : Looked). onLooked l (λ j. ran (sampledFrom here n j))) q ∙ class-run i)
+      pub sampled-seen : {i : TypeInner} → lookedIn fr s an pl here n ≡ Lo.Seen i → told (sampledIn n i)
+          ≡ ran (sampled here n)
+      sampled-seen {i} q = sym
+          (look-run n _ ∙ ap (λ (l : Looked). onLooked l (λ j. ran (sampledFrom here n j))) q ∙ class-run i)
 
       pub sampled-ended : {u : Unresolved} → lookedIn fr s an pl here n ≡ Lo.Ended u → endedBy u ≡ ran (sampled here n)
       sampled-ended q = sym (look-run n _ ∙ ap (λ (l : Looked). onLooked l (λ j. ran (sampledFrom here n j))) q)
@@ -143,9 +150,11 @@ module _ (fr : List ℕ) (s : Starts) (an pl : List ℕ) where
         base-looked : {l : Looked} → lookedIn fr s an pl here n ≡ l
             → ran (byBase here n th f) ≡ onLooked l (λ i. ran (throughBase here th f (formed fr s i)))
         base-looked q =
-            look-run n (throughBase here th f) ∙ ap (λ (l : Looked). onLooked l (λ i. ran (throughBase here th f (formed fr s i)))) q
+            look-run n (throughBase here th f)
+            ∙ ap (λ (l : Looked). onLooked l (λ i. ran (throughBase here th f (formed fr s i)))) q
 
-        pub base-through : {b : TypeNumber} {p : AddressSpace} {t : TypeInner} → lookedIn fr s an pl here n ≡ Lo.Seen (Ti.Pointer b p)
+        pub base-through : {b : TypeNumber} {p : AddressSpace} {t : TypeInner} → lookedIn fr s an pl here n
+            ≡ Lo.Seen (Ti.Pointer b p)
             → typeIn fr s b ≡ Tf.Known t → told (th b p (formed fr s t)) ≡ ran (byBase here n th f)
         unfolding ruled
         base-through {b} {p} {t} q e = sym (base-looked q ∙ into (number b) (λ c. done (th b p c)) (Tf.Known t) e)
@@ -154,16 +163,19 @@ module _ (fr : List ℕ) (s : Starts) (an pl : List ℕ) where
             → typeIn fr s b ≡ Tf.Unknown → newer (row here) ≡ ran (byBase here n th f)
         base-unknown {b} {p} q e = sym (base-looked q ∙ into (number b) (λ c. done (th b p c)) Tf.Unknown e)
 
-        other-run : Others (kindsBut (5 ∷ [])) (λ t. told (f (formed fr s t)) ≡ ran (throughBase here th f (formed fr s t)))
+        other-run : Others (kindsBut (5 ∷ []))
+            (λ t. told (f (formed fr s t)) ≡ ran (throughBase here th f (formed fr s t)))
         unfolding ruled
         other-run = of-each (search needs)
 
         -- every kind but a pointer is looked into as it is
-        pub base-into : {t : TypeInner} → lookedIn fr s an pl here n ≡ Lo.Seen t → OneOf (kindsBut (5 ∷ [])) (tagOf TypeInner′.the-type t)
+        pub base-into : {t : TypeInner} → lookedIn fr s an pl here n ≡ Lo.Seen t
+            → OneOf (kindsBut (5 ∷ [])) (tagOf TypeInner′.the-type t)
             → told (f (formed fr s t)) ≡ ran (byBase here n th f)
         base-into {t} q k = other-run .at t k ∙ sym (base-looked q)
 
-        pub base-ended : {u : Unresolved} → lookedIn fr s an pl here n ≡ Lo.Ended u → endedBy u ≡ ran (byBase here n th f)
+        pub base-ended : {u : Unresolved} → lookedIn fr s an pl here n ≡ Lo.Ended u → endedBy u
+            ≡ ran (byBase here n th f)
         base-ended q = sym (base-looked q)
 
     -- TWO OPERANDS
@@ -175,15 +187,18 @@ module _ (fr : List ℕ) (s : Starts) (an pl : List ℕ) where
       right-form a b x Tf.Unknown = refl
 
       left-form : (a b : TypeAnswer) (c : TypeForm)
-          → onForm c (λ x. ran (look here b (λ y. done (f a b x (y .inner))))) (newer (row here)) ≡ leftBy f fr s here a b c
+          → onForm c (λ x. ran (look here b (λ y. done (f a b x (y .inner))))) (newer (row here))
+          ≡ leftBy f fr s here a b c
       unfolding ruled
-      left-form a b (Tf.Known x) = into b (λ y. done (f a b x (y .inner))) (formIn fr s b) refl ∙ right-form a b x (formIn fr s b)
+      left-form a b (Tf.Known x) = into b (λ y. done (f a b x (y .inner))) (formIn fr s b) refl
+          ∙ right-form a b x (formIn fr s b)
       left-form a b Tf.Unknown = refl
 
       abbrev both : TypeAnswer → TypeAnswer → Rule Typed
       both a b = look here a (λ x. look here b (λ y. done (f a b (x .inner) (y .inner))))
 
-      right-answer : (a : TypeAnswer) (y : Answer) → onAnswer y (λ b. ran (both a (resolved b))) ≡ rightRead f fr s here a y
+      right-answer : (a : TypeAnswer) (y : Answer) → onAnswer y (λ b. ran (both a (resolved b)))
+          ≡ rightRead f fr s here a y
       right-answer a (An.Resolved b) =
           into a (λ x. look here (resolved b) (λ y. done (f a (resolved b) (x .inner) (y .inner)))) (formIn fr s a) refl
           ∙ left-form a (resolved b) (formIn fr s a)
@@ -192,16 +207,19 @@ module _ (fr : List ℕ) (s : Starts) (an pl : List ℕ) where
 
       left-answer : (r : RowNumber) (x : Answer)
           → onAnswer x (λ a. ran (operand r (both (resolved a)))) ≡ leftRead f fr s here (answerIn an pl r) x
-      left-answer r (An.Resolved a) = read r (both (resolved a)) (answerIn an pl r) refl ∙ right-answer (resolved a) (answerIn an pl r)
+      left-answer r (An.Resolved a) = read r (both (resolved a)) (answerIn an pl r) refl
+          ∙ right-answer (resolved a) (answerIn an pl r)
       left-answer r (An.Refused e) = refl
       left-answer r (An.Newer q) = refl
 
-      pub both-run : (l r : RowNumber) → ran (byBoth here l r f) ≡ leftRead f fr s here (answerIn an pl r) (answerIn an pl l)
+      pub both-run : (l r : RowNumber) → ran (byBoth here l r f)
+          ≡ leftRead f fr s here (answerIn an pl r) (answerIn an pl l)
       both-run l r = read l (λ a. operand r (both a)) (answerIn an pl l) refl ∙ left-answer r (answerIn an pl l)
 
   -- A ROW'S OWN KIND
 
-  pub row-run : (pass : Pass) (r : RowNumber) → ran (typed pass r) ≡ ruledShown pass fr s an pl r (seeRow fr s (rowIn fr s r))
+  pub row-run : (pass : Pass) (r : RowNumber) → ran (typed pass r)
+      ≡ ruledShown pass fr s an pl r (seeRow fr s (rowIn fr s r))
   unfolding ruled
   row-run pass r = go (seeRow fr s (rowIn fr s r)) refl
     where

@@ -1,5 +1,6 @@
--- Not part of any public statement: for proofs and code only. What the code of a row's rule goes by: earlier answers as they stand in the answer buffer, and
--- the forms of its operands' types (document 01, "What must change shape": the `past` closure is a part of the answer buffer).
+-- Not part of any public statement: for proofs and code only. What the code of a row's rule goes by: earlier answers as
+-- they stand in the answer buffer, and the forms of its operands' types (document 01, "What must change shape": the
+-- `past` closure is a part of the answer buffer).
 use Prim.Native.Nat.{ℕ}
 use mathlib.Core.List.{List}
 use mathlib.Core.Option.{Option, none, some}
@@ -72,7 +73,8 @@ lookStarts types overrides globals =
       end = 0;
     }
 
--- TWO OPERANDS: left is read, then right, then left is looked into, then right; the answer f follows from both answers and both forms
+-- TWO OPERANDS: left is read, then right, then left is looked into, then right; the answer f follows from both answers
+-- and both forms
 
 abbrev pub OfBoth : Type 0
 OfBoth = TypeAnswer → TypeAnswer → TypeInner → TypeInner → Typed

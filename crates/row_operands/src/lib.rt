@@ -1,5 +1,5 @@
-// What a rule reads: earlier answers from the answer buffer (the source's `past`), and the types of operands, looked into (`inner_with`, proc/typifier.rs,
-// lines 120 to 128); answers made of parts.
+// What a rule reads: earlier answers from the answer buffer (the source's `past`), and the types of operands, looked
+// into (`inner_with`, proc/typifier.rs, lines 120 to 128); answers made of parts.
 pub mod both;
 pub mod past;
 pub mod plain;

@@ -22,7 +22,8 @@ ghost use Rattle.rule_rows.specs.Answered.{toResult};
 ghost use Rattle.rule_rows.specs.OverBuffer.{answerIn};
 ghost use Rattle.row_operands.specs.Past.{endedBy, lookedAt, seenBy, lookedBy, lookedIn, lookStarts};
 
-// The answer of row n, at the frame of the answer buffer that `places` has for it; of a row that is not typed yet the fixed refusal.
+// The answer of row n, at the frame of the answer buffer that `places` has for it; of a row that is not typed yet the
+// fixed refusal.
 pub fn past(answers: &[u8], places: &[u16], n: RowNumber) -> Answer
     ensures { λ r. ⌜ r ≡ answerIn (now (answers .entry)) (now (places .entry)) n ⌝ }
 {
@@ -100,7 +101,8 @@ fn look_in(
     n: RowNumber,
 ) -> Looked
     ensures { λ r. ⌜ r
-        ≡ lookedIn (now (frames .entry)) (lookStarts types overrides globals) (now (answers .entry)) (now (places .entry))
+        ≡ lookedIn (now (frames .entry)) (lookStarts types overrides globals) (now (answers .entry))
+        (now (places .entry))
         here n ⌝ }
 {
     let s = Starts {

@@ -1,6 +1,6 @@
-// What the frame of an operand's answer shows of its type, before any look: a scalar, a vector, a matrix or a cooperative
-// matrix. Such a type holds no number, so nothing is left to ask of it. The forms come in registers, where those of a
-// look are written to memory and read again (docs/SPEED.md).
+// What the frame of an operand's answer shows of its type, before any look: a scalar, a vector, a matrix or a
+// cooperative matrix. Such a type holds no number, so nothing is left to ask of it. The forms come in registers, where
+// those of a look are written to memory and read again (docs/SPEED.md).
 use archive::Starts;
 use archive_access::families::is_type;
 use frames::Frame;

@@ -1,4 +1,5 @@
-// Comparisons, logical operators, IsNan, IsInf and As: each reads its operand, looks into its type, and ends by the form.
+// Comparisons, logical operators, IsNan, IsInf and As: each reads its operand, looks into its type, and ends by the
+// form.
 use super::by_form::bools_of;
 use super::by_form::cast_of;
 use super::by_form::logical_of;

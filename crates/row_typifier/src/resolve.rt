@@ -38,7 +38,8 @@ ghost use Rattle.rule_rows.specs.Answered.{toResult};
 ghost use Rattle.rule_rows.specs.OverBuffer.{ruled};
 ghost use Rattle.row_operands.specs.Past.{ruledShown};
 
-// The type of the row `here`, whose expression is e, by the rules of a pass, in the order of the source's arms. Math is newer.
+// The type of the row `here`, whose expression is e, by the rules of a pass, in the order of the source's arms. Math is
+// newer.
 pub fn resolve(
     pass: Pass,
     frames: &[u8],

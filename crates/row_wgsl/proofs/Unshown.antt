@@ -1,6 +1,5 @@
 -- Where the frame of an operand's answer shows no scalar, vector, matrix or cooperative matrix, a look sees no scalar,
 -- vector or matrix, so no line of WGSL's tables has its type. By the cases of the answer's family and of the kind.
--- Assumes nothing.
 use Prim.Native.Nat.{ℕ, _<_, _≤_}
 use native.Mathlib.Omega.{arith}
 use native.Mathlib.Decide.{decLe}
@@ -57,7 +56,8 @@ number-of : (n : ℕ) (k : TypeKind) → typeKindOf n ≡ k → 1 ≤ typeKindNu
 number-of n k e l = go (decLe 15 n)
   where
     go : Dec (15 ≤ n) → n ≡ typeKindNumber k
-    go (yes h) = absurd (let z : 0 ≡ typeKindNumber k = ap typeKindNumber (sym (unknown-type n .1 (inr h)) ∙ e) in omega (arith, z, l))
+    go (yes h) = absurd (let z : 0 ≡ typeKindNumber k = ap typeKindNumber (sym (unknown-type n .1 (inr h)) ∙ e) in
+        omega (arith, z, l))
     go (no h) = sym (typeKind-number n (omega (arith, h))) ∙ ap typeKindNumber e
 
 abbrev shows : ℕ → Bool
@@ -66,9 +66,12 @@ shows k = eqb k 1 || (eqb k 2 || (eqb k 3 || eqb k 4))
 module _ (g : Frame) (h : isPlain g ≡ false) where
   by-kind : (k : TypeKind) → typeKindOf (byte g 1) ≡ k → formShape (typeAs k g) ≡ Sh.Other
   by-kind Tk.Unknown e = refl
-  by-kind Tk.Scalar e = let q : shows (byte g 1) ≡ true = ap shows (number-of (byte g 1) Tk.Scalar e (omega arith)) in never (cc)
-  by-kind Tk.Vector e = let q : shows (byte g 1) ≡ true = ap shows (number-of (byte g 1) Tk.Vector e (omega arith)) in never (cc)
-  by-kind Tk.Matrix e = let q : shows (byte g 1) ≡ true = ap shows (number-of (byte g 1) Tk.Matrix e (omega arith)) in never (cc)
+  by-kind Tk.Scalar e = let q : shows (byte g 1) ≡ true = ap shows (number-of (byte g 1) Tk.Scalar e (omega arith)) in
+      never (cc)
+  by-kind Tk.Vector e = let q : shows (byte g 1) ≡ true = ap shows (number-of (byte g 1) Tk.Vector e (omega arith)) in
+      never (cc)
+  by-kind Tk.Matrix e = let q : shows (byte g 1) ≡ true = ap shows (number-of (byte g 1) Tk.Matrix e (omega arith)) in
+      never (cc)
   by-kind Tk.CooperativeMatrix e = refl
   by-kind Tk.Atomic e = refl
   by-kind Tk.Pointer e = refl
@@ -108,14 +111,16 @@ sound-known Fa.Index p = never (cc)
 module _ (fr : List ℕ) (s : Starts) (here : RowNumber) where
   of-value : (f : Frame) (t : TypeInner) → plainOf f ≡ Tf.Unknown → (x : TypeForm) → typeOf f ≡ x
       → lookedBy fr s here (valueOf x) ≡ Lo.Seen t → shapeOf t ≡ Sh.Other
-  of-value f t u (Tf.Known i) e q = other-shape f t u (e ∙ sound-known (valueFault s i) (known here (soundForm i (valueFault s i)) q))
+  of-value f t u (Tf.Known i) e q = other-shape f t u
+      (e ∙ sound-known (valueFault s i) (known here (soundForm i (valueFault s i)) q))
   of-value f t u Tf.Unknown e q = never (cc)
 
   of-end : (u : Unresolved) (t : TypeInner) → lookedBy fr s here (answered u) ≡ Lo.Seen t → shapeOf t ≡ Sh.Other
   of-end (Un.Refused e) t q = never (cc)
   of-end (Un.Newer r) t q = never (cc)
 
-  of-frame : (f : Frame) (t : TypeInner) → plainOf (typedFrame fr s f) ≡ Tf.Unknown → lookedBy fr s here (answerOf f) ≡ Lo.Seen t
+  of-frame : (f : Frame) (t : TypeInner) → plainOf (typedFrame fr s f) ≡ Tf.Unknown → lookedBy fr s here (answerOf f)
+      ≡ Lo.Seen t
       → shapeOf t ≡ Sh.Other
   unfolding answerOf
   of-frame f t u e = go (eqb (byte f 0) 8) (eqb (byte f 0) 9) u e
@@ -124,7 +129,8 @@ module _ (fr : List ℕ) (s : Starts) (here : RowNumber) where
       n = record { 0 = half f 2 }
 
       go : (a b : Bool) → plainOf (cond a (typeFrameIn fr s n) (cond b f zeroFrame)) ≡ Tf.Unknown
-          → lookedBy fr s here (cond a (An.Resolved (Tr.Handle n)) (cond b (valueOf (typeOf f)) (answered (unresolvedOf f)))) ≡ Lo.Seen t
+          → lookedBy fr s here (cond a (An.Resolved (Tr.Handle n))
+          (cond b (valueOf (typeOf f)) (answered (unresolvedOf f)))) ≡ Lo.Seen t
           → shapeOf t ≡ Sh.Other
       go true b h q = other-shape (typeFrameIn fr s n) t h (sym (type-frame fr s n) ∙ known here (typeIn fr s n) q)
       go false true h q = of-value f t h (typeOf f) refl q
@@ -136,7 +142,8 @@ module _ (fr : List ℕ) (s : Starts) (here : RowNumber) where
   unseen an pl n t u e = of-frame (pastFrame an pl n) t u (sym (ap (lookedBy fr s here) (past-frame an pl n)) ∙ e)
 
   -- the same where the code has these frames and this form
-  pub unshown : (an pl : List ℕ) (n : RowNumber) {f g : Frame} {p : TypeForm} (t : TypeInner) → f ≡ pastFrame an pl n → g ≡ typedFrame fr s f
+  pub unshown : (an pl : List ℕ) (n : RowNumber) {f g : Frame} {p : TypeForm} (t : TypeInner) → f ≡ pastFrame an pl n
+      → g ≡ typedFrame fr s f
       → p ≡ plainOf g → p ≡ Tf.Unknown → lookedIn fr s an pl here n ≡ Lo.Seen t → shapeOf t ≡ Sh.Other
   unshown an pl n {f} {g} {p} t a b c e =
       unseen an pl n t (ap (λ x. plainOf (typedFrame fr s x)) (sym a) ∙ ap plainOf (sym b) ∙ sym c ∙ e)

@@ -1,6 +1,6 @@
 -- Not part of any public statement: for proofs and code only. What the second pass gives of two scalars or vectors
--- (`plainResult`, rule_rows/specs/Wgsl.antt), in three parts: whether an operator takes them, and the components and the
--- scalar of the result.
+-- (`plainResult`, rule_rows/specs/Wgsl.antt), in three parts: whether an operator takes them, and the components and
+-- the scalar of the result.
 use mathlib.Core.Path.{_≡_}
 use mathlib.Core.Bool.{Bool}
 use mathlib.Core.List.{List}
@@ -15,7 +15,8 @@ use Rattle.ir.specs.declared.BinaryOperator.the-variants as Bo
 use Rattle.ir.specs.declared.TypeInner.{TypeInner}
 use Rattle.ir.specs.Scalars.{BOOL}
 use Rattle.archive.specs.declared.Starts.{Starts}
-use Rattle.rule_rows.specs.Wgsl.{shapeOf, mixed, arithmeticTest, equalityTest, orderingTest, andOrTest, xorTest, shiftTest, logicalsTest, shapesResult}
+use Rattle.rule_rows.specs.Wgsl.{shapeOf, mixed, arithmeticTest, equalityTest, orderingTest, andOrTest, xorTest}
+use Rattle.rule_rows.specs.Wgsl.{shiftTest, logicalsTest, shapesResult}
 use Rattle.row_operands.specs.declared.Looked.the-variants as Lo
 use Rattle.row_operands.specs.Past.{lookedIn}
 

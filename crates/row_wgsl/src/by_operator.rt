@@ -1,4 +1,5 @@
-// What follows from the shapes of two operands' types, for each group of operators: WGSL's result as a value, or number 41.
+// What follows from the shapes of two operands' types, for each group of operators: WGSL's result as a value, or number
+// 41.
 use super::tests::equal_counts;
 use super::tests::equal_sizes;
 use super::tests::is_float;
@@ -23,7 +24,8 @@ ghost use Rattle.rule_rows.specs.Answered.{toResult};
 ghost use Rattle.rule_rows.specs.Operators.{orMismatch};
 ghost use Rattle.rule_rows.specs.WgslTables.{plain};
 ghost use Rattle.rule_rows.specs.Wgsl.{when};
-ghost use Rattle.rule_rows.specs.Wgsl.{matrixTimesOf, timesMatrixOf, matricesTimesOf, matricesSumOf, plainResult, matricesResult, ifMultiply, shapesResult};
+ghost use Rattle.rule_rows.specs.Wgsl.{matrixTimesOf, timesMatrixOf, matricesTimesOf, matricesSumOf, plainResult};
+ghost use Rattle.rule_rows.specs.Wgsl.{matricesResult, ifMultiply, shapesResult};
 ghost use Rattle.row_wgsl.specs.ForProofs.{testOf, sizeOf, scalarOf};
 
 pub fn mismatch() -> Answer

@@ -5,7 +5,8 @@ use ir::TypeInner;
 use ir::VectorSize;
 use rule_rows::Shape;
 ghost use mathlib.Core.Path.{_≡_};
-ghost use Rattle.rule_rows.specs.Wgsl.{shapeOf, isInteger, isFloat, isNumeric, equalSizes, equalCounts, likeOrMixed, mixed};
+ghost use Rattle.rule_rows.specs.Wgsl.{shapeOf, isInteger, isFloat, isNumeric, equalSizes, equalCounts, likeOrMixed};
+ghost use Rattle.rule_rows.specs.Wgsl.{mixed};
 
 pub fn shape_of(t: TypeInner) -> Shape
     ensures { λ r. ⌜ r ≡ shapeOf t ⌝ }

@@ -1,6 +1,6 @@
--- What a later reader is (document 01, "A row's type"): it takes the rows in order, over its own earlier answers; each follows its rule, and where the rule
--- itself comes to a newer thing its answer is the chosen one. Four laws, one for each way that a rule goes on; that of an earlier row is of the rows before
--- the one in hand. By the definitions. Assumes nothing.
+-- What a later reader is (document 01, "A row's type"): it takes the rows in order, over its own earlier answers; each
+-- follows its rule, and where the rule itself comes to a newer thing its answer is the chosen one. Four laws, one for
+-- each way that a rule goes on; that of an earlier row is of the rows before the one in hand. By the definitions.
 use Prim.Native.Nat.{ℕ, _<_}
 use mathlib.Core.Path.{_≡_, refl, ap, _∙_}
 use mathlib.Core.Option.{none, some}
@@ -26,7 +26,8 @@ module _ (sight : Sight) (rules : ℕ → Rule Typed) (choice : ℕ → Result T
     later-done a = refl
 
     -- a newer thing: the chosen outcome
-    pub later-newer : (p : Place) (x : Thing) (k : Seen x → Rule A) → sight x ≡ none → later sight rules choice n c (come p x k) ≡ c
+    pub later-newer : (p : Place) (x : Thing) (k : Seen x → Rule A) → sight x ≡ none
+        → later sight rules choice n c (come p x k) ≡ c
     later-newer p x k q = rw (q, run)
 
     -- any other thing is seen, and the rule goes on with it
@@ -39,7 +40,8 @@ module _ (sight : Sight) (rules : ℕ → Rule Typed) (choice : ℕ → Result T
 
     past-by : (m : RowNumber) (at : Place → Place) (k : Typed → Rule A) (r : Result Typed)
         → among (answers sight rules (λ j p. choice j) n) m ≡ r
-        → later sight rules choice n c (past m at k) ≡ onResult r (λ t. later sight rules choice n c (k t)) (λ p. newer (at p))
+        → later sight rules choice n c (past m at k)
+        ≡ onResult r (λ t. later sight rules choice n c (k t)) (λ p. newer (at p))
     past-by m at k (told t) q = rw (q, run)
     past-by m at k (newer p) q = rw (q, run)
 

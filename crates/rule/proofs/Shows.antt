@@ -1,5 +1,5 @@
--- What `see` shows nothing of, by the bytes of a file: exactly a type of unknown kind, a row of unknown kind and row kind 22; and how `firstSee`
--- parts from it, at the class of a storage image. By the cases of what a frame reads as. Assumes nothing.
+-- What `see` shows nothing of, by the bytes of a file: exactly a type of unknown kind, a row of unknown kind and row
+-- kind 22; and how `firstSee` parts from it, at the class of a storage image. By the cases of what a frame reads as.
 use Prim.Native.Nat.{ℕ, _+_, _≤_, _<_}
 use native.Mathlib.Decide.{decLt}
 use native.Mathlib.Omega.{arith}
@@ -39,7 +39,8 @@ use Rattle.archive.specs.Access.{typeIn, typeAt, rowIn}
 use Rattle.archive.specs.ForProofs.{rowAt}
 use Rattle.rule.specs.declared.Fault.{Fault}
 use Rattle.rule.specs.declared.Fault.the-variants as Fa
-use Rattle.rule.specs.Things.{Thing, Seen, firstSee, structNumber, fault, shown, kind, form, texels, inRange, valueFault, faultOf, soundForm, seeForm, see}
+use Rattle.rule.specs.Things.{Thing, Seen, firstSee, structNumber, fault, shown, kind, form, texels, inRange}
+use Rattle.rule.specs.Things.{valueFault, faultOf, soundForm, seeForm, see}
 
 never : {X : Type 0} → _≡_ {A = ℕ} 0 1 → X
 never z = absurd (omega arith)
@@ -57,12 +58,15 @@ module _ (fr : List ℕ) where
   unfolding typeIn
   type-newer n i =
       let f = frameAt fr (n .0) in
-      let e : typeAt fr n ≡ typeOf f = rw i in
-      (λ h. unknown-type-frame f .0 (type-none n (typeOf f) e .0 h), λ h. type-none n (typeOf f) e .1 (unknown-type-frame f .1 h))
+      let e : typeAt fr n ≡ typeOf f = rw i in (
+        λ h. unknown-type-frame f .0 (type-none n (typeOf f) e .0 h),
+        λ h. type-none n (typeOf f) e .1 (unknown-type-frame f .1 h),
+      )
 
   -- a type that a comparison would answer with 5 or 6 shows nothing, so it counts as one of unknown kind
 
-  number-faulty : (n : TypeNumber) (b : Bool) → isType (startsOf fr) n ≡ b → (inRange b ≡ Fa.Sound → ⊥) → see fr (form (number n)) ≡ none
+  number-faulty : (n : TypeNumber) (b : Bool) → isType (startsOf fr) n ≡ b → (inRange b ≡ Fa.Sound → ⊥)
+      → see fr (form (number n)) ≡ none
   unfolding typeIn
   number-faulty n true e d = absurd (d refl)
   number-faulty n false e d = rw e
@@ -78,10 +82,12 @@ module _ (fr : List ℕ) where
   faulty-newer (malformed f) d = refl
 
   -- 5 comes before 6: a count of 0 is number 5, whatever the base names
-  pub count-first : (b : TypeNumber) (stride : ℕ) → faultOf (startsOf fr) (value (Ti.Array b (As.Constant 0) stride)) ≡ Fa.Field
+  pub count-first : (b : TypeNumber) (stride : ℕ) → faultOf (startsOf fr) (value (Ti.Array b (As.Constant 0) stride))
+      ≡ Fa.Field
   count-first b stride = refl
 
-  pub binding-count-first : (b : TypeNumber) → faultOf (startsOf fr) (value (Ti.BindingArray b (As.Constant 0))) ≡ Fa.Field
+  pub binding-count-first : (b : TypeNumber) → faultOf (startsOf fr) (value (Ti.BindingArray b (As.Constant 0)))
+      ≡ Fa.Field
   binding-count-first b = refl
 
   -- and a value that gets neither shows itself
@@ -100,7 +106,8 @@ module _ (fr : List ℕ) where
   value-shows (Ti.Sampler x0) e = refl
   value-shows (Ti.AccelerationStructure x0) e = refl
   value-shows (Ti.RayQuery x0) e = refl
-  value-shows (Ti.BindingArray x0 x1) e = ap (λ (v : Fault). seeForm fr (startsOf fr) (soundForm (Ti.BindingArray x0 x1) v)) e
+  value-shows (Ti.BindingArray x0 x1) e
+      = ap (λ (v : Fault). seeForm fr (startsOf fr) (soundForm (Ti.BindingArray x0 x1) v)) e
 
   -- ROWS
 
@@ -180,13 +187,18 @@ module _ (fr : List ℕ) where
   -- a row is a Math row exactly when byte 1 is 22
   pub math-frame : (f : Frame) → (rowOf f ≡ Ro.Known Ex.Math) ↔ (byte f 1 ≡ 22)
   unfolding rowOf
-  math-frame f = (λ e. go (only-math (rowKindOf (byte f 1)) f e) (decLt (byte f 1) 35), λ e. ap (λ (b : ℕ). rowAs (rowKindOf b) f) e)
+  math-frame f = (
+    λ e. go (only-math (rowKindOf (byte f 1)) f e) (decLt (byte f 1) 35),
+    λ e. ap (λ (b : ℕ). rowAs (rowKindOf b) f) e,
+  )
     where
       go : rowKindOf (byte f 1) ≡ Rk.Math → Dec (byte f 1 < 35) → byte f 1 ≡ 22
       go m (yes l) = sym (rowKind-number (byte f 1) l) ∙ ap rowKindNumber m
-      go m (no l) = never (let u : rowKindOf (byte f 1) ≡ Rk.Unknown = unknown-row (byte f 1) .1 (inr (omega arith)) in cc)
+      go m (no l) = never (let u : rowKindOf (byte f 1) ≡ Rk.Unknown = unknown-row (byte f 1) .1 (inr (omega arith)) in
+          cc)
 
-  row-none : (n : RowNumber) (r : RowForm) → rowAt fr n ≡ r → (see fr (kind n) ≡ none) ↔ ((r ≡ Ro.Unknown) ⊎ (r ≡ Ro.Known Ex.Math))
+  row-none : (n : RowNumber) (r : RowForm) → rowAt fr n ≡ r
+      → (see fr (kind n) ≡ none) ↔ ((r ≡ Ro.Unknown) ⊎ (r ≡ Ro.Known Ex.Math))
   row-none n (Ro.Known e) q = (λ h. inr (ap Ro.Known (shown-none (startsOf fr) e (rw q at h))), back)
     where
       back : (Ro.Known e ≡ Ro.Unknown) ⊎ (Ro.Known e ≡ Ro.Known Ex.Math) → see fr (kind n) ≡ none
@@ -195,7 +207,8 @@ module _ (fr : List ℕ) where
   row-none n Ro.Unknown q = (λ h. inl refl, λ h. rw q)
 
   -- a row of the file shows nothing exactly when byte 1 is outside 1 to 34, or 22
-  pub row-newer : (n : RowNumber) → isRow (startsOf fr) n ≡ true → let b = byte (frameAt fr (startsOf fr .rows + n .0)) 1 in
+  pub row-newer : (n : RowNumber) → isRow (startsOf fr) n ≡ true
+      → let b = byte (frameAt fr (startsOf fr .rows + n .0)) 1 in
       (see fr (kind n) ≡ none) ↔ (((b ≡ 0) ⊎ (35 ≤ b)) ⊎ (b ≡ 22))
   unfolding rowIn
   row-newer n i =
@@ -203,11 +216,13 @@ module _ (fr : List ℕ) where
       let e : rowAt fr n ≡ rowOf f = rw i in
       (λ h. there f (row-none n (rowOf f) e .0 h), λ h. row-none n (rowOf f) e .1 (back f h))
     where
-      there : (f : Frame) → (rowOf f ≡ Ro.Unknown) ⊎ (rowOf f ≡ Ro.Known Ex.Math) → ((byte f 1 ≡ 0) ⊎ (35 ≤ byte f 1)) ⊎ (byte f 1 ≡ 22)
+      there : (f : Frame) → (rowOf f ≡ Ro.Unknown) ⊎ (rowOf f ≡ Ro.Known Ex.Math) → ((byte f 1 ≡ 0) ⊎ (35 ≤ byte f 1))
+          ⊎ (byte f 1 ≡ 22)
       there f (inl h) = inl (unknown-row-frame f .0 h)
       there f (inr h) = inr (math-frame f .0 h)
 
-      back : (f : Frame) → ((byte f 1 ≡ 0) ⊎ (35 ≤ byte f 1)) ⊎ (byte f 1 ≡ 22) → (rowOf f ≡ Ro.Unknown) ⊎ (rowOf f ≡ Ro.Known Ex.Math)
+      back : (f : Frame) → ((byte f 1 ≡ 0) ⊎ (35 ≤ byte f 1)) ⊎ (byte f 1 ≡ 22) → (rowOf f ≡ Ro.Unknown)
+          ⊎ (rowOf f ≡ Ro.Known Ex.Math)
       back f (inl h) = inl (unknown-row-frame f .1 h)
       back f (inr h) = inr (math-frame f .1 h)
 

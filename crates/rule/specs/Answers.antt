@@ -1,5 +1,5 @@
--- What a reader answers (document 01, "A row's type" and the end of "The file"). A later reader's choice is any frame of its family, so each
--- kind of answer has a case for what a later reader chose and no rule of ours gives.
+-- What a reader answers (document 01, "A row's type" and the end of "The file"). A later reader's choice is any frame
+-- of its family, so each kind of answer has a case for what a later reader chose and no rule of ours gives.
 use Prim.Native.Nat.{ℕ}
 use mathlib.Core.Bool.{Bool, true, false, cond, _&&_}
 use lib.Dec.{eqb}
@@ -22,7 +22,8 @@ use Rattle.frames.specs.Forms.{typeOf}
 use Rattle.frames.specs.Out as Out
 use Rattle.frames.specs.Out.{numberFrame, typeFrame, refusedFrame}
 
--- a type answer: the number of a type, family 8; a value, family 9; or a malformed frame of these families, as it stands
+-- a type answer: the number of a type, family 8; a value, family 9; or a malformed frame of these families, as it
+-- stands
 pub data TypeAnswer : Type 0 where
   number : TypeNumber → TypeAnswer
   value : TypeInner → TypeAnswer
@@ -39,8 +40,8 @@ pub data Typed : Type 0 where
   refused : Refusal → Typed
   chosenRefusal : Frame → Typed
 
--- where something newer was met: a row; in a verdict a component, or the composed type; in a comparison no place; or as it stands in the
--- number 22 that a later reader chose
+-- where something newer was met: a row; in a verdict a component, or the composed type; in a comparison no place; or as
+-- it stands in the number 22 that a later reader chose
 pub data Place : Type 0 where
   row : RowNumber → Place
   component : ℕ → Place
@@ -88,7 +89,8 @@ abbrev pub rowFrame : Result Typed → Frame
 rowFrame (told t) = typedFrame t
 rowFrame (newer p) = newerFrame p
 
--- number 22 as a verdict; a verdict's place is a component or the composed type, and no rule of a verdict gives the first and fourth line
+-- number 22 as a verdict; a verdict's place is a component or the composed type, and no rule of a verdict gives the
+-- first and fourth line
 abbrev pub newerVerdict : RowNumber → Place → Frame
 newerVerdict r (row m) = Out.verdictFrame r (Vd.NewerComponent 0)
 newerVerdict r (component i) = Out.verdictFrame r (Vd.NewerComponent i)
@@ -125,12 +127,14 @@ isValue f = eqb (byte f 0) 9 && fitsAll (typeLayout (typeKindOf (byte f 1))) f
 
 -- the type answer that a frame stands for; every byte counts
 abbrev pub typeAnswerOf : Frame → TypeAnswer
-typeAnswerOf f = cond (isNumber f) (number (record { 0 = half f 2 })) (cond (isValue f) (valued f (typeOf f)) (malformed f))
+typeAnswerOf f = cond (isNumber f) (number (record { 0 = half f 2 }))
+    (cond (isValue f) (valued f (typeOf f)) (malformed f))
 
 -- the row's answer that a frame of family 8, 9 or 10 stands for; number 22 is newer whatever its other bytes
 abbrev pub rowAnswerOf : Frame → Result Typed
 rowAnswerOf f =
-    cond (eqb (byte f 0) 10) (cond (eqb (byte f 1) 22) (newer (chosen f)) (told (chosenRefusal f))) (told (given (typeAnswerOf f)))
+    cond (eqb (byte f 0) 10) (cond (eqb (byte f 1) 22) (newer (chosen f)) (told (chosenRefusal f)))
+    (told (given (typeAnswerOf f)))
 
 -- the verdict that a frame of family 11 stands for, as a choice
 abbrev pub chosenJudgement : Frame → Result Judgement

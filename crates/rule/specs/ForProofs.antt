@@ -1,5 +1,5 @@
--- Not part of any public statement: for proofs and code only. An answer as the code's resolution, what the claim for any rules says of one
--- outcome, and the outcome that a reading tells (proofs/Later.antt).
+-- Not part of any public statement: for proofs and code only. An answer as the code's resolution, what the claim for
+-- any rules says of one outcome, and the outcome that a reading tells (proofs/Later.antt).
 use mathlib.Core.Path.{_≡_}
 use mathlib.Core.Logic.{_↔_}
 use mathlib.Core.List.{List}

@@ -1,4 +1,5 @@
--- The rows of a file in order: an outcome of ours, a later reader's, and its reading (document 01, "A row's type"). For any rules.
+-- The rows of a file in order: an outcome of ours, a later reader's, and its reading (document 01, "A row's type"). For
+-- any rules.
 use Prim.Native.Nat.{ℕ, zero, suc}
 use mathlib.Core.List.{List, [], _∷_, _++_}
 use mathlib.Core.Option.{Option, some}
@@ -24,7 +25,8 @@ among l n = getD l (n .0) (told absent)
 abbrev pub amongReadings : List (Reading Typed) → Readings
 amongReadings l n = getD l (n .0) (record { steps = []; end = some absent })
 
--- the first n rows' answers; `new m p` is the answer of row m where its rule itself comes to a newer thing at the place p
+-- the first n rows' answers; `new m p` is the answer of row m where its rule itself comes to a newer thing at the place
+-- p
 abbrev pub answers : Sight → (ℕ → Rule Typed) → (ℕ → Place → Result Typed) → ℕ → List (Result Typed)
 answers sight rules new = inOrder (λ earlier m. run sight (among earlier) (new m) (rules m))
 

@@ -1,5 +1,5 @@
--- What a reading comes to, and what each thing shows in a file (document 01, "A row's type"). Newer are exactly a row of unknown kind, a Math
--- row and a type of unknown kind (document 02, request 1).
+-- What a reading comes to, and what each thing shows in a file (document 01, "A row's type"). Newer are exactly a row
+-- of unknown kind, a Math row and a type of unknown kind (document 02, request 1).
 use Prim.Native.Nat.{ℕ, zero, suc, _+_, _-_}
 use mathlib.Core.Bool.{Bool, true, false, cond, not}
 use mathlib.Core.List.{List, [], _∷_, _++_}
@@ -96,7 +96,8 @@ itemResult It.Unknown = Fr.None
 abbrev pub maybeItem : List ℕ → ℕ → ℕ → ItemNumber → Option TypeNumber
 maybeItem fr first last n = cond (ltb (n .0) (last - first)) (some (itemType (itemAt fr (first + n .0)))) none
 
--- WHAT A ROW SHOWS, with what it names: items by their types, an argument and a special type where there is one, components by their rows
+-- WHAT A ROW SHOWS, with what it names: items by their types, an argument and a special type where there is one,
+-- components by their rows
 
 pub data Shown : Type 0 where
   literal : Literal → Shown
@@ -134,13 +135,16 @@ shown fr s (Ex.Literal l) = some (literal l)
 shown fr s (Ex.Constant i) = some (constant (itemType (itemAt fr (s .constants + i .0))))
 shown fr s (Ex.Override i) = some (override (itemType (itemAt fr (s .overrides + i .0))))
 shown fr s (Ex.ZeroValue t) = some (zeroValue t)
-shown fr s (Ex.Compose t n c) = some (compose t (listed (λ (i : ℕ). componentOf (frameAt fr (s .components + c .0 + i))) n))
+shown fr s (Ex.Compose t n c) = some
+    (compose t (listed (λ (i : ℕ). componentOf (frameAt fr (s .components + c .0 + i))) n))
 shown fr s (Ex.Access m) = some (access m)
 shown fr s (Ex.AccessIndex m i) = some (accessIndex m i)
 shown fr s (Ex.Splat z m) = some (splat z m)
 shown fr s (Ex.Swizzle z m) = some (swizzle z m)
-shown fr s (Ex.FunctionArgument i) = some (functionArgument i (maybeItem fr (s .arguments) (s .locals) (record { 0 = i })))
-shown fr s (Ex.GlobalVariable i) = let g = itemAt fr (s .globals + i .0) in some (globalVariable (itemType g) (itemSpace g))
+shown fr s (Ex.FunctionArgument i) = some
+    (functionArgument i (maybeItem fr (s .arguments) (s .locals) (record { 0 = i })))
+shown fr s (Ex.GlobalVariable i) = let g = itemAt fr (s .globals + i .0) in
+    some (globalVariable (itemType g) (itemSpace g))
 shown fr s (Ex.LocalVariable i) = some (localVariable (itemType (itemAt fr (s .locals + i .0))))
 shown fr s (Ex.Load m) = some (load m)
 shown fr s (Ex.ImageSample m g) = some (imageSample m g)
@@ -157,9 +161,11 @@ shown fr s (Ex.CallResult i) = some (callResult (itemResult (itemAt fr (s .funct
 shown fr s (Ex.AtomicResult t) = some (atomicResult t)
 shown fr s (Ex.WorkGroupUniformLoadResult t) = some (workGroupUniformLoadResult t)
 shown fr s Ex.ArrayLength = some arrayLength
-shown fr s Ex.RayQueryVertexPositions = some (rayQueryVertexPositions (maybeItem fr (s .«vertex_returns») (s .rows) (record { 0 = 0 })))
+shown fr s Ex.RayQueryVertexPositions = some
+    (rayQueryVertexPositions (maybeItem fr (s .«vertex_returns») (s .rows) (record { 0 = 0 })))
 shown fr s Ex.RayQueryProceedResult = some rayQueryProceedResult
-shown fr s Ex.RayQueryGetIntersection = some (rayQueryGetIntersection (maybeItem fr (s .intersections) (s .«vertex_returns») (record { 0 = 0 })))
+shown fr s Ex.RayQueryGetIntersection = some
+    (rayQueryGetIntersection (maybeItem fr (s .intersections) (s .«vertex_returns») (record { 0 = 0 })))
 shown fr s Ex.SubgroupBallotResult = some subgroupBallotResult
 shown fr s (Ex.SubgroupOperationResult t) = some (subgroupOperationResult t)
 shown fr s (Ex.CooperativeLoad c r o m) = some (cooperativeLoad c r o m)
@@ -189,8 +195,8 @@ memberTypes fr s (Ti.BindingArray b z) = []
 
 -- THINGS
 
--- a row's own kind; a type looked into; the class of an image sampled or loaded; and two that are never newer: whether an answer is the number
--- of a struct, and whether a comparison would answer it with 5 or 6
+-- a row's own kind; a type looked into; the class of an image sampled or loaded; and two that are never newer: whether
+-- an answer is the number of a struct, and whether a comparison would answer it with 5 or 6
 pub data Thing : Type 0 where
   kind : RowNumber → Thing
   form : TypeAnswer → Thing
@@ -216,7 +222,8 @@ isCount (As.Constant n) = not (eqb n 0)
 isCount (As.Pending o) = true
 isCount As.Dynamic = true
 
--- WHAT A COMPARISON WOULD ANSWER with before any look: nothing, 5 or 6 (document 01, "Numbers handed back", last paragraph). `Fault` is the code's.
+-- WHAT A COMPARISON WOULD ANSWER with before any look: nothing, 5 or 6 (document 01, "Numbers handed back", last
+-- paragraph). `Fault` is the code's.
 
 -- 6 unless it holds
 abbrev pub inRange : Bool → Fault
@@ -257,7 +264,8 @@ soundForm t Fa.Sound = Tf.Known t
 soundForm t Fa.Field = Tf.Unknown
 soundForm t Fa.Index = Tf.Unknown
 
--- the form of an answer that is looked into. A type that a comparison would answer with 5 or 6 counts as one of unknown kind.
+-- the form of an answer that is looked into. A type that a comparison would answer with 5 or 6 counts as one of unknown
+-- kind.
 abbrev pub formIn : List ℕ → Starts → TypeAnswer → TypeForm
 formIn fr s (number n) = typeIn fr s n
 formIn fr s (value t) = soundForm t (valueFault s t)
@@ -317,8 +325,8 @@ seeIn fr s (fault a) = some (faultOf s a)
 abbrev pub see : List ℕ → Sight
 see fr = seeIn fr (startsOf fr)
 
--- what each thing showed by document 01's first rules, in which a storage image sampled without gather, or loaded, was newer: the same otherwise
--- (document 02, requests 1 and 8)
+-- what each thing showed by document 01's first rules, in which a storage image sampled without gather, or loaded, was
+-- newer: the same otherwise (document 02, requests 1 and 8)
 abbrev pub firstSee : List ℕ → Sight
 firstSee fr (kind n) = see fr (kind n)
 firstSee fr (form a) = see fr (form a)

@@ -12,7 +12,8 @@ use Rattle.rule_rows.specs.declared.Pass.{Pass}
 use Rattle.rule_rows.specs.Answered.{toResult}
 use Rattle.rule_answers.specs.Outputs.{rowAnswer, outputs}
 
--- at which frame of what is handed back the answer of each of the first n rows stands: after all that is handed back of the rows before it
+-- at which frame of what is handed back the answer of each of the first n rows stands: after all that is handed back of
+-- the rows before it
 abbrev pub placesOf : Pass → List ℕ → ℕ → List ℕ
 placesOf pass fr n = build (λ (k : ℕ). length (outputs pass (see fr) k)) n
 

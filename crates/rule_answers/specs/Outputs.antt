@@ -1,4 +1,5 @@
--- What typing a whole file hands back (document 01, the end of "The file" and "Cases"): for each row in order its answer, and after a compose its verdict.
+-- What typing a whole file hands back (document 01, the end of "The file" and "Cases"): for each row in order its
+-- answer, and after a compose its verdict.
 use Prim.Native.Nat.{ℕ, zero, suc}
 use mathlib.Core.List.{List, [], _∷_, _++_}
 use mathlib.Core.Option.{Option, none, some}

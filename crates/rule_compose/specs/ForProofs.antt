@@ -1,4 +1,5 @@
--- Not part of any public statement: for proofs and code only. The components of a compose, and the rule of its verdict by its frame.
+-- Not part of any public statement: for proofs and code only. The components of a compose, and the rule of its verdict
+-- by its frame.
 use Prim.Native.Nat.{ℕ}
 use mathlib.Core.List.{List}
 use Rattle.ir.specs.declared.RowNumber.{RowNumber}

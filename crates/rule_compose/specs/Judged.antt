@@ -1,7 +1,8 @@
 -- A verdict as the code gives it (document 01, "A compose's verdict").
 use Rattle.answers.specs.declared.Verdict.{Verdict}
 use Rattle.answers.specs.declared.Verdict.the-variants as Vd
-use Rattle.rule.specs.Answers.{Judgement, passes, notComposed, count, part, broken, component, composed, Result, told, newer}
+use Rattle.rule.specs.Answers.{Judgement, passes, notComposed, count, part, broken, component, composed, Result, told}
+use Rattle.rule.specs.Answers.{newer}
 
 -- what the code's verdict is: no two verdicts are the same
 abbrev pub toJudged : Verdict → Result Judgement

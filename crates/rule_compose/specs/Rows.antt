@@ -1,4 +1,5 @@
--- Which rows have a verdict (document 01, "A compose's verdict"): each compose has one, after its answer, and no other row.
+-- Which rows have a verdict (document 01, "A compose's verdict"): each compose has one, after its answer, and no other
+-- row.
 use Prim.Native.Nat.{ℕ}
 use mathlib.Core.List.{List}
 use mathlib.Core.Option.{Option, none, some}

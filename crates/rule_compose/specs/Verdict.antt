@@ -1,5 +1,6 @@
--- The verdict on a compose: the source's validate_compose (valid/compose.rs; document 01, "A compose's verdict"). The composed type is looked into first; components
--- are taken in order, and count from 0. What WGSL asks of a constructor differs, and is listed in docs/DIFFERENCES.md; the source decides.
+-- The verdict on a compose: the source's validate_compose (valid/compose.rs; document 01, "A compose's verdict"). The
+-- composed type is looked into first; components are taken in order, and count from 0. What WGSL asks of a constructor
+-- differs, and is listed in docs/DIFFERENCES.md; the source decides.
 use Prim.Native.Nat.{ℕ, suc, _+_}
 use mathlib.Core.Bool.{Bool, true, false, cond}
 use mathlib.Core.List.{List, [], _∷_}
@@ -15,7 +16,8 @@ use Rattle.ir.specs.declared.ArraySize.the-variants as As
 use Rattle.ir.specs.declared.TypeInner.{TypeInner}
 use Rattle.ir.specs.declared.TypeInner.the-variants as Ti
 use Rattle.ir.specs.Numbers.{vectorSizeNumber}
-use Rattle.rule.specs.Answers.{TypeAnswer, number, Typed, given, refused, chosenRefusal, component, composed, Judgement, passes, notComposed, count, part, broken}
+use Rattle.rule.specs.Answers.{TypeAnswer, number, Typed, given, refused, chosenRefusal, component, composed, Judgement}
+use Rattle.rule.specs.Answers.{passes, notComposed, count, part, broken}
 use Rattle.rule.specs.Things.{Form, form}
 use Rattle.rule.specs.Rule.{Rule, done, come, past}
 use Rattle.rule_types.specs.Canonical.{equalTypes}
@@ -41,7 +43,8 @@ orPart i rest true = rest
 orPart i rest false = done (part i)
 
 -- each component, from component i on, is held against what is asked of it
-unfoldable pub eachPart : (ℕ → TypeAnswer → (Bool → Rule Judgement) → Rule Judgement) → ℕ → List RowNumber → Rule Judgement
+unfoldable pub eachPart : (ℕ → TypeAnswer → (Bool → Rule Judgement) → Rule Judgement) → ℕ → List RowNumber
+    → Rule Judgement
 eachPart asked i [] = done passes
 eachPart asked i (n ∷ parts) = comeTo i n (λ a. asked i a (orPart i (eachPart asked (suc i) parts)))
 
@@ -66,7 +69,8 @@ addPart i rest none = done (part i)
 unfoldable pub vectorParts : VectorSize → Scalar → ℕ → ℕ → List RowNumber → Rule Judgement
 vectorParts z k i total [] = done (cond (eqb (vectorSizeNumber z) total) passes (count (vectorSizeNumber z) total))
 vectorParts z k i total (n ∷ parts) =
-    comeTo i n (λ a. come (component i) (form a) (λ y. addPart i (λ m. vectorParts z k (suc i) (total + m) parts) (adds k (y .inner))))
+    comeTo i n (λ a. come (component i) (form a)
+    (λ y. addPart i (λ m. vectorParts z k (suc i) (total + m) parts) (adds k (y .inner))))
 
 -- MATRIX: from its columns, each the vector itself; no canonical forms here
 abbrev pub columnIs : VectorSize → Scalar → ℕ → TypeAnswer → (Bool → Rule Judgement) → Rule Judgement
@@ -84,7 +88,8 @@ arrayParts base (As.Constant n) parts = counted n parts (eachPart (elementIs bas
 arrayParts base (As.Pending o) parts = done notComposed
 arrayParts base As.Dynamic parts = done notComposed
 
--- STRUCT: from parts of the same types as its members, in order. The count holds, so there is a member for each component.
+-- STRUCT: from parts of the same types as its members, in order. The count holds, so there is a member for each
+-- component.
 abbrev pub memberIs : List TypeNumber → ℕ → TypeAnswer → (Bool → Rule Judgement) → Rule Judgement
 memberIs members i a rest = compare (component i) (number (getD members i (record { 0 = 0 }))) a rest
 

@@ -24,7 +24,8 @@ overFile refused given t (Index k) = refused (Index k)
 abbrev pub thenFrames : List ℕ → Outcome → Outcome
 thenFrames t o = overFile (λ (r : Outcome). r) checkFrames t o
 
--- what reading a text gives within a limit of frames, with a frame buffer of f bytes, and an answer buffer where one is lent
+-- what reading a text gives within a limit of frames, with a frame buffer of f bytes, and an answer buffer where one is
+-- lent
 unfoldable pub readFile : ℕ → List ℕ → ℕ → AnswerRoom → Outcome
 readFile limit t f room = thenFrames t (readText limit t f room)
 

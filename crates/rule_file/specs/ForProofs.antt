@@ -1,4 +1,5 @@
--- Not part of any public statement: for proofs and code only. How many frames were accepted, and what the code asks for before it answers.
+-- Not part of any public statement: for proofs and code only. How many frames were accepted, and what the code asks for
+-- before it answers.
 use Prim.Native.Nat.{ℕ, _*_, _≤_, _<_}
 use mathlib.Core.Path.{_≡_}
 use mathlib.Core.List.{List, _++_}

@@ -1,5 +1,6 @@
 pub mod File
 pub mod Types
+pub mod Forms
 pub mod Typing
 pub mod Printed
 pub mod ForProofs

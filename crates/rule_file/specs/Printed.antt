@@ -1,4 +1,5 @@
--- Lines in a lent buffer: all of them, or number 3 with the buffer unchanged (document 01, "Numbers handed back": a lent buffer too small).
+-- Lines in a lent buffer: all of them, or number 3 with the buffer unchanged (document 01, "Numbers handed back": a
+-- lent buffer too small).
 use Prim.Native.Nat.{ℕ}
 use mathlib.Core.Bool.{cond}
 use mathlib.Core.List.{List, _++_}

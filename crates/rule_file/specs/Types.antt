@@ -1,5 +1,5 @@
--- Comparison of two types of a file, over its text (document 01, "Same type or not" and "Numbers handed back", last paragraph): the file is checked first, and one that is not
--- accepted gives its number and place.
+-- Comparison of two types of a file, over its text (document 01, "Same type or not" and "Numbers handed back", last
+-- paragraph): the file is checked first, and one that is not accepted gives its number and place.
 use Prim.Native.Nat.{ℕ}
 use mathlib.Core.List.{List}
 use Rattle.answers.specs.declared.Sameness.{Sameness}
@@ -11,4 +11,5 @@ use Rattle.rule_file.specs.File.{overFile, readFile}
 
 -- what comparing two frames gives: yes, no, 22, 5 or 6
 unfoldable pub sameTypes : ℕ → List ℕ → ℕ → Frame → Frame → Sameness
-sameTypes limit t f l r = overFile Sa.NotAccepted (λ (fr : List ℕ). samenessOf (sameType fr l r)) t (readFile limit t f NotLent)
+sameTypes limit t f l r = overFile Sa.NotAccepted (λ (fr : List ℕ). samenessOf (sameType fr l r)) t
+    (readFile limit t f NotLent)

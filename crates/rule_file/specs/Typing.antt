@@ -1,5 +1,6 @@
--- Typing the rows of a file, over its text (document 01, the end of "The file", "Numbers handed back" and "Cases"): the file is checked first, with the answer
--- buffer's length; one that is not accepted gives its number and place and leaves the answer buffer unchanged.
+-- Typing the rows of a file, over its text (document 01, the end of "The file", "Numbers handed back" and "Cases"): the
+-- file is checked first, with the answer buffer's length; one that is not accepted gives its number and place and
+-- leaves the answer buffer unchanged.
 use Prim.Native.Nat.{ℕ}
 use mathlib.Core.Path.{_≡_}
 use mathlib.Core.Bool.{cond}
@@ -33,19 +34,24 @@ use Rattle.rule_file.specs.File.{overFile, readFile, fileSaid, framesAft
 
 -- TYPE_ROWS, TYPE_FILE
 
--- an answer buffer with the answers and verdicts of a file at its front, whose frames these are; its bytes past them stay
+-- an answer buffer with the answers and verdicts of a file at its front, whose frames these are; its bytes past them
+-- stay
 abbrev pub answersWritten : Pass → List ℕ → List ℕ → List ℕ
 answersWritten pass an fr = outputBytes pass fr ++ drop (length (outputBytes pass fr)) an
 
 -- the answer buffer `an` after `type_rows`, with a frame buffer of f bytes
 unfoldable pub answersAfter : Pass → ℕ → List ℕ → ℕ → List ℕ → List ℕ
-answersAfter pass limit t f an = overFile (λ (o : Outcome). an) (λ (fr : List ℕ). answersWritten pass an fr) t (readFile limit t f (Lent (length an)))
+answersAfter pass limit t f an = overFile (λ (o : Outcome). an) (λ (fr : List ℕ). answersWritten pass an fr) t
+    (readFile limit t f (Lent (length an)))
 
--- how many frames are handed back, with an answer buffer of a bytes: as many as a file's answers and verdicts; of a file that is not accepted, none
+-- how many frames are handed back, with an answer buffer of a bytes: as many as a file's answers and verdicts; of a
+-- file that is not accepted, none
 unfoldable pub outputCount : Pass → ℕ → List ℕ → ℕ → ℕ → ℕ
-outputCount pass limit t f a = overFile (λ (o : Outcome). 0) (λ (fr : List ℕ). frameCount (outputBytes pass fr)) t (readFile limit t f (Lent a))
+outputCount pass limit t f a = overFile (λ (o : Outcome). 0) (λ (fr : List ℕ). frameCount (outputBytes pass fr)) t
+    (readFile limit t f (Lent a))
 
--- what `type_file` gives, r, and leaves: fr and an are the frame buffer and the answer buffer before it, `last` and `out` after it
+-- what `type_file` gives, r, and leaves: fr and an are the frame buffer and the answer buffer before it, `last` and
+-- `out` after it
 pub record HandsBack (pass : Pass) (limit : ℕ) (t fr an : List ℕ) (r : TypedFile) (last out : List ℕ) : Type 0 where
   pub outcome : r .outcome ≡ readFile limit t (length fr) (Lent (length an))
   pub said : outcomeValues (r .outcome) ≡ fileSaid limit t (length fr) (Lent (length an))
@@ -83,12 +89,13 @@ rowSaid (notAccepted o) = instead (outcomeValues o)
 -- the answer buffer after it: as after `type_rows`, and unchanged where the file does not have the row
 unfoldable pub answersAfterRow : Pass → ℕ → List ℕ → ℕ → List ℕ → RowNumber → List ℕ
 answersAfterRow pass limit t f an n =
-    overFile (λ (o : Outcome). an) (λ (fr : List ℕ). cond (isRow (startsOf fr) n) (answersWritten pass an fr) an) t (readFile limit t f (Lent (length an)))
+    overFile (λ (o : Outcome). an) (λ (fr : List ℕ). cond (isRow (startsOf fr) n) (answersWritten pass an fr) an) t
+    (readFile limit t f (Lent (length an)))
 
 -- COMPOSE_VERDICT
 
--- what is given: the compose's verdict; that the row is no compose, number 6, place 0 (docs/DECISIONS.md); the same for a row that the file does not have; or
--- the file's own number
+-- what is given: the compose's verdict; that the row is no compose, number 6, place 0 (docs/DECISIONS.md); the same for
+-- a row that the file does not have; or the file's own number
 pub data VerdictGiven : Type 0 where
   verdict : Result Judgement → VerdictGiven
   noCompose : VerdictGiven
@@ -127,7 +134,8 @@ ifJudged written an (notAccepted o) = an
 
 unfoldable pub answersAfterVerdict : Pass → ℕ → List ℕ → ℕ → List ℕ → RowNumber → List ℕ
 answersAfterVerdict pass limit t f an n =
-    overFile (λ (o : Outcome). an) (λ (fr : List ℕ). ifJudged (answersWritten pass an fr) an (verdictGiven pass n fr)) t (readFile limit t f (Lent (length an)))
+    overFile (λ (o : Outcome). an) (λ (fr : List ℕ). ifJudged (answersWritten pass an fr) an (verdictGiven pass n fr)) t
+    (readFile limit t f (Lent (length an)))
 
 -- AS LINES, what the typing program prints
 

@@ -1,4 +1,5 @@
-// What the public functions over a file give: the definitions stand in specs/, their laws in proofs/. Crates file_* have the code.
+// What the public functions over a file give: the definitions stand in specs/. Crate law_file has their laws, crates
+// file_* the code.
 use answers::Outcome;
 
 // The number of frames that were accepted, or none.

@@ -1,5 +1,5 @@
 -- Types taken in order: what is said of an earlier type is its own. And request 5's measure is the case without
--- counts: no type goes by them. Assumes nothing.
+-- counts: no type goes by them.
 use Prim.Native.Nat.{ℕ, _≤_, _<_}
 use native.Mathlib.Decide.{decLt}
 use native.Mathlib.Omega.{arith}

@@ -21,27 +21,30 @@ use Rattle.rule_ranges.specs.declared.TypeRange.{TypeRange}
 use Rattle.rule_ranges.specs.Pending.{memberHolds, holding, holdsPending}
 use Rattle.rule_ranges.specs.Counts.{freshParts, freshStruct, measuresBy, measureBy}
 use Rattle.rule_ranges.specs.Ranges.{countsOf, rangeIn, faultySpan, typeRangeIn, SizeRange, typeRangeSaid}
-use Rattle.rule_ranges.specs.Cases.{Case, table}
+use Rattle.rule_ranges.specs.Cases.{CountCase, countCases}
 
 -- alignment, least and greatest size; or a number and its place
 abbrev numbers : SaidOne SizeRange → List ℕ
 numbers (asked r) = r .align ∷ r .least ∷ r .greatest ∷ []
 numbers (instead r) = r .number ∷ r .place ∷ []
 
-abbrev rangeAt : Case → TypeNumber → TypeRange
+abbrev rangeAt : CountCase → TypeNumber → TypeRange
 rangeAt c n = typeRangeIn (c .file) (startsOf (c .file)) (countsOf (c .least)) (countsOf (c .greatest)) n
 
 -- of types k, k + 1 and so on, as many as a list has
-abbrev saidFrom : Case → ℕ → List (List ℕ) → List (List ℕ)
+abbrev saidFrom : CountCase → ℕ → List (List ℕ) → List (List ℕ)
 saidFrom c k [] = []
 saidFrom c k (x ∷ l) =
     numbers (typeRangeSaid (rangeAt c (record { 0 = k }))) ∷ saidFrom c (suc k) l
 
-worked : map (λ (c : Case). saidFrom c 0 (c .said)) table ≡ map (λ (c : Case). c .said) table
-unfolding typeIn frameAt typeOf memberOf itemOf start startsOf lowest allBelow arrayOf joined partsOf spanned structOf memberHolds holding holdsPending freshParts freshStruct measuresBy measureBy rangeIn faultySpan typeRangeIn
+worked : map (λ (c : CountCase). saidFrom c 0 (c .said)) countCases ≡ map (λ (c : CountCase). c .said) countCases
+unfolding typeIn frameAt typeOf memberOf itemOf start startsOf lowest allBelow arrayOf joined partsOf spanned structOf
+    memberHolds holding holdsPending freshParts freshStruct measuresBy measureBy rangeIn faultySpan typeRangeIn
 worked = refl
 
 -- each file passes checks 4 to 6
-accepted : map (λ (c : Case). checkFrames (c .file)) table ≡ map (λ (c : Case). Accepted (frameCount (c .file))) table
-unfolding lowest allBelow build sumBelow frameAt typeOf itemOf rowOf memberOf componentOf fieldsFit orderOk start startsOf namesOk earlyOk indexOk checkFrames
+accepted : map (λ (c : CountCase). checkFrames (c .file)) countCases
+    ≡ map (λ (c : CountCase). Accepted (frameCount (c .file))) countCases
+unfolding lowest allBelow build sumBelow frameAt typeOf itemOf rowOf memberOf componentOf fieldsFit orderOk start
+    startsOf namesOk earlyOk indexOk checkFrames
 accepted = refl

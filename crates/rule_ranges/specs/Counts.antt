@@ -21,10 +21,8 @@ use Rattle.rule_sizes.specs.declared.Alignment.the-variants.{Two}
 use Rattle.rule_sizes.specs.declared.SizeFault.the-variants.{Unmeasured, Huge}
 use Rattle.rule_sizes.specs.declared.Measure.{Measure}
 use Rattle.rule_sizes.specs.declared.Measure.the-variants.{Fills, Faulty}
-use Rattle.rule_sizes.specs.declared.Parts.{Parts}
-use Rattle.rule_sizes.specs.declared.Parts.the-variants.{Laid, Broken}
 use Rattle.rule_sizes.specs.Wgsl.{roundUp}
-use Rattle.rule_sizes.specs.Sizes.{arrayOf, joined, ofForm, look}
+use Rattle.rule_sizes.specs.Sizes.{Parts, Laid, Broken, arrayOf, joined, ofForm, look}
 use Rattle.rule_ranges.specs.Pending.{holdsPending}
 
 -- the count of each override

@@ -7,14 +7,12 @@ use Rattle.ir.specs.declared.TypeNumber.{TypeNumber}
 use Rattle.ir.specs.declared.MemberNumber.{MemberNumber}
 use Rattle.archive.specs.declared.Starts.{Starts}
 use Rattle.rule_sizes.specs.declared.Measure.{Measure}
-use Rattle.rule_sizes.specs.declared.Parts.{Parts}
-use Rattle.rule_sizes.specs.declared.Parts.the-variants.{Laid, Broken}
-use Rattle.rule_sizes.specs.Sizes.{look, partsOf, faultNumber}
+use Rattle.rule_sizes.specs.Sizes.{Parts, look, partsOf, faultNumber}
 use Rattle.rule_sizes.specs.ForProofs.{Known}
 use Rattle.rule_ranges.specs.declared.Range.{Range}
 use Rattle.rule_ranges.specs.declared.Range.the-variants.{Spans, Faulty}
 use Rattle.rule_ranges.specs.Pending.{lookHolds}
-use Rattle.rule_ranges.specs.Counts.{freshOffset, freshParts, measuresBy, measureBy}
+use Rattle.rule_ranges.specs.Counts.{freshParts, measuresBy, measureBy}
 use Rattle.rule_ranges.specs.Ranges.{countsOf}
 
 -- what type n fills
@@ -29,18 +27,9 @@ earlier fr s marks counts n = look (measuresBy fr s (lookHolds marks) (countsOf 
 abbrev pub KnownMarked : List ℕ → Starts → List Bool → List ℕ → List ℕ → Type 0
 KnownMarked fr s marks counts t = Known (measureMarked fr s marks counts) t
 
--- the next member's offset: WGSL's where the struct is laid out afresh, else the file's
-abbrev pub offsetBy : Bool → Parts → ℕ → Measure → ℕ
-offsetBy afresh p offset m = cond afresh (freshOffset p m) offset
-
 -- the first k members of a struct
 abbrev pub partsBy : Bool → List ℕ → Starts → (TypeNumber → Measure) → MemberNumber → ℕ → Parts
 partsBy afresh fr s past first k = cond afresh (freshParts fr s past first k) (partsOf fr s past first k)
-
--- where the last member so far ends
-abbrev pub endOf : Parts → ℕ
-endOf (Laid a e ok) = e
-endOf (Broken k p) = 0
 
 -- the number of a range: 0 where there are sizes
 abbrev pub rangeNumber : Range → ℕ

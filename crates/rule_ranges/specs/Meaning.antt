@@ -15,7 +15,7 @@ use Rattle.ir.specs.declared.TypeForm.the-variants as Tf
 use Rattle.archive.specs.Starts.{startsOf, overrideCount}
 use Rattle.archive.specs.Names.{isType}
 use Rattle.archive.specs.Access.{typeAt}
-use Rattle.rule_sizes.specs.Meaning.{member}
+use Rattle.rule_sizes.specs.Meaning.{structMember}
 use Rattle.rule_sizes.specs.declared.Alignment.{Alignment}
 use Rattle.rule_sizes.specs.declared.SizeFault.the-variants.{Huge}
 use Rattle.rule_sizes.specs.declared.Measure.{Measure}
@@ -34,7 +34,7 @@ pub data Over (fr : List ℕ) : ItemNumber → TypeNumber → Type 0 where
       → typeAt fr n ≡ Tf.Known (Ti.Array b z stride) → Over fr o b → Over fr o n
   part : (o : ItemNumber) (n : TypeNumber) (first : MemberNumber) (count span i : ℕ)
       → typeAt fr n ≡ Tf.Known (Ti.Struct first count span) → i < count
-      → Over fr o (member fr first i .ty) → Over fr o n
+      → Over fr o (structMember fr first i .ty) → Over fr o n
 
 -- CHOICES: one count for each override of the file
 

@@ -15,7 +15,7 @@ use Rattle.rule_sizes.specs.declared.Alignment.{Alignment}
 use Rattle.rule_sizes.specs.declared.SizeFault.{SizeFault}
 use Rattle.rule_sizes.specs.declared.SizeFault.the-variants.{Unmeasured, Misplaced, Huge}
 use Rattle.rule_sizes.specs.Wgsl.{roundUp}
-use Rattle.rule_sizes.specs.Meaning.{member, Greatest, Strided, Has, RestsOn, Fault}
+use Rattle.rule_sizes.specs.Meaning.{structMember, Greatest, Strided, Has, RestsOn, Fault}
 use Rattle.rule_ranges.specs.Counts.{Counts}
 use Rattle.rule_ranges.specs.Meaning.{Over}
 
@@ -42,7 +42,7 @@ pub data HasAt (fr : List ℕ) (c : Counts) : TypeNumber → Alignment → ℕ �
   struct : (n : TypeNumber) (first : MemberNumber) (count span : ℕ) (aligns : ℕ → Alignment) (sizes offsets : ℕ
       → ℕ) (a : Alignment) (z : ℕ)
       → typeAt fr n ≡ Tf.Known (Ti.Struct first count span) → Holds fr n
-      → ((i : ℕ) → i < count → HasAt fr c (member fr first i .ty) (aligns i) (sizes i)) → Greatest aligns count a
+      → ((i : ℕ) → i < count → HasAt fr c (structMember fr first i .ty) (aligns i) (sizes i)) → Greatest aligns count a
       → Fresh count aligns sizes offsets a z → z < 4294967296 → HasAt fr c n a z
 
 -- WHAT A SIZE RESTS ON: an array over a pending array, or over what holds one, is outside the list and rests on itself
@@ -55,7 +55,7 @@ pub data RestsOnAt (fr : List ℕ) : TypeNumber → TypeNumber → Type 0 where
       → RestsOn fr b m → RestsOnAt fr n m
   part : (n m : TypeNumber) (first : MemberNumber) (count span i : ℕ)
       → typeAt fr n ≡ Tf.Known (Ti.Struct first count span) → Holds fr n → i < count
-      → RestsOnAt fr (member fr first i .ty) m → RestsOnAt fr n m
+      → RestsOnAt fr (structMember fr first i .ty) m → RestsOnAt fr n m
 
 -- A TYPE'S OWN NUMBER at these counts: 43 for a pending array's stride, never for a struct that holds a pending array;
 -- 44 for both
@@ -72,7 +72,7 @@ pub data FaultAt (fr : List ℕ) (c : Counts) : TypeNumber → SizeFault → Typ
   struct : (n : TypeNumber) (first : MemberNumber) (count span : ℕ) (aligns : ℕ → Alignment) (sizes offsets : ℕ
       → ℕ) (a : Alignment) (z : ℕ)
       → typeAt fr n ≡ Tf.Known (Ti.Struct first count span) → Holds fr n
-      → ((i : ℕ) → i < count → HasAt fr c (member fr first i .ty) (aligns i) (sizes i)) → Greatest aligns count a
+      → ((i : ℕ) → i < count → HasAt fr c (structMember fr first i .ty) (aligns i) (sizes i)) → Greatest aligns count a
       → Fresh count aligns sizes offsets a z → 4294967296 ≤ z → FaultAt fr c n Huge
 
 -- THE LOWEST FAULTY TYPE that a type rests on, and its number

@@ -1,6 +1,6 @@
 -- Least and greatest size of each type, between a least and a greatest count for each override; numbers 42 to 44 by
 -- the greatest counts; number 45 (document 02, request 6).
-use Prim.Native.Nat.{ℕ, _/_, _%_}
+use Prim.Native.Nat.{ℕ}
 use mathlib.Core.Bool.{Bool, cond, _&&_}
 use mathlib.Core.List.{List}
 use lib.Dec.{leb}
@@ -12,7 +12,7 @@ use Rattle.ir.specs.declared.TypeNumber.{TypeNumber}
 use Rattle.ir.specs.declared.ItemNumber.{ItemNumber}
 use Rattle.answers.specs.Numbers.{SaidOne, asked, instead, at, notThere, outcomeValues}
 use Rattle.frames.specs.declared.Frame.{Frame}
-use Rattle.frames.specs.Out.{refusedFrame}
+use Rattle.frames.specs.Out.{refusedFrame, rangedFrame}
 use Rattle.archive.specs.declared.Starts.{Starts}
 use Rattle.archive.specs.Starts.{overrideCount}
 use Rattle.archive.specs.Names.{isType}
@@ -79,32 +79,10 @@ typeRangeSaid (Tr.Span o) = instead (at 45 o)
 typeRangeSaid Tr.Index = instead notThere
 typeRangeSaid (Tr.NotAccepted o) = instead (outcomeValues o)
 
--- AS A FRAME: family 13, alignment in b4, least size in b8-11 and greatest in b12-15; a number is family 10, as every
--- other
-
-abbrev pub ranged : ℕ → ℕ → ℕ → Frame
-ranged align least greatest =
-    record {
-      b0 = 13;
-      b1 = 0;
-      b2 = 0;
-      b3 = 0;
-      b4 = align;
-      b5 = 0;
-      b6 = 0;
-      b7 = 0;
-      b8 = least % 256;
-      b9 = least / 256 % 256;
-      b10 = least / 256 / 256 % 256;
-      b11 = least / 256 / 256 / 256;
-      b12 = greatest % 256;
-      b13 = greatest / 256 % 256;
-      b14 = greatest / 256 / 256 % 256;
-      b15 = greatest / 256 / 256 / 256;
-    }
+-- AS A FRAME: family 13; a number is family 10, as every other
 
 abbrev pub rangeSaidFrame : SaidOne SizeRange → Frame
-rangeSaidFrame (asked r) = ranged (r .align) (r .least) (r .greatest)
+rangeSaidFrame (asked r) = rangedFrame (r .align) (r .least) (r .greatest)
 rangeSaidFrame (instead r) = refusedFrame r
 
 -- the range of type n

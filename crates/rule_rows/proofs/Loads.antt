@@ -1,5 +1,5 @@
--- Load through a Pointer to an Atomic gives the atomic's scalar, by value (document 01, "A row's type"), and not the base's number. Both sides are the
--- same. Assumes nothing.
+-- Load through a Pointer to an Atomic gives the atomic's scalar, by value (document 01, "A row's type"), and not the
+-- base's number. Both sides are the same.
 use mathlib.Core.Path.{_≡_, refl}
 use Rattle.ir.specs.declared.TypeNumber.{TypeNumber}
 use Rattle.ir.specs.declared.Scalar.{Scalar}

@@ -1,5 +1,6 @@
--- AccessIndex bounds a struct by its members (document 01, "A row's type"): of n members listed in order, part i is the i-th where i is below n, and past
--- them there is none. By the place in the list. On Array and BindingArray no bound is checked: both sides are the same. Assumes nothing.
+-- AccessIndex bounds a struct by its members (document 01, "A row's type"): of n members listed in order, part i is the
+-- i-th where i is below n, and past them there is none. By the place in the list. On Array and BindingArray no bound is
+-- checked: both sides are the same.
 use Prim.Native.Nat.{ℕ, zero, suc, _≤_, _<_}
 use native.Mathlib.Omega.{arith}
 use mathlib.Core.Path.{_≡_, refl, ap, _∙_}
@@ -58,7 +59,8 @@ module _ (base : RowNumber) (i : ℕ) (l : List TypeNumber) (b : TypeNumber) (z 
   pub index-binding-array : indexInto base i l (Ti.BindingArray b z) ≡ given (number b)
   index-binding-array = refl
 
-  pub pointer-array : (ty : TypeNumber) (s : AddressSpace) → indexThrough base i ty s l (Ti.Array b z t) ≡ given (value (Ti.Pointer b s))
+  pub pointer-array : (ty : TypeNumber) (s : AddressSpace) → indexThrough base i ty s l (Ti.Array b z t)
+      ≡ given (value (Ti.Pointer b s))
   pointer-array ty s = refl
 
   pub pointer-binding-array : (ty : TypeNumber) (s : AddressSpace)

@@ -1,6 +1,5 @@
 -- Access and AccessIndex (document 02, request 13): where Access gives a type, AccessIndex of the same base gives that
 -- type, or number 10. For every sight and all earlier answers, so for every base. By the cases of the type looked into.
--- Assumes nothing.
 use Prim.Native.Nat.{ℕ}
 use mathlib.Core.Path.{_≡_, refl}
 use mathlib.Core.Bool.{Bool, true, false, cond}
@@ -20,7 +19,8 @@ use Rattle.rule.specs.Rule.{Rule, done, Answers, run}
 use Rattle.rule_types.specs.Canonical.{ifPointer}
 use Rattle.rule_types.proofs.Seen.{never}
 use Rattle.rule_rows.specs.Steps.{look}
-use Rattle.rule_rows.specs.Access.{accessInto, accessThrough, access, bounded, indexInto, indexThrough, accessIndex}
+use Rattle.rule_rows.specs.Access.{accessInto, accessThrough, access, bounded, indexInto, indexThrough}
+use Rattle.rule_rows.specs.Access.{accessIndex}
 use Rattle.rule_rows.specs.Parts.{Agrees, same, outOfBounds}
 
 -- what holds of two outcomes that go by whether a type is a pointer

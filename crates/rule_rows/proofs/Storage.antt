@@ -1,6 +1,7 @@
--- A storage image that is sampled without gather, or loaded (document 02, request 1): four components of its format's scalar, by value. By document 01's
--- first rules the same row is newer, and the place is the row itself; their answers, carried over, are ours. For every file, each pass, all earlier
--- answers and whatever is given where a newer thing is come to. By running the rule over what it reads and sees. Assumes nothing.
+-- A storage image that is sampled without gather, or loaded (document 02, request 1): four components of its format's
+-- scalar, by value. By document 01's first rules the same row is newer, and the place is the row itself; their answers,
+-- carried over, are ours. For every file, each pass, all earlier answers and whatever is given where a newer thing is
+-- come to. By running the rule over what it reads and sees.
 use Prim.Native.Nat.{ℕ}
 use mathlib.Core.Path.{_≡_, refl}
 use mathlib.Core.Bool.{Bool, false}
@@ -29,8 +30,10 @@ pub data Samples (image : RowNumber) : Shown → Type 0 where
   samples : Samples image (Row.imageSample image false)
   loads : Samples image (Row.imageLoad image)
 
-module _ (fr : List ℕ) (pass : Pass) (earlier : Answers) (new : Place → Result Typed) (here image : RowNumber) (f : StorageFormat) where
-  -- in these frames, over these earlier answers, row `here` samples without gather, or loads, a storage image of format f
+module _ (fr : List ℕ) (pass : Pass) (earlier : Answers) (new : Place → Result Typed) (here image : RowNumber)
+    (f : StorageFormat) where
+  -- in these frames, over these earlier answers, row `here` samples without gather, or loads, a storage image of format
+  -- f
   pub record OfStorage : Type 0 where
     pub shown : Shown
     pub reads : Samples image shown
@@ -44,7 +47,8 @@ module _ (fr : List ℕ) (pass : Pass) (earlier : Answers) (new : Place → Resu
     pub access : StorageAccess
     pub is : looked .inner ≡ Ti.Image dim arrayed (Ic.Storage f access)
 
-  pub storage-typed : OfStorage → run (see fr) earlier new (typed pass here) ≡ told (given (value (Ti.Vector Vs.Quad (storageScalar f))))
+  pub storage-typed : OfStorage → run (see fr) earlier new (typed pass here)
+      ≡ told (given (value (Ti.Vector Vs.Quad (storageScalar f))))
   storage-typed o = go (o .shown) (o .reads) (o .own)
     where
       go : (x : Shown) → Samples image x → see fr (kind here) ≡ some x
@@ -55,12 +59,14 @@ module _ (fr : List ℕ) (pass : Pass) (earlier : Answers) (new : Place → Resu
   pub first-storage-newer : OfStorage → run (firstSee fr) earlier new (typed pass here) ≡ new (row here)
   first-storage-newer o = go (o .shown) (o .reads) (o .own)
     where
-      go : (x : Shown) → Samples image x → see fr (kind here) ≡ some x → run (firstSee fr) earlier new (typed pass here) ≡ new (row here)
+      go : (x : Shown) → Samples image x → see fr (kind here) ≡ some x → run (firstSee fr) earlier new (typed pass here)
+          ≡ new (row here)
       go _ samples q = rw (q, o .answer, o .into, o .is, run)
       go _ loads q = rw (q, o .answer, o .into, o .is, run)
 
 -- the answers of the first rules, those that are not newer kept and the others worked out in row order, are ours
 pub first-carried : (fr : List ℕ) (pass : Pass) (n : ℕ)
-    → carriedRows (firstSee fr) (see fr) (sees-more fr) (typing pass) (λ m. ours (firstSee fr) (typing pass) m (typing pass m)) n
+    → carriedRows (firstSee fr) (see fr) (sees-more fr) (typing pass)
+    (λ m. ours (firstSee fr) (typing pass) m (typing pass m)) n
     ≡ answers (see fr) (typing pass) (λ m. newer) n
 first-carried fr pass n = carried-fresh (firstSee fr) (see fr) (sees-more fr) (typing pass) n

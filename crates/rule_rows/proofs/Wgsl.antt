@@ -1,5 +1,5 @@
 -- `wgsl-is`: the result that the second pass goes by is this type exactly where a line of WGSL's tables gives this
--- type. One way line by line; the other by the shapes of the two types, and what each test says. Assumes nothing.
+-- type. One way line by line; the other by the shapes of the two types, and what each test says.
 use Prim.Native.Nat.{ℕ}
 use native.Mathlib.Omega.{arith}
 use mathlib.Core.Path.{_≡_, refl, sym, ap, _∙_}
@@ -27,9 +27,11 @@ use Rattle.ir.proofs.Numbered.{vectorSize-back, scalarKind-back, width-back}
 use Rattle.rule_rows.specs.declared.Shape.{Shape}
 use Rattle.rule_rows.specs.declared.Shape.the-variants as Sh
 use Rattle.rule_rows.specs.WgslTables.{plain, Integer, Numeric, Equatable, Wgsl}
-use Rattle.rule_rows.specs.Wgsl.{shapeOf, isInteger, isFloat, isNumeric, equalSizes, equalCounts, likeOrMixed, mixed, when}
+use Rattle.rule_rows.specs.Wgsl.{shapeOf, isInteger, isFloat, isNumeric, equalSizes, equalCounts, likeOrMixed}
+use Rattle.rule_rows.specs.Wgsl.{mixed, when}
 use Rattle.rule_rows.specs.Wgsl.{arithmeticOf, equalityOf, orderingOf, andOrOf, xorOf, shiftOf, logicalsOf}
-use Rattle.rule_rows.specs.Wgsl.{matrixTimesOf, timesMatrixOf, matricesTimesOf, matricesSumOf, plainResult, matricesResult, ifMultiply, shapesResult, wgslResult}
+use Rattle.rule_rows.specs.Wgsl.{matrixTimesOf, timesMatrixOf, matricesTimesOf, matricesSumOf, plainResult}
+use Rattle.rule_rows.specs.Wgsl.{matricesResult, ifMultiply, shapesResult, wgslResult}
 
 -- IN NO LINE, by hand from the tables: both sides compute to the same
 abbrev f32 : TypeInner
@@ -43,10 +45,12 @@ mat3x2 = Ti.Matrix Vs.Tri Vs.Bi F32
 
 in-no-line :
     -- bools with ^; matrices divided; a sum of two sizes, of two kinds and of two widths
-    wgslResult Bo.ExclusiveOr (Ti.Scalar BOOL) (Ti.Scalar BOOL) ∷ wgslResult Bo.Divide mat3x2 mat3x2 ∷ wgslResult Bo.Add (vec2 F32) (Ti.Vector Vs.Tri F32)
+    wgslResult Bo.ExclusiveOr (Ti.Scalar BOOL) (Ti.Scalar BOOL) ∷ wgslResult Bo.Divide mat3x2 mat3x2 ∷ wgslResult Bo.Add
+    (vec2 F32) (Ti.Vector Vs.Tri F32)
     ∷ wgslResult Bo.Add f32 (Ti.Scalar I32) ∷ wgslResult Bo.Add f32 (Ti.Scalar F16)
     -- products of matrices and vectors whose inner sizes do not agree
-    ∷ wgslResult Bo.Multiply mat3x2 mat3x2 ∷ wgslResult Bo.Multiply mat3x2 (vec2 F32) ∷ wgslResult Bo.Multiply (Ti.Vector Vs.Tri F32) mat3x2
+    ∷ wgslResult Bo.Multiply mat3x2 mat3x2 ∷ wgslResult Bo.Multiply mat3x2 (vec2 F32) ∷ wgslResult Bo.Multiply
+    (Ti.Vector Vs.Tri F32) mat3x2
     -- a shift by i32; a vector shifted by a scalar; bools in an order; a vector of bools with &&
     ∷ wgslResult Bo.ShiftLeft (Ti.Scalar I32) (Ti.Scalar I32) ∷ wgslResult Bo.ShiftLeft (vec2 I32) (Ti.Scalar U32)
     ∷ wgslResult Bo.Less (Ti.Scalar BOOL) (Ti.Scalar BOOL) ∷ wgslResult Bo.LogicalAnd (vec2 BOOL) (vec2 BOOL) ∷ []
@@ -56,7 +60,10 @@ in-no-line = refl
 -- A LINE IS WHAT THE TESTS GIVE: each test holds of what a line says
 
 same-scalar : (s : Scalar) → equalScalars s s ≡ true
-same-scalar s = rw (eq-eqb (scalarKindNumber (s .kind)) (scalarKindNumber (s .kind)) refl, eq-eqb (widthNumber (s .width)) (widthNumber (s .width)) refl)
+same-scalar s = rw (
+  eq-eqb (scalarKindNumber (s .kind)) (scalarKindNumber (s .kind)) refl,
+  eq-eqb (widthNumber (s .width)) (widthNumber (s .width)) refl,
+)
 
 same-size : (n : VectorSize) → equalSizes n n ≡ true
 same-size n = eq-eqb (vectorSizeNumber n) (vectorSizeNumber n) refl
@@ -107,8 +114,10 @@ complete op x y t Wgsl.logical-and = refl
 complete op x y t (Wgsl.or-bools n) = rw (shape-plain n BOOL, same-count n)
 complete op x y t (Wgsl.and-bools n) = rw (shape-plain n BOOL, same-count n)
 complete op x y t (Wgsl.add n s h) = rw (shape-plain n s, is-numeric (s .kind) h, same-scalar s, like n, like-size n)
-complete op x y t (Wgsl.subtract n s h) = rw (shape-plain n s, is-numeric (s .kind) h, same-scalar s, like n, like-size n)
-complete op x y t (Wgsl.multiply n s h) = rw (shape-plain n s, is-numeric (s .kind) h, same-scalar s, like n, like-size n)
+complete op x y t (Wgsl.subtract n s h)
+    = rw (shape-plain n s, is-numeric (s .kind) h, same-scalar s, like n, like-size n)
+complete op x y t (Wgsl.multiply n s h)
+    = rw (shape-plain n s, is-numeric (s .kind) h, same-scalar s, like n, like-size n)
 complete op x y t (Wgsl.divide n s h) = rw (shape-plain n s, is-numeric (s .kind) h, same-scalar s, like n, like-size n)
 complete op x y t (Wgsl.modulo n s h) = rw (shape-plain n s, is-numeric (s .kind) h, same-scalar s, like n, like-size n)
 complete op x y t (Wgsl.add-vector-scalar n s h) = rw (is-numeric (s .kind) h, same-scalar s)
@@ -134,11 +143,25 @@ complete op x y t (Wgsl.less n s h) = rw (shape-plain n s, is-numeric (s .kind) 
 complete op x y t (Wgsl.less-equal n s h) = rw (shape-plain n s, is-numeric (s .kind) h, same-scalar s, same-count n)
 complete op x y t (Wgsl.greater n s h) = rw (shape-plain n s, is-numeric (s .kind) h, same-scalar s, same-count n)
 complete op x y t (Wgsl.greater-equal n s h) = rw (shape-plain n s, is-numeric (s .kind) h, same-scalar s, same-count n)
-complete op x y t (Wgsl.or-bits n s h) = rw (shape-plain n s, or-left (isInteger (s .kind)) (equalScalars s BOOL) (is-integer (s .kind) h), same-scalar s, same-count n)
-complete op x y t (Wgsl.and-bits n s h) = rw (shape-plain n s, or-left (isInteger (s .kind)) (equalScalars s BOOL) (is-integer (s .kind) h), same-scalar s, same-count n)
+complete op x y t (Wgsl.or-bits n s h)
+    = rw (
+      shape-plain n s,
+      or-left (isInteger (s .kind)) (equalScalars s BOOL) (is-integer (s .kind) h),
+      same-scalar s,
+      same-count n,
+    )
+complete op x y t (Wgsl.and-bits n s h)
+    = rw (
+      shape-plain n s,
+      or-left (isInteger (s .kind)) (equalScalars s BOOL) (is-integer (s .kind) h),
+      same-scalar s,
+      same-count n,
+    )
 complete op x y t (Wgsl.xor-bits n s h) = rw (shape-plain n s, is-integer (s .kind) h, same-scalar s, same-count n)
-complete op x y t (Wgsl.shift-left n s h) = rw (shape-plain n s, shape-plain n U32, is-integer (s .kind) h, same-count n)
-complete op x y t (Wgsl.shift-right n s h) = rw (shape-plain n s, shape-plain n U32, is-integer (s .kind) h, same-count n)
+complete op x y t (Wgsl.shift-left n s h)
+    = rw (shape-plain n s, shape-plain n U32, is-integer (s .kind) h, same-count n)
+complete op x y t (Wgsl.shift-right n s h)
+    = rw (shape-plain n s, shape-plain n U32, is-integer (s .kind) h, same-count n)
 
 -- WHAT THE TESTS GIVE IS A LINE: what each test says
 
@@ -163,7 +186,8 @@ when-is true u e = (refl, cc)
 when-is false u e = none-some e
 
 size-is : (a b : VectorSize) → equalSizes a b ≡ true → a ≡ b
-size-is a b e = sym (vectorSize-back a) ∙ ap vectorSizeOf (eqb-true (vectorSizeNumber a) (vectorSizeNumber b) e) ∙ vectorSize-back b
+size-is a b e = sym (vectorSize-back a) ∙ ap vectorSizeOf (eqb-true (vectorSizeNumber a) (vectorSizeNumber b) e)
+    ∙ vectorSize-back b
 
 scalar-is : (s r : Scalar) → equalScalars s r ≡ true → s ≡ r
 scalar-is s r e =
@@ -172,9 +196,12 @@ scalar-is s r e =
     let v = widthNumber (s .width) in
     let w = widthNumber (r .width) in
     let h = both (eqb a b) (eqb v w) e in
-    let k : s .kind ≡ r .kind = sym (scalarKind-back (s .kind)) ∙ ap scalarKindOf (eqb-true a b (h .0)) ∙ scalarKind-back (r .kind) in
-    let l : s .width ≡ r .width = sym (width-back (s .width)) ∙ ap widthOf (eqb-true v w (h .1)) ∙ width-back (r .width) in
-    ap (λ (x : ScalarKind). record { kind = x; width = s .width }) k ∙ ap (λ (x : Width). record { kind = r .kind; width = x }) l
+    let k : s .kind ≡ r .kind = sym (scalarKind-back (s .kind)) ∙ ap scalarKindOf (eqb-true a b (h .0))
+    ∙ scalarKind-back (r .kind) in
+    let l : s .width ≡ r .width = sym (width-back (s .width)) ∙ ap widthOf (eqb-true v w (h .1))
+    ∙ width-back (r .width) in
+    ap (λ (x : ScalarKind). record { kind = x; width = s .width }) k
+    ∙ ap (λ (x : Width). record { kind = r .kind; width = x }) l
 
 count-is : (n m : OptionVectorSize) → equalCounts n m ≡ true → n ≡ m
 count-is Ov.None Ov.None e = refl
@@ -213,9 +240,11 @@ equatable-is s e =
 
 -- TWO SCALARS OR VECTORS. A relation L of left, right and result has what a test gives, if it has the lines.
 
-module _ (L : TypeInner → TypeInner → TypeInner → Type 0) (n : OptionVectorSize) (s : Scalar) (m : OptionVectorSize) (r : Scalar) {t : TypeInner} where
+module _ (L : TypeInner → TypeInner → TypeInner → Type 0) (n : OptionVectorSize) (s : Scalar) (m : OptionVectorSize)
+    (r : Scalar) {t : TypeInner} where
   -- both alike, and b holds of the left's scalar
-  alike : (b : Bool) (u : TypeInner) → (b ≡ true → L (plain n s) (plain n s) u) → when (b && (equalScalars s r && equalCounts n m)) u ≡ some t
+  alike : (b : Bool) (u : TypeInner) → (b ≡ true → L (plain n s) (plain n s) u)
+      → when (b && (equalScalars s r && equalCounts n m)) u ≡ some t
       → L (plain n s) (plain m r) t
   alike b u line e =
       let h = when-is (b && (equalScalars s r && equalCounts n m)) u e in
@@ -234,20 +263,23 @@ module _ (L : TypeInner → TypeInner → TypeInner → Type 0) (n : OptionVecto
       let q = both (equalScalars s r) (likeOrMixed n m) (p .1) in
       rw (sym (scalar-is s r (q .0)), sym (h .1)) (go n m (q .1) (numeric-is (s .kind) (p .0)))
     where
-      go : (n m : OptionVectorSize) → likeOrMixed n m ≡ true → Numeric (s .kind) → L (plain n s) (plain m s) (plain (mixed n m) s)
+      go : (n m : OptionVectorSize) → likeOrMixed n m ≡ true → Numeric (s .kind)
+          → L (plain n s) (plain m s) (plain (mixed n m) s)
       go Ov.None Ov.None e k = line Ov.None k
       go Ov.None (Ov.Some b) e k = scalar-vector b k
       go (Ov.Some a) Ov.None e k = vector-scalar a k
       go (Ov.Some a) (Ov.Some b) e k = rw (sym (size-is a b e)) (line (Ov.Some a) k)
 
-  shift-is : (Integer (s .kind) → L (plain n s) (plain n U32) (plain n s)) → shiftOf n s m r ≡ some t → L (plain n s) (plain m r) t
+  shift-is : (Integer (s .kind) → L (plain n s) (plain n U32) (plain n s)) → shiftOf n s m r ≡ some t
+      → L (plain n s) (plain m r) t
   shift-is line e =
       let h = when-is (isInteger (s .kind) && (equalScalars r U32 && equalCounts n m)) (plain n s) e in
       let p = both (isInteger (s .kind)) (equalScalars r U32 && equalCounts n m) (h .0) in
       let q = both (equalScalars r U32) (equalCounts n m) (p .1) in
       rw (scalar-is r U32 (q .0), sym (count-is n m (q .1)), sym (h .1)) (line (integer-is (s .kind) (p .0)))
 
-  logicals-is : L (Ti.Scalar BOOL) (Ti.Scalar BOOL) (Ti.Scalar BOOL) → logicalsOf n s m r ≡ some t → L (plain n s) (plain m r) t
+  logicals-is : L (Ti.Scalar BOOL) (Ti.Scalar BOOL) (Ti.Scalar BOOL) → logicalsOf n s m r ≡ some t
+      → L (plain n s) (plain m r) t
   logicals-is line e =
       let a = equalScalars s BOOL in
       let b = equalScalars r BOOL in
@@ -257,21 +289,31 @@ module _ (L : TypeInner → TypeInner → TypeInner → Type 0) (n : OptionVecto
       let p = both (a && b) (c && d) (h .0) in
       let q = both a b (p .0) in
       let v = both c d (p .1) in
-      rw (scalar-is s BOOL (q .0), scalar-is r BOOL (q .1), count-is n Ov.None (v .0), count-is m Ov.None (v .1), sym (h .1)) line
+      rw (
+        scalar-is s BOOL (q .0),
+        scalar-is r BOOL (q .1),
+        count-is n Ov.None (v .0),
+        count-is m Ov.None (v .1),
+        sym (h .1),
+      ) line
 
 -- MATRICES. T is a floating point type, the same on both sides.
 
 module _ (L : TypeInner → TypeInner → TypeInner → Type 0) (c r : VectorSize) (s : Scalar) {u : TypeInner} where
-  sum-is : (s .kind ≡ Sk.Float → L (Ti.Matrix c r s) (Ti.Matrix c r s) (Ti.Matrix c r s)) → (d q : VectorSize) (t : Scalar)
+  sum-is : (s .kind ≡ Sk.Float → L (Ti.Matrix c r s) (Ti.Matrix c r s) (Ti.Matrix c r s))
+      → (d q : VectorSize) (t : Scalar)
       → matricesSumOf c r s d q t ≡ some u → L (Ti.Matrix c r s) (Ti.Matrix d q t) u
   sum-is line d q t e =
-      let h = when-is (isFloat (s .kind) && (equalScalars s t && (equalSizes c d && equalSizes r q))) (Ti.Matrix c r s) e in
+      let h = when-is (isFloat (s .kind) && (equalScalars s t && (equalSizes c d && equalSizes r q)))
+      (Ti.Matrix c r s) e in
       let p = both (isFloat (s .kind)) (equalScalars s t && (equalSizes c d && equalSizes r q)) (h .0) in
       let v = both (equalScalars s t) (equalSizes c d && equalSizes r q) (p .1) in
       let w = both (equalSizes c d) (equalSizes r q) (v .1) in
-      rw (sym (scalar-is s t (v .0)), sym (size-is c d (w .0)), sym (size-is r q (w .1)), sym (h .1)) (line (float-is (s .kind) (p .0)))
+      rw (sym (scalar-is s t (v .0)), sym (size-is c d (w .0)), sym (size-is r q (w .1)), sym (h .1))
+      (line (float-is (s .kind) (p .0)))
 
-  times-matrix-is : ((d : VectorSize) → s .kind ≡ Sk.Float → L (Ti.Matrix c r s) (Ti.Matrix d c s) (Ti.Matrix d r s)) → (d q : VectorSize) (t : Scalar)
+  times-matrix-is : ((d : VectorSize) → s .kind ≡ Sk.Float → L (Ti.Matrix c r s) (Ti.Matrix d c s) (Ti.Matrix d r s))
+      → (d q : VectorSize) (t : Scalar)
       → matricesTimesOf c r s d q t ≡ some u → L (Ti.Matrix c r s) (Ti.Matrix d q t) u
   times-matrix-is line d q t e =
       let h = when-is (isFloat (s .kind) && (equalScalars s t && equalSizes c q)) (Ti.Matrix d r s) e in
@@ -332,12 +374,16 @@ shaped (Ti.BindingArray b z) = other′ _
 
 -- a relation L has what an operator gives, if it has what it gives of each two shapes
 module _ (op : BinaryOperator) {t : TypeInner}
-    (two-plain : (n : OptionVectorSize) (s : Scalar) (m : OptionVectorSize) (r : Scalar) → plainResult op n s m r ≡ some t → Wgsl op (plain n s) (plain m r) t)
-    (plain-matrix : (n : OptionVectorSize) (s : Scalar) (c r : VectorSize) (k : Scalar) → ifMultiply op (timesMatrixOf n s c r k) ≡ some t
+    (two-plain : (n : OptionVectorSize) (s : Scalar) (m : OptionVectorSize) (r : Scalar) → plainResult op n s m r
+    ≡ some t → Wgsl op (plain n s) (plain m r) t)
+    (plain-matrix : (n : OptionVectorSize) (s : Scalar) (c r : VectorSize) (k : Scalar)
+    → ifMultiply op (timesMatrixOf n s c r k) ≡ some t
     → Wgsl op (plain n s) (Ti.Matrix c r k) t)
-    (matrix-plain : (c r : VectorSize) (k : Scalar) (n : OptionVectorSize) (s : Scalar) → ifMultiply op (matrixTimesOf c r k n s) ≡ some t
+    (matrix-plain : (c r : VectorSize) (k : Scalar) (n : OptionVectorSize) (s : Scalar)
+    → ifMultiply op (matrixTimesOf c r k n s) ≡ some t
     → Wgsl op (Ti.Matrix c r k) (plain n s) t)
-    (two-matrices : (c r : VectorSize) (k : Scalar) (d q : VectorSize) (j : Scalar) → matricesResult op c r k d q j ≡ some t
+    (two-matrices : (c r : VectorSize) (k : Scalar) (d q : VectorSize) (j : Scalar) → matricesResult op c r k d q j
+    ≡ some t
     → Wgsl op (Ti.Matrix c r k) (Ti.Matrix d q j) t) where
   of-shapes : {x y : TypeInner} {a b : Shape} → Shaped x a → Shaped y b → shapesResult op a b ≡ some t → Wgsl op x y t
   of-shapes (plain′ n s) (plain′ m r) e = two-plain n s m r e
@@ -356,35 +402,46 @@ module _ (op : BinaryOperator) {t : TypeInner} where
   arithmetics : ((n : OptionVectorSize) (s : Scalar) → Numeric (s .kind) → Wgsl op (plain n s) (plain n s) (plain n s))
       → ((n : VectorSize) (s : Scalar) → Numeric (s .kind) → Wgsl op (Ti.Vector n s) (Ti.Scalar s) (Ti.Vector n s))
       → ((n : VectorSize) (s : Scalar) → Numeric (s .kind) → Wgsl op (Ti.Scalar s) (Ti.Vector n s) (Ti.Vector n s))
-      → (n : OptionVectorSize) (s : Scalar) (m : OptionVectorSize) (r : Scalar) → arithmeticOf n s m r ≡ some t → Wgsl op (plain n s) (plain m r) t
+      → (n : OptionVectorSize) (s : Scalar) (m : OptionVectorSize) (r : Scalar) → arithmeticOf n s m r ≡ some t
+      → Wgsl op (plain n s) (plain m r) t
   arithmetics line vector-scalar scalar-vector n s m r =
       arithmetic-is (Wgsl op) n s m r (λ k. line k s) (λ k. vector-scalar k s) (λ k. scalar-vector k s)
 
   equalities : ((n : OptionVectorSize) (s : Scalar) → Equatable s → Wgsl op (plain n s) (plain n s) (plain n BOOL))
-      → (n : OptionVectorSize) (s : Scalar) (m : OptionVectorSize) (r : Scalar) → equalityOf n s m r ≡ some t → Wgsl op (plain n s) (plain m r) t
+      → (n : OptionVectorSize) (s : Scalar) (m : OptionVectorSize) (r : Scalar) → equalityOf n s m r ≡ some t
+      → Wgsl op (plain n s) (plain m r) t
   equalities line n s m r =
-      alike (Wgsl op) n s m r (isNumeric (s .kind) || equalScalars s BOOL) (plain n BOOL) (λ h. line n s (equatable-is s h))
+      alike (Wgsl op) n s m r (isNumeric (s .kind) || equalScalars s BOOL) (plain n BOOL)
+      (λ h. line n s (equatable-is s h))
 
   orderings : ((n : OptionVectorSize) (s : Scalar) → Numeric (s .kind) → Wgsl op (plain n s) (plain n s) (plain n BOOL))
-      → (n : OptionVectorSize) (s : Scalar) (m : OptionVectorSize) (r : Scalar) → orderingOf n s m r ≡ some t → Wgsl op (plain n s) (plain m r) t
-  orderings line n s m r = alike (Wgsl op) n s m r (isNumeric (s .kind)) (plain n BOOL) (λ h. line n s (numeric-is (s .kind) h))
+      → (n : OptionVectorSize) (s : Scalar) (m : OptionVectorSize) (r : Scalar) → orderingOf n s m r ≡ some t
+      → Wgsl op (plain n s) (plain m r) t
+  orderings line n s m r = alike (Wgsl op) n s m r (isNumeric (s .kind)) (plain n BOOL)
+      (λ h. line n s (numeric-is (s .kind) h))
 
   and-ors : ((n : OptionVectorSize) (s : Scalar) → Integer (s .kind) → Wgsl op (plain n s) (plain n s) (plain n s))
       → ((n : OptionVectorSize) → Wgsl op (plain n BOOL) (plain n BOOL) (plain n BOOL))
-      → (n : OptionVectorSize) (s : Scalar) (m : OptionVectorSize) (r : Scalar) → andOrOf n s m r ≡ some t → Wgsl op (plain n s) (plain m r) t
+      → (n : OptionVectorSize) (s : Scalar) (m : OptionVectorSize) (r : Scalar) → andOrOf n s m r ≡ some t
+      → Wgsl op (plain n s) (plain m r) t
   and-ors bits bools n s m r =
       alike (Wgsl op) n s m r (isInteger (s .kind) || equalScalars s BOOL) (plain n s)
-      (λ h. either (isInteger (s .kind)) (equalScalars s BOOL) h (λ i. bits n s (integer-is (s .kind) i)) (λ b. rw (scalar-is s BOOL b) (bools n)))
+      (λ h. either (isInteger (s .kind)) (equalScalars s BOOL) h (λ i. bits n s (integer-is (s .kind) i))
+      (λ b. rw (scalar-is s BOOL b) (bools n)))
 
 sound : (op : BinaryOperator) (x y t : TypeInner) → wgslResult op x y ≡ some t → Wgsl op x y t
 sound Bo.Add x y t =
     by-shapes Bo.Add (arithmetics Bo.Add Wgsl.add Wgsl.add-vector-scalar Wgsl.add-scalar-vector)
-    (λ n s c r k. none-some) (λ c r k n s. none-some) (λ c r k. sum-is (Wgsl Bo.Add) c r k (Wgsl.add-matrices c r k)) x y
+    (λ n s c r k. none-some) (λ c r k n s. none-some)
+    (λ c r k. sum-is (Wgsl Bo.Add) c r k (Wgsl.add-matrices c r k)) x y
 sound Bo.Subtract x y t =
-    by-shapes Bo.Subtract (arithmetics Bo.Subtract Wgsl.subtract Wgsl.subtract-vector-scalar Wgsl.subtract-scalar-vector)
-    (λ n s c r k. none-some) (λ c r k n s. none-some) (λ c r k. sum-is (Wgsl Bo.Subtract) c r k (Wgsl.subtract-matrices c r k)) x y
+    by-shapes Bo.Subtract
+    (arithmetics Bo.Subtract Wgsl.subtract Wgsl.subtract-vector-scalar Wgsl.subtract-scalar-vector)
+    (λ n s c r k. none-some) (λ c r k n s. none-some)
+    (λ c r k. sum-is (Wgsl Bo.Subtract) c r k (Wgsl.subtract-matrices c r k)) x y
 sound Bo.Multiply x y t =
-    by-shapes Bo.Multiply (arithmetics Bo.Multiply Wgsl.multiply Wgsl.multiply-vector-scalar Wgsl.multiply-scalar-vector)
+    by-shapes Bo.Multiply
+    (arithmetics Bo.Multiply Wgsl.multiply Wgsl.multiply-vector-scalar Wgsl.multiply-scalar-vector)
     (λ n s c r k. plain-times-is (Wgsl Bo.Multiply) c r s (Wgsl.scalar-matrix c r s) (Wgsl.vector-matrix c r s) n k)
     (λ c r k n s. times-plain-is (Wgsl Bo.Multiply) c r k (Wgsl.matrix-scalar c r k) (Wgsl.matrix-vector c r k) n s)
     (λ c r k d q j. times-matrix-is (Wgsl Bo.Multiply) c r k (λ d. Wgsl.matrix-matrix d c r k) d q j) x y
@@ -416,7 +473,9 @@ sound Bo.And x y t =
     by-shapes Bo.And (and-ors Bo.And Wgsl.and-bits Wgsl.and-bools)
     (λ n s c r k. none-some) (λ c r k n s. none-some) (λ c r k d q j. none-some) x y
 sound Bo.ExclusiveOr x y t =
-    by-shapes Bo.ExclusiveOr (λ n s m r. alike (Wgsl Bo.ExclusiveOr) n s m r (isInteger (s .kind)) (plain n s) (λ h. Wgsl.xor-bits n s (integer-is (s .kind) h)))
+    by-shapes Bo.ExclusiveOr
+    (λ n s m r. alike (Wgsl Bo.ExclusiveOr) n s m r (isInteger (s .kind)) (plain n s)
+    (λ h. Wgsl.xor-bits n s (integer-is (s .kind) h)))
     (λ n s c r k. none-some) (λ c r k n s. none-some) (λ c r k d q j. none-some) x y
 sound Bo.InclusiveOr x y t =
     by-shapes Bo.InclusiveOr (and-ors Bo.InclusiveOr Wgsl.or-bits Wgsl.or-bools)

@@ -1,4 +1,4 @@
--- The code's answer is written as the definition has it. By the cases of the answer. Assumes nothing.
+-- The code's answer is written as the definition has it. By the cases of the answer.
 use mathlib.Core.Path.{_≡_, refl}
 use Rattle.ir.specs.declared.TypeResolution.the-variants as Tr
 use Rattle.answers.specs.declared.Answer.{Answer}

@@ -15,13 +15,16 @@ use Rattle.ir.specs.declared.AddressSpace.{AddressSpace}
 use Rattle.ir.specs.declared.TypeInner.{TypeInner}
 use Rattle.ir.specs.declared.TypeInner.the-variants as Ti
 use Rattle.ir.specs.Numbers.{vectorSizeNumber}
-use Rattle.answers.specs.declared.Refusal.the-variants.{OutOfBoundsIndex, InvalidAccess, InvalidSubAccess, InvalidScalar, InvalidVector}
+use Rattle.answers.specs.declared.Refusal.the-variants.{OutOfBoundsIndex, InvalidAccess, InvalidSubAccess}
+use Rattle.answers.specs.declared.Refusal.the-variants.{InvalidScalar, InvalidVector}
 use Rattle.rule.specs.Answers.{TypeAnswer, number, value, Typed, given, refused}
 use Rattle.rule.specs.Rule.{Rule}
-use Rattle.rule_rows.specs.Selectors.{ifScalar, ifVector, ifMatrix, ifValuePointer, ifArray, ifStruct, ifBindingArray}
+use Rattle.rule_rows.specs.Selectors.{ifScalar, ifVector, ifMatrix, ifValuePointer, ifArray, ifStruct}
+use Rattle.rule_rows.specs.Selectors.{ifBindingArray}
 use Rattle.rule_rows.specs.Steps.{byType, byBase}
 
--- ACCESS, a part by an index that is not known here. WGSL: "Vector Access Expression", "Matrix Access Expression", "Array Access Expression".
+-- ACCESS, a part by an index that is not known here. WGSL: "Vector Access Expression", "Matrix Access Expression",
+-- "Array Access Expression".
 
 -- a part of what a value pointer points at: a component of its vector; to a scalar it has none
 abbrev pub accessComponent : RowNumber → Scalar → AddressSpace → OptionVectorSize → Typed
@@ -51,8 +54,9 @@ accessThrough base s t =
 abbrev pub access : RowNumber → RowNumber → Rule Typed
 access here base = byBase here base (λ b s x. accessThrough b s (x .inner)) (λ x. accessInto base (x .inner))
 
--- ACCESSINDEX, a part by its index. WGSL: "Vector Access Expression", "Matrix Access Expression", "Array Access Expression", "Structure Access
--- Expression". The source, and document 01, bound Vector, Matrix, Struct and pointers to these alone.
+-- ACCESSINDEX, a part by its index. WGSL: "Vector Access Expression", "Matrix Access Expression", "Array Access
+-- Expression", "Structure Access Expression". The source, and document 01, bound Vector, Matrix, Struct and pointers to
+-- these alone.
 
 -- the type at an index below the bound; at any other number 10, which names the base's row and the index
 abbrev pub bounded : RowNumber → ℕ → ℕ → TypeAnswer → Typed
@@ -97,7 +101,8 @@ indexThrough base i ty s members t =
 -- reads and looks into what Access does
 abbrev pub accessIndex : RowNumber → RowNumber → ℕ → Rule Typed
 accessIndex here base i =
-    byBase here base (λ b s x. indexThrough base i b s (x .members) (x .inner)) (λ x. indexInto base i (x .members) (x .inner))
+    byBase here base (λ b s x. indexThrough base i b s (x .members) (x .inner))
+    (λ x. indexInto base i (x .members) (x .inner))
 
 -- SPLAT, a vector of one scalar. WGSL: "Value Constructor Built-in Functions".
 

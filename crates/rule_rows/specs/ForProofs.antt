@@ -1,4 +1,5 @@
--- Not part of any public statement: for proofs and code only. What the code goes by where a rule reads a member's type or comes to an image's class.
+-- Not part of any public statement: for proofs and code only. What the code goes by where a rule reads a member's type
+-- or comes to an image's class.
 use Prim.Native.Nat.{ℕ}
 use mathlib.Core.List.{List}
 use Rattle.ir.specs.declared.TypeNumber.{TypeNumber}

@@ -1,4 +1,5 @@
--- ImageSample, ImageLoad and ImageQuery, in the source's order (document 01, "A row's type"; document 02, request 1). Refusal: 16.
+-- ImageSample, ImageLoad and ImageQuery, in the source's order (document 01, "A row's type"; document 02, request 1).
+-- Refusal: 16.
 use mathlib.Core.Bool.{Bool, true, false}
 use Rattle.ir.specs.declared.RowNumber.{RowNumber}
 use Rattle.ir.specs.declared.VectorSize.the-variants as Vs
@@ -37,7 +38,8 @@ gatheredScalar (Ic.Storage f a) = F32
 
 -- four components, whatever the image's class; every other type is number 16
 abbrev pub gatheredOf : RowNumber → TypeInner → Typed
-gatheredOf image t = ifImage t (λ d c. given (value (Ti.Vector Vs.Quad (gatheredScalar c)))) (refused (InvalidImage image))
+gatheredOf image t = ifImage t (λ d c. given (value (Ti.Vector Vs.Quad (gatheredScalar c))))
+    (refused (InvalidImage image))
 
 -- reads the image and looks into its type
 abbrev pub gathered : RowNumber → RowNumber → Rule Typed
@@ -55,7 +57,8 @@ sampledOf Ic.External = Ti.Vector Vs.Quad F32
 -- the class is come to once the type is seen to be an Image; every other type is number 16
 abbrev pub sampledFrom : RowNumber → RowNumber → TypeInner → Rule Typed
 sampledFrom here image t =
-    ifImage t (λ d c. come (row here) (texels c) (λ s. done (given (value (sampledOf s))))) (done (refused (InvalidImage image)))
+    ifImage t (λ d c. come (row here) (texels c) (λ s. done (given (value (sampledOf s)))))
+    (done (refused (InvalidImage image)))
 
 -- reads the image, looks into its type and, of an Image, comes to its class
 abbrev pub sampled : RowNumber → RowNumber → Rule Typed
@@ -70,7 +73,8 @@ imageSample here image false = sampled here image
 abbrev pub imageLoad : RowNumber → RowNumber → Rule Typed
 imageLoad here image = sampled here image
 
--- IMAGEQUERY. WGSL: "Texture Built-in Functions", textureDimensions, textureNumLevels, textureNumLayers and textureNumSamples.
+-- IMAGEQUERY. WGSL: "Texture Built-in Functions", textureDimensions, textureNumLevels, textureNumLayers and
+-- textureNumSamples.
 
 -- an image's size, by its dimension
 abbrev pub sizeOf : ImageDimension → TypeInner

@@ -1,4 +1,5 @@
--- Unary, Binary, Select, Derivative, Relational and As, in the source's order (document 01, "A row's type"). Refusal: 18; in the second pass 41.
+-- Unary, Binary, Select, Derivative, Relational and As, in the source's order (document 01, "A row's type"). Refusal:
+-- 18; in the second pass 41.
 use Prim.Native.Nat.{ℕ}
 use mathlib.Core.Bool.{cond}
 use mathlib.Core.Option.{Option, none, some}
@@ -37,8 +38,8 @@ unary n = sameAs n
 abbrev pub arithmetic : RowNumber → Rule Typed
 arithmetic left = sameAs left
 
--- Multiply. WGSL: "Arithmetic Expressions"; of cooperative matrices the source decides. By the left operand's form x and the right's y; where the type
--- of one operand is the answer, it is given as the operand has it, a or b.
+-- Multiply. WGSL: "Arithmetic Expressions"; of cooperative matrices the source decides. By the left operand's form x
+-- and the right's y; where the type of one operand is the answer, it is given as the operand has it, a or b.
 
 -- times a scalar: the left operand's type, whatever it is; what no product allows is number 18
 abbrev pub timesScalar : TypeAnswer → TypeInner → Typed
@@ -60,7 +61,8 @@ vectorTimes a y =
 
 -- a cooperative matrix of r rows of k in the role o: times a cooperative matrix that one's columns
 abbrev pub cooperativeTimes : TypeAnswer → CooperativeSize → Scalar → CooperativeRole → TypeInner → Typed
-cooperativeTimes a r k o y = ifCooperativeMatrix y (λ d q j w. given (value (Ti.CooperativeMatrix d r k o))) (timesScalar a y)
+cooperativeTimes a r k o y = ifCooperativeMatrix y (λ d q j w. given (value (Ti.CooperativeMatrix d r k o)))
+    (timesScalar a y)
 
 -- by the left operand; a scalar times anything is the right operand's type
 abbrev pub product : TypeAnswer → TypeAnswer → TypeInner → TypeInner → Typed
@@ -82,19 +84,23 @@ boolsOf t =
     (ifVector t (λ z k. given (value (Ti.Vector z BOOL)))
     (refused IncompatibleOperands))
 
--- Equal, NotEqual, Less, LessEqual, Greater, GreaterEqual: a bool for each component of the left operand. WGSL: "Comparison Expressions".
+-- Equal, NotEqual, Less, LessEqual, Greater, GreaterEqual: a bool for each component of the left operand. WGSL:
+-- "Comparison Expressions".
 abbrev pub comparison : RowNumber → RowNumber → Rule Typed
 comparison here left = byType here left boolsOf
 
 -- exactly the scalar type BOOL; every other type is number 18
 abbrev pub logicalOf : TypeInner → Typed
-logicalOf t = ifScalar t (λ k. cond (equalScalars k BOOL) (given (value (Ti.Scalar BOOL))) (refused IncompatibleOperands)) (refused IncompatibleOperands)
+logicalOf t = ifScalar t
+    (λ k. cond (equalScalars k BOOL) (given (value (Ti.Scalar BOOL))) (refused IncompatibleOperands))
+    (refused IncompatibleOperands)
 
 -- LogicalAnd and LogicalOr. WGSL: "Logical Expressions".
 abbrev pub logical : RowNumber → RowNumber → Rule Typed
 logical here left = byType here left logicalOf
 
--- And, ExclusiveOr, InclusiveOr, ShiftLeft and ShiftRight: the left operand's type. WGSL: "Bit Expressions", "Logical Expressions".
+-- And, ExclusiveOr, InclusiveOr, ShiftLeft and ShiftRight: the left operand's type. WGSL: "Bit Expressions", "Logical
+-- Expressions".
 abbrev pub bits : RowNumber → Rule Typed
 bits left = sameAs left
 
@@ -147,15 +153,16 @@ select accept = sameAs accept
 abbrev pub derivative : RowNumber → Rule Typed
 derivative n = sameAs n
 
--- RELATIONAL. All and Any read nothing; WGSL: "Logical Built-in Functions". IsNan and IsInf give a bool for each component; the source decides.
+-- RELATIONAL. All and Any read nothing; WGSL: "Logical Built-in Functions". IsNan and IsInf give a bool for each
+-- component; the source decides.
 abbrev pub relational : RowNumber → RelationalFunction → RowNumber → Rule Typed
 relational here Rf.All argument = done (given (value (Ti.Scalar BOOL)))
 relational here Rf.Any argument = done (given (value (Ti.Scalar BOOL)))
 relational here Rf.IsNan argument = byType here argument boolsOf
 relational here Rf.IsInf argument = byType here argument boolsOf
 
--- AS, a conversion, or without a width a new reading of the same bits. WGSL: "Value Constructor Built-in Functions", "Bit Reinterpretation Built-in
--- Functions".
+-- AS, a conversion, or without a width a new reading of the same bits. WGSL: "Value Constructor Built-in Functions",
+-- "Bit Reinterpretation Built-in Functions".
 
 -- the width converted to; without one the width that was there
 abbrev pub widthOr : OptionBytes → Width → Width

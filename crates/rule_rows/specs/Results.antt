@@ -1,4 +1,5 @@
--- Results of statements and calls, array lengths, ray queries, subgroups and cooperative matrices, in the source's order (document 01, "A row's type").
+-- Results of statements and calls, array lengths, ray queries, subgroups and cooperative matrices, in the source's
+-- order (document 01, "A row's type").
 -- All but the last two read nothing. Refusals: 15, 17 and 20.
 use mathlib.Core.Option.{Option, none, some}
 use Rattle.ir.specs.declared.TypeNumber.{TypeNumber}
@@ -30,7 +31,8 @@ atomicResult t = done (given (number t))
 abbrev pub subgroupOperationResult : TypeNumber → Rule Typed
 subgroupOperationResult t = done (given (number t))
 
--- WORKGROUPUNIFORMLOADRESULT: the type that the row names. WGSL: "Synchronization Built-in Functions", workgroupUniformLoad.
+-- WORKGROUPUNIFORMLOADRESULT: the type that the row names. WGSL: "Synchronization Built-in Functions",
+-- workgroupUniformLoad.
 abbrev pub workGroupUniformLoadResult : TypeNumber → Rule Typed
 workGroupUniformLoadResult t = done (given (number t))
 
@@ -77,7 +79,8 @@ abbrev pub cooperativeOf : CooperativeSize → CooperativeSize → CooperativeRo
 cooperativeOf columns rows role pointer (Os.Some k) = given (value (Ti.CooperativeMatrix columns rows k role))
 cooperativeOf columns rows role pointer Os.None = refused (InvalidPointer pointer)
 
--- the scalar of what a value pointer points at; what is no pointer has none. No reading comes to a number: of a Pointer the base is looked into.
+-- the scalar of what a value pointer points at; what is no pointer has none. No reading comes to a number: of a Pointer
+-- the base is looked into.
 abbrev pub valueScalar : TypeResolution → OptionScalar
 valueScalar (Tr.Value t) = scalarIn t
 valueScalar (Tr.Handle n) = Os.None

@@ -1,5 +1,6 @@
--- One case of a type, and the rest: what a rule asks of the inner form that it looks into, where it treats some cases and refuses or passes on
--- every other. `ifPointer` stands in rule_types/specs/Canonical.antt. Document 01, "A row's type".
+-- One case of a type, and the rest: what a rule asks of the inner form that it looks into, where it treats some cases
+-- and refuses or passes on every other. `ifPointer` stands in rule_types/specs/Canonical.antt. Document 01, "A row's
+-- type".
 use Rattle.ir.specs.declared.TypeNumber.{TypeNumber}
 use Rattle.ir.specs.declared.VectorSize.{VectorSize}
 use Rattle.ir.specs.declared.OptionVectorSize.{OptionVectorSize}
@@ -64,7 +65,8 @@ ifMatrix (Ti.RayQuery q) f rest = rest
 ifMatrix (Ti.BindingArray b z) f rest = rest
 
 -- of a cooperative matrix, with its columns, rows, scalar and role
-abbrev pub ifCooperativeMatrix : {X : Type 0} → TypeInner → (CooperativeSize → CooperativeSize → Scalar → CooperativeRole → X) → X → X
+abbrev pub ifCooperativeMatrix : {X : Type 0} → TypeInner
+    → (CooperativeSize → CooperativeSize → Scalar → CooperativeRole → X) → X → X
 ifCooperativeMatrix (Ti.Scalar k) f rest = rest
 ifCooperativeMatrix (Ti.Vector z k) f rest = rest
 ifCooperativeMatrix (Ti.Matrix c r k) f rest = rest

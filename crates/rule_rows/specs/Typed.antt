@@ -1,5 +1,5 @@
--- The rule of every row: the source's ResolveContext::resolve (document 01, "A row's type"). A row's own kind is come to first; an unknown kind and a Math
--- row show nothing, and are newer.
+-- The rule of every row: the source's ResolveContext::resolve (document 01, "A row's type"). A row's own kind is come
+-- to first; an unknown kind and a Math row show nothing, and are newer.
 use Prim.Native.Nat.{ℕ}
 use Rattle.ir.specs.declared.RowNumber.{RowNumber}
 use Rattle.rule.specs.Answers.{Typed, row}
@@ -8,11 +8,14 @@ use Rattle.rule.specs.Things as Row
 use Rattle.rule.specs.Rule.{Rule, come}
 use Rattle.rule_rows.specs.declared.Pass.{Pass}
 use Rattle.rule_rows.specs.Access.{access, accessIndex, splat, swizzle}
-use Rattle.rule_rows.specs.Variables.{literal, constant, override, zeroValue, compose, functionArgument, globalVariable, localVariable, load}
+use Rattle.rule_rows.specs.Variables.{literal, constant, override, zeroValue, compose, functionArgument}
+use Rattle.rule_rows.specs.Variables.{globalVariable, localVariable, load}
 use Rattle.rule_rows.specs.Images.{imageSample, imageLoad, imageQuery}
 use Rattle.rule_rows.specs.Operators.{unary, binaryBy, select, derivative, relational, cast}
-use Rattle.rule_rows.specs.Results.{atomicResult, subgroupOperationResult, workGroupUniformLoadResult, callResult, arrayLength, rayQueryProceedResult}
-use Rattle.rule_rows.specs.Results.{rayQueryGetIntersection, rayQueryVertexPositions, subgroupBallotResult, cooperativeLoad, cooperativeMultiplyAdd}
+use Rattle.rule_rows.specs.Results.{atomicResult, subgroupOperationResult, workGroupUniformLoadResult, callResult}
+use Rattle.rule_rows.specs.Results.{arrayLength, rayQueryProceedResult}
+use Rattle.rule_rows.specs.Results.{rayQueryGetIntersection, rayQueryVertexPositions, subgroupBallotResult}
+use Rattle.rule_rows.specs.Results.{cooperativeLoad, cooperativeMultiplyAdd}
 
 -- by what the row `here` shows, in the order of the source's arms; the pass matters to Binary rows alone
 abbrev pub resolve : Pass → RowNumber → Shown → Rule Typed

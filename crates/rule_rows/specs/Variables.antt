@@ -1,4 +1,5 @@
--- Literals, constants, composes, arguments and variables, and Load, in the source's order (document 01, "A row's type"). All but Load read nothing.
+-- Literals, constants, composes, arguments and variables, and Load, in the source's order (document 01, "A row's
+-- type"). All but Load read nothing.
 -- Refusals: 15 and 19.
 use Prim.Native.Nat.{ℕ}
 use mathlib.Core.List.{List}
@@ -54,7 +55,8 @@ override t = done (given (number t))
 abbrev pub zeroValue : TypeNumber → Rule Typed
 zeroValue t = done (given (number t))
 
--- COMPOSE: the type that the row names; components are the verdict's to read. WGSL: "Value Constructor Built-in Functions".
+-- COMPOSE: the type that the row names; components are the verdict's to read. WGSL: "Value Constructor Built-in
+-- Functions".
 abbrev pub compose : TypeNumber → List RowNumber → Rule Typed
 compose t parts = done (given (number t))
 

@@ -76,7 +76,8 @@ abbrev pub when : Bool → TypeInner → Option TypeInner
 when true t = some t
 when false t = none
 
--- BY THE SIZES AND SCALARS of two scalars or vectors, n and s of the left, m and r of the right: whether they are taken, and what is given then
+-- BY THE SIZES AND SCALARS of two scalars or vectors, n and s of the left, m and r of the right: whether they are
+-- taken, and what is given then
 
 -- Add, Subtract, Multiply, Divide, Modulo
 abbrev pub arithmeticTest : OptionVectorSize → Scalar → OptionVectorSize → Scalar → Bool

@@ -1,4 +1,4 @@
--- Measures taken in order: an earlier type's is its own. A table of them keeps what is put there. Assumes nothing.
+-- Measures taken in order: an earlier type's is its own. A table of them keeps what is put there.
 use Prim.Native.Nat.{ℕ, zero, suc, _+_, _*_, _≤_, _<_}
 use native.Mathlib.Decide.{decLt}
 use native.Mathlib.Omega.{arith}
@@ -19,8 +19,8 @@ use Rattle.rule_sizes.specs.declared.Alignment.the-variants.{Two, Four, 
 use Rattle.rule_sizes.specs.declared.SizeFault.the-variants.{Unmeasured, Misplaced, Huge}
 use Rattle.rule_sizes.specs.declared.Measure.{Measure}
 use Rattle.rule_sizes.specs.declared.Measure.the-variants.{Fills, Faulty}
-use Rattle.rule_sizes.specs.Sizes.{next, look, measures, measureIn}
-use Rattle.rule_sizes.specs.ForProofs.{measureFrame, measureOf, Held, Known}
+use Rattle.rule_sizes.specs.Sizes.{next, look, measures, measureIn, measureFrame}
+use Rattle.rule_sizes.specs.ForProofs.{measureOf, Held, Known}
 
 -- an earlier type's measure is its own
 pub look-earlier : (fr : List ℕ) (s : Starts) (n b : TypeNumber) → b .0 < n .0
@@ -61,8 +61,10 @@ known-put f t n m k e j = go (decNat j (n .0)) (decLt (n .0) (frameCount t))
     go : Dec (j ≡ n .0) → Dec (n .0 < frameCount t) → Held f j (frameAt (putFrame t (n .0) (measureFrame m)) j)
     go (yes q) (yes l) h = rw (q, put-same t (n .0) (measureFrame m) l) (measure-back m ∙ e)
     go (yes q) (no l) h =
-        rw (put-none t (n .0) (measureFrame m) (omega arith)) (k j (rw (put-none t (n .0) (measureFrame m) (omega arith)) at h))
-    go (no q) l h = rw (put-other t (n .0) (measureFrame m) j q) (k j (rw (put-other t (n .0) (measureFrame m) j q) at h))
+        rw (put-none t (n .0) (measureFrame m) (omega arith))
+        (k j (rw (put-none t (n .0) (measureFrame m) (omega arith)) at h))
+    go (no q) l h = rw (put-other t (n .0) (measureFrame m) j q)
+        (k j (rw (put-other t (n .0) (measureFrame m) j q) at h))
 
 zeros : (n i : ℕ) → _≡_ {A = ℕ} (getD (replicate n 0) i 0) 0
 zeros zero i = refl
@@ -77,7 +79,7 @@ zero-at n j = go (decLt j (frameCount (replicate n 0)))
     go (yes l) = rw (lt-ltb j (frameCount (replicate n 0)) l) (zeros n (16 * j + 0))
     go (no l) = rw (le-ltb j (frameCount (replicate n 0)) (omega arith))
 
-never : {A : Type 0} → false ≡ true → A
+never : {A : Type 0} → true ≡ false → A
 never z = let q : _≡_ {A = ℕ} 0 1 = cc in absurd (omega arith)
 
 -- a table of zeros

@@ -1,5 +1,4 @@
 -- The rules give WGSL's printed table: both sides compute to the same. And forms outside the list have no size.
--- Assumes nothing.
 use Prim.Native.Nat.{ℕ}
 use mathlib.Core.Path.{_≡_, refl}
 use mathlib.Core.List.{List, [], _∷_, map}
@@ -12,7 +11,7 @@ use Rattle.ir.specs.Scalars.{I16, U16, I32, I64, U64, F64, BOOL, ABSTRACT-INT, 
 use Rattle.rule_sizes.specs.declared.Measure.{Measure}
 use Rattle.rule_sizes.specs.declared.Measure.the-variants.{Fills, Faulty}
 use Rattle.rule_sizes.specs.Wgsl.{bytes}
-use Rattle.rule_sizes.specs.WgslTable.{Line, table}
+use Rattle.rule_sizes.specs.WgslTable.{SizeLine, sizeLines}
 use Rattle.rule_sizes.specs.Sizes.{leafOf}
 
 -- alignment and size; nothing where there is no size
@@ -23,15 +22,19 @@ numbers (Faulty k p) = []
 abbrev filled : TypeInner → List ℕ
 filled t = numbers (leafOf (record { 0 = 0 }) t)
 
-pub in-the-table : map (λ (l : Line). filled (l .form)) table ≡ map (λ (l : Line). l .align ∷ l .size ∷ []) table
+pub in-the-table : map (λ (l : SizeLine). filled (l .form)) sizeLines
+    ≡ map (λ (l : SizeLine). l .align ∷ l .size ∷ []) sizeLines
 in-the-table = refl
 
 -- bool, though WGSL gives it 4 and 4; integers and floats of other widths; abstract kinds; integer matrices; atomics
 -- of other scalars
 outside-the-list :
-    filled (Ti.Scalar BOOL) ∷ filled (Ti.Scalar I16) ∷ filled (Ti.Scalar U16) ∷ filled (Ti.Scalar F64) ∷ filled (Ti.Scalar I64)
-    ∷ filled (Ti.Scalar ABSTRACT-INT) ∷ filled (Ti.Scalar ABSTRACT-FLOAT) ∷ filled (Ti.Scalar (record { kind = Sk.AbstractFloat; width = Wd.Four }))
-    ∷ filled (Ti.Vector Tri BOOL) ∷ filled (Ti.Vector Bi U16) ∷ filled (Ti.Matrix Bi Bi I32) ∷ filled (Ti.Matrix Quad Tri F64)
+    filled (Ti.Scalar BOOL) ∷ filled (Ti.Scalar I16) ∷ filled (Ti.Scalar U16) ∷ filled (Ti.Scalar F64) ∷ filled
+    (Ti.Scalar I64)
+    ∷ filled (Ti.Scalar ABSTRACT-INT) ∷ filled (Ti.Scalar ABSTRACT-FLOAT) ∷ filled
+    (Ti.Scalar (record { kind = Sk.AbstractFloat; width = Wd.Four }))
+    ∷ filled (Ti.Vector Tri BOOL) ∷ filled (Ti.Vector Bi U16) ∷ filled (Ti.Matrix Bi Bi I32) ∷ filled
+    (Ti.Matrix Quad Tri F64)
     ∷ filled (Ti.Atomic U64) ∷ filled (Ti.Atomic (record { kind = Sk.Float; width = Wd.Four })) ∷ []
     ≡ [] ∷ [] ∷ [] ∷ [] ∷ [] ∷ [] ∷ [] ∷ [] ∷ [] ∷ [] ∷ [] ∷ [] ∷ [] ∷ [] ∷ []
 outside-the-list = refl

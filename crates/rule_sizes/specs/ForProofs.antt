@@ -1,8 +1,8 @@
--- Not part of any public statement: for proofs and code only. A table of measures, a frame each: family 12, alignment
--- and size, or a number and its place; and all of them in a buffer.
+-- Not part of any public statement: for proofs and code only. A table of measures, a frame each, as they are handed
+-- back; and all of them in a buffer.
 use Prim.Native.Nat.{ℕ, _*_}
 use mathlib.Core.Path.{_≡_}
-use mathlib.Core.Bool.{true, cond, _&&_}
+use mathlib.Core.Bool.{false, cond, _&&_}
 use mathlib.Core.List.{List, _++_}
 use lib.Dec.{eqb, leb}
 use lib.ListN.{length, drop}
@@ -16,27 +16,26 @@ use Rattle.rule_sizes.specs.declared.SizeFault.{SizeFault}
 use Rattle.rule_sizes.specs.declared.SizeFault.the-variants.{Unmeasured, Misplaced, Huge}
 use Rattle.rule_sizes.specs.declared.Measure.{Measure}
 use Rattle.rule_sizes.specs.declared.Measure.the-variants.{Fills, Faulty}
-use Rattle.rule_sizes.specs.Wgsl.{bytes, alignmentOf}
-use Rattle.rule_sizes.specs.Sizes.{faultNumber, measured, framesOf}
+use Rattle.rule_sizes.specs.Wgsl.{alignmentOf}
+use Rattle.rule_sizes.specs.Sizes.{faultNumber, framesOf}
 
 -- the number of a measure: 0 where there is a size
 abbrev pub measureNumber : Measure → ℕ
 measureNumber (Fills a z) = 0
 measureNumber (Faulty k p) = faultNumber k
 
-abbrev pub faultOf : ℕ → SizeFault
-faultOf b = cond (eqb b 42) Unmeasured (cond (eqb b 43) Misplaced Huge)
+-- the fault of a number
+abbrev pub sizeFaultOf : ℕ → SizeFault
+sizeFaultOf b = cond (eqb b 42) Unmeasured (cond (eqb b 43) Misplaced Huge)
 
-abbrev pub measureFrame : Measure → Frame
-measureFrame (Fills a z) = measured 12 0 0 (bytes a) z
-measureFrame (Faulty k p) = measured 12 (faultNumber k) (p .0) 0 0
-
+-- the measure of a frame: family 12, else a number
 unfoldable pub measureOf : Frame → Measure
-measureOf f = cond (eqb (f .b1) 0) (Fills (alignmentOf (f .b4)) (word f 8)) (Faulty (faultOf (f .b1)) (record { 0 = half f 2 }))
+measureOf f = cond (eqb (f .b0) 12) (Fills (alignmentOf (f .b4)) (word f 8))
+    (Faulty (sizeFaultOf (f .b1)) (record { 0 = half f 2 }))
 
--- what a frame of a table holds of type n: what it fills by `measure`, or nothing yet
+-- what a frame of a table holds of type n: what it fills by `measure`, or zeros, nothing yet
 abbrev pub Held : (TypeNumber → Measure) → ℕ → Frame → Type 0
-Held measure n f = eqb (f .b0) 12 ≡ true → measureOf f ≡ measure (record { 0 = n })
+Held measure n f = eqb (f .b0) 0 ≡ false → measureOf f ≡ measure (record { 0 = n })
 
 -- a table of measures
 abbrev pub Known : (TypeNumber → Measure) → List ℕ → Type 0

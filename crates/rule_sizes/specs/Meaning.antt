@@ -49,8 +49,8 @@ pub data Listed : TypeForm → Type 0 where
 -- WHAT STANDS WHERE
 
 -- member i of a struct whose members begin at `first`
-abbrev pub member : List ℕ → MemberNumber → ℕ → StructMember
-member fr first i = memberIn fr (startsOf fr) first i
+abbrev pub structMember : List ℕ → MemberNumber → ℕ → StructMember
+structMember fr first i = memberIn fr (startsOf fr) first i
 
 -- a is the greatest of so many alignments
 pub record Greatest (aligns : ℕ → Alignment) (count : ℕ) (a : Alignment) : Type 0 where
@@ -67,10 +67,12 @@ pub record Strided (align : Alignment) (size stride : ℕ) : Type 0 where
 -- a struct's members, by their alignments and sizes: each offset is a multiple of the member's own alignment; each
 -- member begins at or past the end of the one before it; the span holds the last member and is a multiple of the
 -- struct's alignment
-pub record Placed (fr : List ℕ) (first : MemberNumber) (count : ℕ) (aligns : ℕ → Alignment) (sizes : ℕ → ℕ) (align : Alignment) (span : ℕ) : Type 0 where
-  pub multiples : (i : ℕ) → i < count → isMultiple (aligns i) (member fr first i .offset) ≡ true
-  pub apart : (i : ℕ) → suc i < count → member fr first i .offset + sizes i ≤ member fr first (suc i) .offset
-  pub holds : (i : ℕ) → suc i ≡ count → member fr first i .offset + sizes i ≤ span
+pub record Placed (fr : List ℕ) (first : MemberNumber) (count : ℕ) (aligns : ℕ → Alignment) (sizes : ℕ → ℕ)
+    (align : Alignment) (span : ℕ) : Type 0 where
+  pub multiples : (i : ℕ) → i < count → isMultiple (aligns i) (structMember fr first i .offset) ≡ true
+  pub apart : (i : ℕ) → suc i < count
+      → structMember fr first i .offset + sizes i ≤ structMember fr first (suc i) .offset
+  pub holds : (i : ℕ) → suc i ≡ count → structMember fr first i .offset + sizes i ≤ span
   pub whole : isMultiple align span ≡ true
 
 -- A TYPE HAS this alignment and this size: a constructor for each form of the list
@@ -88,9 +90,10 @@ pub data Has (fr : List ℕ) : TypeNumber → Alignment → ℕ → Type 0 where
   array : (n b : TypeNumber) (count stride : ℕ) (a : Alignment) (z : ℕ)
       → typeAt fr n ≡ Tf.Known (Ti.Array b (As.Constant count) stride)
       → Has fr b a z → Strided a z stride → count * stride < 4294967296 → Has fr n a (count * stride)
-  struct : (n : TypeNumber) (first : MemberNumber) (count span : ℕ) (aligns : ℕ → Alignment) (sizes : ℕ → ℕ) (a : Alignment)
+  struct : (n : TypeNumber) (first : MemberNumber) (count span : ℕ) (aligns : ℕ → Alignment) (sizes : ℕ → ℕ)
+      (a : Alignment)
       → typeAt fr n ≡ Tf.Known (Ti.Struct first count span)
-      → ((i : ℕ) → i < count → Has fr (member fr first i .ty) (aligns i) (sizes i)) → Greatest aligns count a
+      → ((i : ℕ) → i < count → Has fr (structMember fr first i .ty) (aligns i) (sizes i)) → Greatest aligns count a
       → Placed fr first count aligns sizes a span → Has fr n a span
 
 -- WHAT A SIZE RESTS ON: the type itself, and what the parts of a constant array or of a struct rest on; a type
@@ -101,7 +104,7 @@ pub data RestsOn (fr : List ℕ) : TypeNumber → TypeNumber → Type 0 where
       → RestsOn fr b m → RestsOn fr n m
   part : (n m : TypeNumber) (first : MemberNumber) (count span i : ℕ)
       → typeAt fr n ≡ Tf.Known (Ti.Struct first count span) → i < count
-      → RestsOn fr (member fr first i .ty) m → RestsOn fr n m
+      → RestsOn fr (structMember fr first i .ty) m → RestsOn fr n m
 
 -- A TYPE'S OWN NUMBER: 42 outside the list; 43 where its parts have sizes and a stride, an offset or the span breaks
 -- the rules; 44 where all stands well and count times stride is 2 to the 32 or more. So 42 precedes 43, and 43
@@ -111,9 +114,10 @@ pub data Fault (fr : List ℕ) : TypeNumber → SizeFault → Type 0 where
   stride : (n b : TypeNumber) (count stride : ℕ) (a : Alignment) (z : ℕ)
       → typeAt fr n ≡ Tf.Known (Ti.Array b (As.Constant count) stride)
       → Has fr b a z → (Strided a z stride → ⊥) → Fault fr n Misplaced
-  members : (n : TypeNumber) (first : MemberNumber) (count span : ℕ) (aligns : ℕ → Alignment) (sizes : ℕ → ℕ) (a : Alignment)
+  members : (n : TypeNumber) (first : MemberNumber) (count span : ℕ) (aligns : ℕ → Alignment) (sizes : ℕ → ℕ)
+      (a : Alignment)
       → typeAt fr n ≡ Tf.Known (Ti.Struct first count span)
-      → ((i : ℕ) → i < count → Has fr (member fr first i .ty) (aligns i) (sizes i)) → Greatest aligns count a
+      → ((i : ℕ) → i < count → Has fr (structMember fr first i .ty) (aligns i) (sizes i)) → Greatest aligns count a
       → (Placed fr first count aligns sizes a span → ⊥) → Fault fr n Misplaced
   huge : (n b : TypeNumber) (count stride : ℕ) (a : Alignment) (z : ℕ)
       → typeAt fr n ≡ Tf.Known (Ti.Array b (As.Constant count) stride)

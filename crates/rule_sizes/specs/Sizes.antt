@@ -2,7 +2,7 @@
 -- or 44 and the lowest faulty type that it rests on. What these mean stands apart, in Meaning.antt; crate law_sizes
 -- has the laws that join the two.
 use Prim.Native.Nat.{ℕ, zero, suc, _+_, _*_, _/_, _%_}
-use mathlib.Core.Bool.{true, cond, _&&_}
+use mathlib.Core.Bool.{Bool, true, cond, _&&_}
 use mathlib.Core.List.{List, [], _++_}
 use lib.Dec.{eqb, ltb, leb}
 use lib.ListN.{getD}
@@ -18,11 +18,12 @@ use Rattle.ir.specs.declared.TypeForm.the-variants as Tf
 use Rattle.answers.specs.Numbers.{SaidOne, asked, instead, at, notThere, outcomeValues}
 use Rattle.frames.specs.declared.Frame.{Frame}
 use Rattle.frames.specs.Bytes.{bytesOf}
-use Rattle.frames.specs.Out.{refusedFrame}
+use Rattle.frames.specs.Out.{refusedFrame, sizedFrame}
 use Rattle.archive.specs.declared.Starts.{Starts}
 use Rattle.archive.specs.Names.{isType}
 use Rattle.archive.specs.Access.{typeIn, memberIn}
 use Rattle.rule.specs.InOrder.{inOrder}
+use Rattle.rule_sizes.specs.declared.Alignment.{Alignment}
 use Rattle.rule_sizes.specs.declared.Alignment.the-variants.{Two}
 use Rattle.rule_sizes.specs.declared.OptionAlignment.{OptionAlignment}
 use Rattle.rule_sizes.specs.declared.OptionAlignment.the-variants as Oa
@@ -30,11 +31,10 @@ use Rattle.rule_sizes.specs.declared.SizeFault.{SizeFault}
 use Rattle.rule_sizes.specs.declared.SizeFault.the-variants.{Unmeasured, Misplaced, Huge}
 use Rattle.rule_sizes.specs.declared.Measure.{Measure}
 use Rattle.rule_sizes.specs.declared.Measure.the-variants.{Fills, Faulty}
-use Rattle.rule_sizes.specs.declared.Parts.{Parts}
-use Rattle.rule_sizes.specs.declared.Parts.the-variants.{Laid, Broken}
 use Rattle.rule_sizes.specs.declared.TypeSize.{TypeSize}
 use Rattle.rule_sizes.specs.declared.TypeSize.the-variants as Ts
-use Rattle.rule_sizes.specs.Wgsl.{bytes, isMultiple, greater, integerAlign, floatAlign, numberAlign, vectorAlign, vectorBytes, matrixBytes}
+use Rattle.rule_sizes.specs.Wgsl.{bytes, isMultiple, greater, integerAlign, floatAlign, numberAlign, vectorAlign}
+use Rattle.rule_sizes.specs.Wgsl.{vectorBytes, matrixBytes}
 
 -- A TYPE THAT NAMES NONE, by the alignment of its scalar; number 42 where that is not in the list
 
@@ -75,6 +75,12 @@ arrayOf n (Fills a z) count stride =
     (cond (ltb (count * stride) 4294967296) (Fills a (count * stride)) (Faulty Huge n)) (Faulty Misplaced n)
 
 -- A STRUCT, member by member
+
+-- the members so far: their greatest alignment, where the last one ends, and whether all stand well; or the lowest
+-- faulty type
+pub data Parts : Type 0 where
+  Laid : Alignment → ℕ → Bool → Parts
+  Broken : SizeFault → TypeNumber → Parts
 
 -- the fault of the lower type
 abbrev pub lower : SizeFault → TypeNumber → SizeFault → TypeNumber → Parts
@@ -172,33 +178,15 @@ sizeSaid (Ts.Measured m) = measureSaid m
 sizeSaid Ts.Index = instead notThere
 sizeSaid (Ts.NotAccepted o) = instead (outcomeValues o)
 
--- AS A FRAME: alignment and size are family 12, alignment in b4 and size in b8-11; a number is family 10, as every
--- other
-
-abbrev pub measured : ℕ → ℕ → ℕ → ℕ → ℕ → Frame
-measured family kind place align size =
-    record {
-      b0 = family;
-      b1 = kind;
-      b2 = place % 256;
-      b3 = place / 256;
-      b4 = align;
-      b5 = 0;
-      b6 = 0;
-      b7 = 0;
-      b8 = size % 256;
-      b9 = size / 256 % 256;
-      b10 = size / 256 / 256 % 256;
-      b11 = size / 256 / 256 / 256;
-      b12 = 0;
-      b13 = 0;
-      b14 = 0;
-      b15 = 0;
-    }
+-- AS A FRAME: alignment and size are family 12; a number is family 10, as every other
 
 abbrev pub sizeSaidFrame : SaidOne Size → Frame
-sizeSaidFrame (asked s) = measured 12 0 0 (s .align) (s .size)
+sizeSaidFrame (asked s) = sizedFrame (s .align) (s .size)
 sizeSaidFrame (instead r) = refusedFrame r
+
+-- the frame of a measure
+abbrev pub measureFrame : Measure → Frame
+measureFrame m = sizeSaidFrame (measureSaid m)
 
 -- frames one after the other, the first n
 unfoldable pub framesOf : (ℕ → Frame) → ℕ → List ℕ
@@ -207,7 +195,7 @@ framesOf frame (suc n) = framesOf frame n ++ bytesOf (frame n)
 
 -- what type n fills
 abbrev pub sizeFrame : List ℕ → Starts → ℕ → Frame
-sizeFrame fr s n = sizeSaidFrame (measureSaid (measureIn fr s (record { 0 = n })))
+sizeFrame fr s n = measureFrame (measureIn fr s (record { 0 = n }))
 
 -- EVERY TYPE of a file, a frame each, in order: the first n
 abbrev pub sizeFrames : List ℕ → Starts → ℕ → List ℕ

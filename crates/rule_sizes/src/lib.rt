@@ -1,5 +1,5 @@
 // The bytes that a type fills (document 02, request 5), as rules, in specs/: alignment and size by WGSL's memory
-// layout section. Crates size_steps, size_pending and type_sizes have the code.
+// layout section. Crates size_steps, size_pending, size_needs and type_sizes have the code.
 use answers::Outcome;
 use ir::TypeNumber;
 
@@ -28,20 +28,6 @@ pub enum SizeFault {
 pub enum Measure {
     Fills { align: Alignment, size: u32 },
     Faulty { fault: SizeFault, place: TypeNumber },
-}
-
-// The members of a struct so far: their greatest alignment, where the last one ends, and whether all stand well; or
-// the lowest faulty type.
-pub enum Parts {
-    Laid {
-        align: Alignment,
-        end: u64,
-        placed: bool,
-    },
-    Broken {
-        fault: SizeFault,
-        place: TypeNumber,
-    },
 }
 
 // What is said of a type's size: its measure; number 6; or the file's own number.

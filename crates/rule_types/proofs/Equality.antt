@@ -1,4 +1,4 @@
--- Two types are equal exactly when their frames are, byte by byte: a type is read back from its frame. Assumes nothing.
+-- Two types are equal exactly when their frames are, byte by byte: a type is read back from its frame.
 use Prim.Native.Nat.{ℕ}
 use native.Mathlib.Omega.{arith}
 use mathlib.Core.Path.{_≡_, refl, sym, ap, _∙_}
@@ -52,8 +52,10 @@ frame-same f g e = ap (λ (l : List ℕ). framed (λ i. getD l i 0)) (same-alike
 pub equal-types : (s t : TypeInner) → (equalTypes s t ≡ true) ↔ (s ≡ t)
 unfolding equalTypes
 equal-types s t = (
-  λ e. (let h : Tf.Known s ≡ Tf.Known t = sym (type-back s 9) ∙ ap typeOf (frame-same (typeFrame 9 s) (typeFrame 9 t) e) ∙ type-back t 9 in cc),
-  λ e. ap (λ (u : TypeInner). alikeBytes (bytesOf (typeFrame 9 s)) (bytesOf (typeFrame 9 u))) (sym e) ∙ alike-same (bytesOf (typeFrame 9 s)),
+  λ e. (let h : Tf.Known s ≡ Tf.Known t = sym (type-back s 9) ∙ ap typeOf (frame-same (typeFrame 9 s) (typeFrame 9 t) e)
+      ∙ type-back t 9 in cc),
+  λ e. ap (λ (u : TypeInner). alikeBytes (bytesOf (typeFrame 9 s)) (bytesOf (typeFrame 9 u))) (sym e)
+      ∙ alike-same (bytesOf (typeFrame 9 s)),
 )
 
 pub equal-sym : (s t : TypeInner) → equalTypes s t ≡ equalTypes t s
@@ -65,7 +67,8 @@ pub identical-frames : (a b : TypeAnswer) → (identical a b ≡ true) ↔ (type
 unfolding identical
 identical-frames a b = (
   λ e. frame-same (typeAnswerFrame a) (typeAnswerFrame b) e,
-  λ e. ap (λ (f : Frame). alikeBytes (bytesOf (typeAnswerFrame a)) (bytesOf f)) (sym e) ∙ alike-same (bytesOf (typeAnswerFrame a)),
+  λ e. ap (λ (f : Frame). alikeBytes (bytesOf (typeAnswerFrame a)) (bytesOf f)) (sym e)
+      ∙ alike-same (bytesOf (typeAnswerFrame a)),
 )
 
 pub identical-self : (a : TypeAnswer) → identical a a ≡ true

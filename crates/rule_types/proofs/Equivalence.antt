@@ -1,7 +1,7 @@
 -- Sameness is an equivalence among the answers that a comparison meets with neither 5 nor 6 (document 02, request 13).
 -- Each equals itself and either order agrees (Laws.antt); and of two that are the same each compares with any third
 -- alike, so it carries through a third. For an answer is told by its frame, and two that are the same without being
--- identical have one canonical form, and neither is a struct's number. Assumes nothing.
+-- identical have one canonical form, and neither is a struct's number.
 use Prim.Native.Nat.{ℕ}
 use native.Mathlib.Omega.{arith}
 use mathlib.Core.Path.{_≡_, refl, sym, ap, _∙_}
@@ -22,7 +22,8 @@ use Rattle.rule_types.specs.Canonical.{identical}
 use Rattle.rule_types.specs.Comparison.{Sound, handed, given}
 use Rattle.rule_types.specs.ForProofs.{likeness, Equal}
 use Rattle.rule_types.proofs.Equality.{identical-frames}
-use Rattle.rule_types.proofs.Laws.{told-of, compared-is, same-self, either-order, alike-when, right-five, right-six}
+use Rattle.rule_types.proofs.Laws.{told-of, compared-is, same-self, either-order, alike-when, right-five}
+use Rattle.rule_types.proofs.Laws.{right-six}
 use Rattle.rule_types.proofs.Seen.{never, neither}
 
 module _ (fr : List ℕ) (s : Starts) where

@@ -1,5 +1,5 @@
--- What the code of a comparison goes by: a frame that is no type is a 5, the right answer is tested before any look, and yes, no and newer are the
--- likeness of the two. Assumes nothing.
+-- What the code of a comparison goes by: a frame that is no type is a 5, the right answer is tested before any look,
+-- and yes, no and newer are the likeness of the two.
 use Prim.Native.Nat.{ℕ}
 use mathlib.Core.Path.{_≡_, refl, sym, ap, _∙_}
 use mathlib.Core.Bool.{Bool, true, false}
@@ -12,7 +12,8 @@ use Rattle.frames.specs.Bytes.{bytesOf}
 use Rattle.frames.specs.Out.{resolutionFrame}
 use Rattle.archive.specs.declared.Starts.{Starts}
 use Rattle.rule.specs.declared.Fault.the-variants as Fa
-use Rattle.rule.specs.Answers.{TypeAnswer, number, value, malformed, resolved, nowhere, Result, told, newer, field, index}
+use Rattle.rule.specs.Answers.{TypeAnswer, number, value, malformed, resolved, nowhere, Result, told, newer, field}
+use Rattle.rule.specs.Answers.{index}
 use Rattle.rule.specs.Things.{faultOf}
 use Rattle.rule.specs.Rule.{done, run}
 use Rattle.rule.specs.InOrder.{among}
@@ -52,8 +53,10 @@ module _ (fr : List ℕ) (s : Starts) where
   pub right-index : (a b : TypeAnswer) → faultOf s b ≡ Fa.Index → given fr s (rightTested a b) ≡ told index
   right-index a b p = rw (p, given, run)
 
-  pub right-sound : (a b : TypeAnswer) → faultOf s b ≡ Fa.Sound → given fr s (rightTested a b) ≡ told-of fr s (likeness fr s a b)
-  right-sound a b p = rw (p, given, run) (compare-run fr s (among []) newer nowhere a b answered ∙ answer-told fr s (likeness fr s a b))
+  pub right-sound : (a b : TypeAnswer) → faultOf s b ≡ Fa.Sound → given fr s (rightTested a b)
+      ≡ told-of fr s (likeness fr s a b)
+  right-sound a b p = rw (p, given, run)
+      (compare-run fr s (among []) newer nowhere a b answered ∙ answer-told fr s (likeness fr s a b))
 
   found-is : (o : Option Bool) → optional (onBool o (λ x. given fr s (done x)) (newer nowhere)) ≡ found o
   found-is (some b) = refl

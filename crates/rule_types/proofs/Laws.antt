@@ -1,6 +1,6 @@
--- What a comparison gives, by the canonical forms of both; and what follows for two answers that get neither 5 nor 6: each equals itself, either
--- order gives the same, a pointer to a scalar or vector equals its value pointer, and a struct's number equals itself alone. For any frames and any
--- places where their families begin; a file's are a case. Assumes nothing.
+-- What a comparison gives, by the canonical forms of both; and what follows for two answers that get neither 5 nor 6:
+-- each equals itself, either order gives the same, a pointer to a scalar or vector equals its value pointer, and a
+-- struct's number equals itself alone. For any frames and any places where their families begin; a file's are a case.
 use Prim.Native.Nat.{ℕ}
 use mathlib.Core.Path.{_≡_, refl, sym, ap, _∙_}
 use mathlib.Core.Bool.{Bool, true, false, cond, _||_}
@@ -24,12 +24,15 @@ use Rattle.frames.proofs.ReadBack.{half-back}
 use Rattle.archive.specs.declared.Starts.{Starts}
 use Rattle.archive.specs.Access.{typeIn}
 use Rattle.rule.specs.declared.Fault.the-variants as Fa
-use Rattle.rule.specs.Answers.{TypeAnswer, number, value, malformed, typeAnswerFrame, Place, nowhere, Result, told, newer, Compared, alike, unlike, field, index}
+use Rattle.rule.specs.Answers.{TypeAnswer, number, value, malformed, typeAnswerFrame, Place, nowhere, Result, told}
+use Rattle.rule.specs.Answers.{newer, Compared, alike, unlike, field, index}
 use Rattle.rule.specs.Things.{form, faultOf, formIn, seeIn, isStructForm, isStruct}
 use Rattle.rule.specs.Rule.{Rule, come, Answers, run}
 use Rattle.rule.specs.InOrder.{among}
-use Rattle.rule_types.specs.Canonical.{valuePointer, orOwn, canonical, formFound, throughBase, canonicalFormIn, equalTypes, identical}
-use Rattle.rule_types.specs.Comparison.{inForm, inForms, byStruct, byIdentical, compare, answered, Sound, handed, given}
+use Rattle.rule_types.specs.Canonical.{valuePointer, orOwn, canonical, formFound, throughBase, canonicalFormIn}
+use Rattle.rule_types.specs.Canonical.{equalTypes, identical}
+use Rattle.rule_types.specs.Comparison.{inForm, inForms, byStruct, byIdentical, compare, answered, Sound, handed}
+use Rattle.rule_types.specs.Comparison.{given}
 use Rattle.rule_types.specs.ForProofs.{orSelf, canonicalThrough, canonicalOf, byForms, byAnswers, likeness, Equal}
 use Rattle.rule_types.proofs.Equality.{equal-types, equal-sym, identical-frames, identical-self, identical-sym}
 use Rattle.rule_types.proofs.Seen.{never}
@@ -55,8 +58,10 @@ module _ (fr : List ℕ) (s : Starts) where
     own k t none = refl
     own k t (some u) = refl
 
-    through-base : (k : TypeInner → Rule A) (t : TypeInner) (q : AddressSpace) (b : TypeNumber) (c : TypeForm) → typeIn fr s b ≡ c
-        → ran (come p (form (number b)) (λ x. k (canonical t q (x .inner)))) ≡ onForm (orSelf t (throughBase q c)) (λ u. ran (k u)) (new p)
+    through-base : (k : TypeInner → Rule A) (t : TypeInner) (q : AddressSpace) (b : TypeNumber) (c : TypeForm)
+        → typeIn fr s b ≡ c
+        → ran (come p (form (number b)) (λ x. k (canonical t q (x .inner))))
+        ≡ onForm (orSelf t (throughBase q c)) (λ u. ran (k u)) (new p)
     through-base k t q b (Tf.Known c) e = rw (e, ran, run) (own k t (valuePointer q c))
     through-base k t q b Tf.Unknown e = rw (e, ran, run)
 
@@ -93,20 +98,24 @@ module _ (fr : List ℕ) (s : Starts) where
         → ran (inForms p a b k) ≡ onBool (byForms (canonicalOf fr s a) (canonicalOf fr s b)) (λ x. ran (k x)) (new p)
     by-forms a b k =
         look (λ u. come p (form b) (λ y. inForm p (λ v. k (equalTypes u v)) (y .inner))) a (formIn fr s a) refl
-        ∙ both (canonicalOf fr s a) (canonicalOf fr s b) _ (λ x. ran (k x)) (λ t. look (λ v. k (equalTypes t v)) b (formIn fr s b) refl)
+        ∙ both (canonicalOf fr s a) (canonicalOf fr s b) _ (λ x. ran (k x))
+        (λ t. look (λ v. k (equalTypes t v)) b (formIn fr s b) refl)
 
     by-struct : (a b : TypeAnswer) (k : Bool → Rule A) (q : Bool)
-        → ran (byStruct p a b k q) ≡ onBool (byAnswers false q (canonicalOf fr s a) (canonicalOf fr s b)) (λ x. ran (k x)) (new p)
+        → ran (byStruct p a b k q)
+        ≡ onBool (byAnswers false q (canonicalOf fr s a) (canonicalOf fr s b)) (λ x. ran (k x)) (new p)
     by-struct a b k true = refl
     by-struct a b k false = by-forms a b k
 
     by-identical : (a b : TypeAnswer) (k : Bool → Rule A) (i : Bool)
         → ran (byIdentical p a b k i)
-        ≡ onBool (byAnswers i (isStruct fr s a || isStruct fr s b) (canonicalOf fr s a) (canonicalOf fr s b)) (λ x. ran (k x)) (new p)
+        ≡ onBool (byAnswers i (isStruct fr s a || isStruct fr s b) (canonicalOf fr s a) (canonicalOf fr s b))
+        (λ x. ran (k x)) (new p)
     by-identical a b k true = refl
     by-identical a b k false = by-struct a b k (isStruct fr s a || isStruct fr s b)
 
-    pub compare-run : (a b : TypeAnswer) (k : Bool → Rule A) → ran (compare p a b k) ≡ onBool (likeness fr s a b) (λ x. ran (k x)) (new p)
+    pub compare-run : (a b : TypeAnswer) (k : Bool → Rule A) → ran (compare p a b k)
+        ≡ onBool (likeness fr s a b) (λ x. ran (k x)) (new p)
     compare-run a b k = by-identical a b k (identical a b)
 
   -- what our reader gives for two answers handed in
@@ -126,13 +135,15 @@ module _ (fr : List ℕ) (s : Starts) where
   -- WHAT A COMPARISON GIVES
 
   pub compared-is : (a b : TypeAnswer) → Sound s a → Sound s b → compared a b ≡ told-of (likeness fr s a b)
-  compared-is a b p q = rw (p, q, given, run) (compare-run (among []) newer nowhere a b answered ∙ answer-told (likeness fr s a b))
+  compared-is a b p q = rw (p, q, given, run)
+      (compare-run (among []) newer nowhere a b answered ∙ answer-told (likeness fr s a b))
 
   -- each equals itself, also where its kind is unknown
   pub same-self : (a : TypeAnswer) → Sound s a → compared a a ≡ told alike
   same-self a p =
       compared-is a a p p
-      ∙ ap (λ (i : Bool). told-of (byAnswers i (isStruct fr s a || isStruct fr s a) (canonicalOf fr s a) (canonicalOf fr s a)))
+      ∙ ap (λ (i : Bool). told-of
+      (byAnswers i (isStruct fr s a || isStruct fr s a) (canonicalOf fr s a) (canonicalOf fr s a)))
       (identical-self a)
 
   -- either order gives the same
@@ -164,11 +175,14 @@ module _ (fr : List ℕ) (s : Starts) where
   pub either-order : (a b : TypeAnswer) → Sound s a → Sound s b → compared a b ≡ compared b a
   either-order a b p q = compared-is a b p q ∙ ap told-of (likeness-sym a b) ∙ sym (compared-is b a q p)
 
-  -- YES, exactly when the frames are identical, or neither is a struct's number and the canonical forms are equal as data
+  -- YES, exactly when the frames are identical, or neither is a struct's number and the canonical forms are equal as
+  -- data
 
-  yes-when : (a b : TypeAnswer) (i q : Bool) (u v : TypeForm) → identical a b ≡ i → (isStruct fr s a || isStruct fr s b) ≡ q
+  yes-when : (a b : TypeAnswer) (i q : Bool) (u v : TypeForm) → identical a b ≡ i → (isStruct fr s a || isStruct fr s b)
+      ≡ q
       → canonicalOf fr s a ≡ u
-      → canonicalOf fr s b ≡ v → told-of (byAnswers i q u v) ≡ told alike → (typeAnswerFrame a ≡ typeAnswerFrame b) ⊎ Equal fr s a b
+      → canonicalOf fr s b ≡ v → told-of (byAnswers i q u v) ≡ told alike → (typeAnswerFrame a ≡ typeAnswerFrame b)
+      ⊎ Equal fr s a b
   yes-when a b true q u v qi qs qu qv e = inl (identical-frames a b .0 qi)
   yes-when a b false true u v qi qs qu qv e = never (cc)
   yes-when a b false false Tf.Unknown Tf.Unknown qi qs qu qv e = never (cc)
@@ -178,11 +192,13 @@ module _ (fr : List ℕ) (s : Starts) where
     where
       go : (t : Bool) → equalTypes x y ≡ t → told (cond t alike unlike) ≡ told alike
           → (typeAnswerFrame a ≡ typeAnswerFrame b) ⊎ Equal fr s a b
-      go true h w = let q : x ≡ y = equal-types x y .0 h in inr (record { shape = y; unnamed = qs; left = qu ∙ ap Tf.Known q; right = qv })
+      go true h w = let q : x ≡ y = equal-types x y .0 h in
+          inr (record { shape = y; unnamed = qs; left = qu ∙ ap Tf.Known q; right = qv })
       go false h w = never (cc)
 
   when-equal : (a b : TypeAnswer) (i : Bool) (h : Equal fr s a b)
-      → told-of (byAnswers i (isStruct fr s a || isStruct fr s b) (canonicalOf fr s a) (canonicalOf fr s b)) ≡ told alike
+      → told-of (byAnswers i (isStruct fr s a || isStruct fr s b) (canonicalOf fr s a) (canonicalOf fr s b))
+      ≡ told alike
   when-equal a b true h = refl
   when-equal a b false h = rw (h .unnamed, h .left, h .right, equal-types (h .shape) (h .shape) .1 refl)
 
@@ -190,7 +206,8 @@ module _ (fr : List ℕ) (s : Starts) where
       → (compared a b ≡ told alike) ↔ ((typeAnswerFrame a ≡ typeAnswerFrame b) ⊎ Equal fr s a b)
   alike-when a b p q = (
     λ e.
-        yes-when a b (identical a b) (isStruct fr s a || isStruct fr s b) _ _ refl refl refl refl (sym (compared-is a b p q) ∙ e),
+        yes-when a b (identical a b) (isStruct fr s a || isStruct fr s b) _ _ refl refl refl refl
+        (sym (compared-is a b p q) ∙ e),
     λ h.
         compared-is a b p q
         ∙ back h,
@@ -198,7 +215,8 @@ module _ (fr : List ℕ) (s : Starts) where
     where
       back : (typeAnswerFrame a ≡ typeAnswerFrame b) ⊎ Equal fr s a b → told-of (likeness fr s a b) ≡ told alike
       back (inl e) =
-          ap (λ (i : Bool). told-of (byAnswers i (isStruct fr s a || isStruct fr s b) (canonicalOf fr s a) (canonicalOf fr s b)))
+          ap (λ (i : Bool). told-of
+          (byAnswers i (isStruct fr s a || isStruct fr s b) (canonicalOf fr s a) (canonicalOf fr s b)))
           (identical-frames a b .1 e)
       back (inr h) = when-equal a b (identical a b) h
 
@@ -207,18 +225,21 @@ module _ (fr : List ℕ) (s : Starts) where
   number-same : (n m : TypeNumber) → numberFrame n ≡ numberFrame m → n .0 ≡ m .0
   number-same n m e = sym (half-back (n .0)) ∙ ap (λ (f : Frame). half f 2) e ∙ half-back (m .0)
 
-  pub structs-differ : (n m : TypeNumber) → Sound s (number n) → Sound s (number m) → isStruct fr s (number n) ≡ true → (n .0 ≡ m .0 → ⊥)
+  pub structs-differ : (n m : TypeNumber) → Sound s (number n) → Sound s (number m) → isStruct fr s (number n) ≡ true
+      → (n .0 ≡ m .0 → ⊥)
       → compared (number n) (number m) ≡ told unlike
   structs-differ n m p q h d = compared-is (number n) (number m) p q ∙ go (identical (number n) (number m)) refl
     where
       go : (i : Bool) → identical (number n) (number m) ≡ i
-          → told-of (byAnswers i (isStruct fr s (number n) || isStruct fr s (number m)) (canonicalOf fr s (number n)) (canonicalOf fr s (number m))) ≡ told unlike
+          → told-of (byAnswers i (isStruct fr s (number n) || isStruct fr s (number m)) (canonicalOf fr s (number n))
+          (canonicalOf fr s (number m))) ≡ told unlike
       go true e = absurd (d (number-same n m (identical-frames (number n) (number m) .0 e)))
       go false e = rw h
 
   -- A POINTER TO A SCALAR OR A VECTOR equals its value pointer
 
-  pointer-form : (b : TypeNumber) (q : AddressSpace) (t : TypeForm) → t ≡ Tf.Known (Ti.Pointer b q) → isStructForm t ≡ false
+  pointer-form : (b : TypeNumber) (q : AddressSpace) (t : TypeForm) → t ≡ Tf.Known (Ti.Pointer b q) → isStructForm t
+      ≡ false
   pointer-form b q t e = rw e
 
   pointer-unnamed : (b : TypeNumber) (q : AddressSpace) (a : TypeAnswer) → formIn fr s a ≡ Tf.Known (Ti.Pointer b q)
@@ -227,8 +248,10 @@ module _ (fr : List ℕ) (s : Starts) where
   pointer-unnamed b q (value t) e = refl
   pointer-unnamed b q (malformed f) e = refl
 
-  pub pointer-to : (b : TypeNumber) (q : AddressSpace) (z : OptionVectorSize) (k : Scalar) (a : TypeAnswer) (c : TypeInner) → Sound s a
-      → formIn fr s a ≡ Tf.Known (Ti.Pointer b q) → typeIn fr s b ≡ Tf.Known c → valuePointer q c ≡ some (Ti.ValuePointer z k q)
+  pub pointer-to : (b : TypeNumber) (q : AddressSpace) (z : OptionVectorSize) (k : Scalar) (a : TypeAnswer)
+      (c : TypeInner) → Sound s a
+      → formIn fr s a ≡ Tf.Known (Ti.Pointer b q) → typeIn fr s b ≡ Tf.Known c → valuePointer q c
+      ≡ some (Ti.ValuePointer z k q)
       → compared a (value (Ti.ValuePointer z k q)) ≡ told alike
   pointer-to b q z k a c p e g h =
       alike-when a (value (Ti.ValuePointer z k q)) p refl .1 (inr (record {

@@ -1,4 +1,4 @@
--- The reading of a comparison is the table's (specs/Looks.antt): side by side, by the shape of each answer. Assumes nothing.
+-- The reading of a comparison is the table's (specs/Looks.antt): side by side, by the shape of each answer.
 use Prim.Native.Nat.{ℕ}
 use mathlib.Core.Path.{_≡_, refl, sym, ap, _∙_}
 use mathlib.Core.Bool.{Bool, true, false, cond, _||_}
@@ -19,7 +19,8 @@ use Rattle.rule.specs.Things.{form, structNumber, fault, faultOf, valueFault, s
 use Rattle.rule.specs.Rule.{Rule, come, Step, step, Readings, Reading, follow}
 use Rattle.rule_types.specs.Canonical.{canonical, equalTypes, identical}
 use Rattle.rule_types.specs.Comparison.{inForm, inForms, byStruct, byIdentical, answered, handed}
-use Rattle.rule_types.specs.Looks.{Shape, struct, unknown, other, pointer, pointerToUnknown, pointerShape, innerShape, formShape, shapeOf, looks, looked, comparisonReading}
+use Rattle.rule_types.specs.Looks.{Shape, struct, unknown, other, pointer, pointerToUnknown, pointerShape}
+use Rattle.rule_types.specs.Looks.{innerShape, formShape, shapeOf, looks, looked, comparisonReading}
 use Rattle.rule_types.proofs.Seen.{never, neither}
 
 -- the base that a shape has, looked into
@@ -64,7 +65,8 @@ module _ (fr : List ℕ) (rd : Readings) where
       rw (q, steps, follow) (ap (λ (l : List Step). step nowhere (form (number b)) ∷ l) (h (canonical t s u)))
   base-steps k rest h t s b Tf.Unknown q = rw (q, steps, follow)
 
-  inner-steps : (k : TypeInner → Rule Compared) (rest : List Step) → ((u : TypeInner) → steps (k u) ≡ rest) → (t : TypeInner)
+  inner-steps : (k : TypeInner → Rule Compared) (rest : List Step) → ((u : TypeInner) → steps (k u) ≡ rest)
+      → (t : TypeInner)
       → steps (inForm nowhere k t) ≡ side (innerShape fr t) rest
   inner-steps k rest h (Ti.Pointer b s) = base-steps k rest h (Ti.Pointer b s) s b (typeAt fr b) refl
   inner-steps k rest h (Ti.Scalar x0) = h (Ti.Scalar x0)
@@ -91,7 +93,8 @@ module _ (fr : List ℕ) (rd : Readings) where
       rw (q, steps, follow) (ap (λ (l : List Step). step nowhere (form (number n)) ∷ l) (inner-steps k rest h t))
   number-steps k rest h n Tf.Unknown q = rw (q, steps, follow)
 
-  look-steps : (k : TypeInner → Rule Compared) (rest : List Step) → ((u : TypeInner) → steps (k u) ≡ rest) → (a : TypeAnswer)
+  look-steps : (k : TypeInner → Rule Compared) (rest : List Step) → ((u : TypeInner) → steps (k u) ≡ rest)
+      → (a : TypeAnswer)
       → faultOf (startsOf fr) a ≡ Fa.Sound
       → steps (look k a) ≡ step nowhere (form a) ∷ side (shapeOf fr a) rest
   look-steps k rest h (number n) p = number-steps k rest h n (typeAt fr n) refl
@@ -104,9 +107,11 @@ module _ (fr : List ℕ) (rd : Readings) where
   answered-steps false = refl
 
   forms-steps : (a b : TypeAnswer) → faultOf (startsOf fr) a ≡ Fa.Sound → faultOf (startsOf fr) b ≡ Fa.Sound
-      → steps (inForms nowhere a b answered) ≡ step nowhere (form a) ∷ side (shapeOf fr a) (step nowhere (form b) ∷ side (shapeOf fr b) [])
+      → steps (inForms nowhere a b answered)
+      ≡ step nowhere (form a) ∷ side (shapeOf fr a) (step nowhere (form b) ∷ side (shapeOf fr b) [])
   forms-steps a b p q =
-      look-steps (λ u. look (λ v. answered (equalTypes u v)) b) _ (λ u. look-steps (λ v. answered (equalTypes u v)) [] (λ v. answered-steps (equalTypes u v)) b q) a p
+      look-steps (λ u. look (λ v. answered (equalTypes u v)) b) _
+      (λ u. look-steps (λ v. answered (equalTypes u v)) [] (λ v. answered-steps (equalTypes u v)) b q) a p
 
   -- the two sides together are the table's line
   line : (a b : TypeAnswer) (s t : Shape) → isStructShape s ≡ false → isStructShape t ≡ false
@@ -178,7 +183,8 @@ module _ (fr : List ℕ) (rd : Readings) where
   form-struct (Tf.Known (Ti.RayQuery x0)) = refl
   form-struct (Tf.Known (Ti.BindingArray x0 x1)) = refl
 
-  value-struct : (t : TypeInner) (v : Fault) → valueFault (startsOf fr) t ≡ v → v ≡ Fa.Sound → isStructShape (innerShape fr t) ≡ false
+  value-struct : (t : TypeInner) (v : Fault) → valueFault (startsOf fr) t ≡ v → v ≡ Fa.Sound
+      → isStructShape (innerShape fr t) ≡ false
   value-struct (Ti.Struct x0 x1 x2) v q e = never (cc)
   value-struct (Ti.Pointer b s) v q e = sym (pointer-struct b (typeAt fr b))
   value-struct (Ti.Scalar x0) v q e = refl
@@ -194,7 +200,8 @@ module _ (fr : List ℕ) (rd : Readings) where
   value-struct (Ti.RayQuery x0) v q e = refl
   value-struct (Ti.BindingArray x0 x1) v q e = refl
 
-  struct-shape : (a : TypeAnswer) → faultOf (startsOf fr) a ≡ Fa.Sound → isStruct fr (startsOf fr) a ≡ isStructShape (shapeOf fr a)
+  struct-shape : (a : TypeAnswer) → faultOf (startsOf fr) a ≡ Fa.Sound → isStruct fr (startsOf fr) a
+      ≡ isStructShape (shapeOf fr a)
   struct-shape (number n) p = form-struct (typeAt fr n)
   struct-shape (value t) p = sym (value-struct t _ p refl)
   struct-shape (malformed f) p = refl
@@ -209,13 +216,17 @@ module _ (fr : List ℕ) (rd : Readings) where
         forms-steps a b p q ∙ line a b (shapeOf fr a) (shapeOf fr b) (h .0) (h .1)
 
     identical-steps : (i : Bool)
-        → steps (byIdentical nowhere a b answered i) ≡ cond i [] (step nowhere (structNumber a) ∷ step nowhere (structNumber b) ∷ looked (looks a b (shapeOf fr a) (shapeOf fr b)))
+        → steps (byIdentical nowhere a b answered i)
+        ≡ cond i [] (step nowhere (structNumber a) ∷ step nowhere (structNumber b) ∷ looked
+        (looks a b (shapeOf fr a) (shapeOf fr b)))
     identical-steps true = refl
     identical-steps false =
         ap (λ (l : List Step). step nowhere (structNumber a) ∷ step nowhere (structNumber b) ∷ l)
-        (struct-steps (isStruct fr (startsOf fr) a || isStruct fr (startsOf fr) b) (rw (struct-shape a p, struct-shape b q)))
+        (struct-steps (isStruct fr (startsOf fr) a || isStruct fr (startsOf fr) b)
+        (rw (struct-shape a p, struct-shape b q)))
 
     -- THE READING of a comparison is the table's
     pub looks-are : follow (see fr) rd (handed a b) .steps ≡ comparisonReading fr a b
     looks-are =
-        rw (p, q, follow) (ap (λ (l : List Step). step nowhere (fault a) ∷ step nowhere (fault b) ∷ l) (identical-steps (identical a b)))
+        rw (p, q, follow) (ap (λ (l : List Step). step nowhere (fault a) ∷ step nowhere (fault b) ∷ l)
+        (identical-steps (identical a b)))

@@ -1,4 +1,4 @@
--- What can't be, and two tests of which neither holds. Assumes nothing.
+-- What can't be, and two tests of which neither holds.
 use Prim.Native.Nat.{ℕ}
 use native.Mathlib.Omega.{arith}
 use mathlib.Core.Path.{_≡_, refl}

@@ -1,4 +1,5 @@
--- Every comparison of the table, and the file's acceptance, is what the definitions give: both sides compute to the same. Assumes nothing.
+-- Every comparison of the table, and the file's acceptance, is what the definitions give: both sides compute to the
+-- same.
 use mathlib.Core.Path.{_≡_, refl}
 use mathlib.Core.List.{List, map}
 use Rattle.scan.specs.Lowest.{lowest, allBelow}
@@ -16,19 +17,21 @@ use Rattle.archive.specs.Access.{typeIn}
 use Rattle.rule.specs.Things.{listed}
 use Rattle.rule_types.specs.Canonical.{equalTypes, identical}
 use Rattle.rule_types.specs.Comparison.{sameIn, sameType}
-use Rattle.rule_types.specs.Cases.{Case, file, table}
+use Rattle.rule_types.specs.Cases.{ComparedCase, comparedFile, comparedCases}
 
-abbrev given : Case → Result Compared
-given c = sameType file (c .left) (c .right)
+abbrev given : ComparedCase → Result Compared
+given c = sameType comparedFile (c .left) (c .right)
 
-abbrev wanted : Case → Result Compared
+abbrev wanted : ComparedCase → Result Compared
 wanted c = c .outcome
 
-worked : map given table ≡ map wanted table
-unfolding sameType sameIn equalTypes identical listed typeIn frameAt typeOf memberOf start startsOf lowest allBelow build sumBelow
+worked : map given comparedCases ≡ map wanted comparedCases
+unfolding sameType sameIn equalTypes identical listed typeIn frameAt typeOf memberOf start startsOf lowest allBelow
+    build sumBelow
 worked = refl
 
 -- the file passes checks 4 to 6
-accepted : checkFrames file ≡ Accepted 9
-unfolding lowest allBelow build sumBelow frameAt typeOf itemOf rowOf memberOf componentOf fieldsFit orderOk start startsOf namesOk earlyOk indexOk checkFrames
+accepted : checkFrames comparedFile ≡ Accepted 9
+unfolding lowest allBelow build sumBelow frameAt typeOf itemOf rowOf memberOf componentOf fieldsFit orderOk start
+    startsOf namesOk earlyOk indexOk checkFrames
 accepted = refl

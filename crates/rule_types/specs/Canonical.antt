@@ -1,5 +1,6 @@
--- The canonical form of a type: the source's canonical_form (document 01, "Same type or not"). A pointer to a scalar or a vector is the value pointer of
--- its base; every other type is its own. WGSL has no value pointers; the source decides. And equality of types and answers, by their frames.
+-- The canonical form of a type: the source's canonical_form (document 01, "Same type or not"). A pointer to a scalar or
+-- a vector is the value pointer of its base; every other type is its own. WGSL has no value pointers; the source
+-- decides. And equality of types and answers, by their frames.
 use Prim.Native.Nat.{ℕ}
 use mathlib.Core.Bool.{Bool, true, false, cond, _&&_}
 use mathlib.Core.List.{List, [], _∷_}
@@ -49,7 +50,8 @@ ifPointer (Ti.BindingArray b z) f rest = rest
 
 -- THE CANONICAL FORM
 
--- the source's canonical_form of a pointer in a space, by what its base is: the value pointer where the base is a scalar or a vector, else None
+-- the source's canonical_form of a pointer in a space, by what its base is: the value pointer where the base is a
+-- scalar or a vector, else None
 abbrev pub valuePointer : AddressSpace → TypeInner → Option TypeInner
 valuePointer p (Ti.Scalar k) = some (Ti.ValuePointer Ov.None k p)
 valuePointer p (Ti.Vector z k) = some (Ti.ValuePointer (Ov.Some z) k p)
@@ -83,7 +85,8 @@ abbrev pub throughBase : AddressSpace → TypeForm → CanonicalForm
 throughBase p (Tf.Known b) = formFound (valuePointer p b)
 throughBase p Tf.Unknown = Cf.Newer
 
--- the source's canonical_form, over frames and where their families begin; newer where a pointer's base is of unknown kind
+-- the source's canonical_form, over frames and where their families begin; newer where a pointer's base is of unknown
+-- kind
 abbrev pub canonicalFormIn : List ℕ → Starts → TypeInner → CanonicalForm
 canonicalFormIn fr s t = ifPointer t (λ b p. throughBase p (typeIn fr s b)) Cf.None
 

@@ -1,4 +1,5 @@
--- The comparison of two types: the source's compare_types (document 01, "Same type or not"; "Numbers handed back", last paragraph).
+-- The comparison of two types: the source's compare_types (document 01, "Same type or not"; "Numbers handed back", last
+-- paragraph).
 use mathlib.Core.Path.{_≡_}
 use mathlib.Core.Bool.{Bool, true, false, _||_}
 use Prim.Native.Nat.{ℕ}
@@ -11,7 +12,8 @@ use Rattle.archive.specs.declared.Starts.{Starts}
 use Rattle.archive.specs.Starts.{startsOf}
 use Rattle.rule.specs.declared.Fault.{Fault}
 use Rattle.rule.specs.declared.Fault.the-variants as Fa
-use Rattle.rule.specs.Answers.{TypeAnswer, number, value, malformed, typeAnswerOf, Place, nowhere, Result, told, newer, Compared, alike, unlike, field, index}
+use Rattle.rule.specs.Answers.{TypeAnswer, number, value, malformed, typeAnswerOf, Place, nowhere, Result, told, newer}
+use Rattle.rule.specs.Answers.{Compared, alike, unlike, field, index}
 use Rattle.rule.specs.Things.{form, structNumber, fault, faultOf, seeIn}
 use Rattle.rule.specs.Rule.{Rule, done, come, run}
 use Rattle.rule.specs.InOrder.{among}
@@ -24,7 +26,8 @@ inForm p rest t = ifPointer t (λ b s. come p (form (number b)) (λ c. rest (can
 -- both are looked into, the left with its base first
 abbrev pub inForms : {A : Type 0} → Place → TypeAnswer → TypeAnswer → (Bool → Rule A) → Rule A
 inForms p a b rest =
-    come p (form a) (λ x. inForm p (λ u. come p (form b) (λ y. inForm p (λ v. rest (equalTypes u v)) (y .inner))) (x .inner))
+    come p (form a) (λ x. inForm p (λ u. come p (form b) (λ y. inForm p (λ v. rest (equalTypes u v)) (y .inner)))
+    (x .inner))
 
 -- the number of a struct is no other type; finding out that a number is a struct's is no look
 abbrev pub byStruct : {A : Type 0} → Place → TypeAnswer → TypeAnswer → (Bool → Rule A) → Bool → Rule A
@@ -33,9 +36,11 @@ byStruct p a b rest false = inForms p a b rest
 
 abbrev pub byIdentical : {A : Type 0} → Place → TypeAnswer → TypeAnswer → (Bool → Rule A) → Bool → Rule A
 byIdentical p a b rest true = rest true
-byIdentical p a b rest false = come p (structNumber a) (λ s. come p (structNumber b) (λ t. byStruct p a b rest (s || t)))
+byIdentical p a b rest false = come p (structNumber a)
+    (λ s. come p (structNumber b) (λ t. byStruct p a b rest (s || t)))
 
--- identical answers are the same type; else the number of a struct is not; else canonical forms are compared. The rest goes on with yes or no.
+-- identical answers are the same type; else the number of a struct is not; else canonical forms are compared. The rest
+-- goes on with yes or no.
 abbrev pub compare : {A : Type 0} → Place → TypeAnswer → TypeAnswer → (Bool → Rule A) → Rule A
 compare p a b rest = byIdentical p a b rest (identical a b)
 

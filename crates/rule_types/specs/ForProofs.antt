@@ -1,4 +1,5 @@
--- Not part of any public statement: for proofs and code only. Canonical forms and the comparison in other words, for the code and the laws.
+-- Not part of any public statement: for proofs and code only. Canonical forms and the comparison in other words, for
+-- the code and the laws.
 use Prim.Native.Nat.{ℕ}
 use mathlib.Core.Bool.{Bool, true, false, cond, _||_}
 use mathlib.Core.List.{List}
@@ -36,7 +37,8 @@ canonicalThrough fr s Tf.Unknown = Tf.Unknown
 abbrev pub canonicalOf : List ℕ → Starts → TypeAnswer → TypeForm
 canonicalOf fr s a = canonicalThrough fr s (formIn fr s a)
 
--- the source's is_atomic_pointer: whether a type is a pointer whose base is an atomic; none where a pointer's base is of unknown kind, as in every look there
+-- the source's is_atomic_pointer: whether a type is a pointer whose base is an atomic; none where a pointer's base is
+-- of unknown kind, as in every look there
 abbrev pub isAtomic : TypeInner → Bool
 isAtomic (Ti.Scalar k) = false
 isAtomic (Ti.Vector z k) = false
@@ -89,7 +91,8 @@ byAnswers false true u v = some false
 byAnswers false false u v = byForms u v
 
 abbrev pub likeness : List ℕ → Starts → TypeAnswer → TypeAnswer → Option Bool
-likeness fr s a b = byAnswers (identical a b) (isStruct fr s a || isStruct fr s b) (canonicalOf fr s a) (canonicalOf fr s b)
+likeness fr s a b = byAnswers (identical a b) (isStruct fr s a || isStruct fr s b) (canonicalOf fr s a)
+    (canonicalOf fr s b)
 
 -- two answers of the same canonical form, neither of them a struct's number
 pub record Equal (fr : List ℕ) (s : Starts) (a b : TypeAnswer) : Type 0 where

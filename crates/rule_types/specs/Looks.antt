@@ -1,6 +1,7 @@
--- What a comparison looks into, in order, as a table over the shapes of its two answers; written from document 01, "Same type or not", and not from the
--- rule: identical answers, and the number of a struct, need no look. Else the left is looked into, and its base if it is a pointer, then the right,
--- and its base; the reading ends at the first kind that is unknown. Nothing deeper than a pointer's base is looked into.
+-- What a comparison looks into, in order, as a table over the shapes of its two answers; written from document 01,
+-- "Same type or not", and not from the rule: identical answers, and the number of a struct, need no look. Else the left
+-- is looked into, and its base if it is a pointer, then the right, and its base; the reading ends at the first kind
+-- that is unknown. Nothing deeper than a pointer's base is looked into.
 use Prim.Native.Nat.{ℕ}
 use mathlib.Core.Bool.{Bool, true, false, cond}
 use mathlib.Core.List.{List, [], _∷_, _++_}
@@ -15,7 +16,8 @@ use Rattle.rule.specs.Things.{form, structNumber, fault}
 use Rattle.rule.specs.Rule.{Step, step}
 use Rattle.rule_types.specs.Canonical.{identical}
 
--- what an answer is to a comparison: a struct, of unknown kind, a pointer whose base's kind is known, one whose base's kind is not, or another type
+-- what an answer is to a comparison: a struct, of unknown kind, a pointer whose base's kind is known, one whose base's
+-- kind is not, or another type
 pub data Shape : Type 0 where
   struct unknown other : Shape
   pointer pointerToUnknown : TypeNumber → Shape
@@ -82,8 +84,8 @@ abbrev pub looked : List TypeAnswer → List Step
 looked [] = []
 looked (a ∷ l) = step nowhere (form a) ∷ looked l
 
--- THE READING of a comparison of two answers that get neither 5 nor 6: both are tested, then, unless identical, asked whether they are a struct's
--- number, then looked into by the table
+-- THE READING of a comparison of two answers that get neither 5 nor 6: both are tested, then, unless identical, asked
+-- whether they are a struct's number, then looked into by the table
 abbrev pub comparisonReading : List ℕ → TypeAnswer → TypeAnswer → List Step
 comparisonReading fr a b =
     step nowhere (fault a) ∷ step nowhere (fault b)

@@ -1,5 +1,4 @@
 -- Laws of a list made index by index, and of a sum: a turn of a loop that fills a buffer, or adds up.
--- Assumes nothing.
 use mathlib.Core.Path.{_≡_, refl, sym, ap, _∙_}
 use mathlib.Core.List.{List, [], _∷_, _++_}
 use mathlib.Core.Logic.{⊎-elim}
@@ -30,11 +29,13 @@ module _ (f : ℕ → ℕ) where
       (eq-or-lt-of-le (le-of-suc-le-suc l))
 
   -- a store at n of `f n` takes a buffer whose first n bytes are made to one whose first n + 1 are
-  pub build-more : (n : ℕ) (d : List ℕ) → n < length d → set (build f n ++ drop n d) n (f n) ≡ build f (n + 1) ++ drop (n + 1) d
+  pub build-more : (n : ℕ) (d : List ℕ) → n < length d → set (build f n ++ drop n d) n (f n) ≡ build f (n + 1)
+      ++ drop (n + 1) d
   unfolding build
   build-more n d l =
       rw (add-one, drop-cons d n 0)
-      (set-at (build f n) (getD d n 0) (drop (suc n) d) (f n) n (length-build n) ∙ sym (append-snoc (build f n) (f n) (drop (suc n) d)))
+      (set-at (build f n) (getD d n 0) (drop (suc n) d) (f n) n (length-build n)
+      ∙ sym (append-snoc (build f n) (f n) (drop (suc n) d)))
 
   -- a turn of a loop that fills a buffer: d₀ is the buffer where the loop begins, d as the turn begins
   pub build-turn : (d₀ d : List ℕ) (i v : ℕ) → d ≡ build f i ++ drop i d₀ → i < length d₀ → v ≡ f i

@@ -1,5 +1,4 @@
 -- Laws of the lowest index that fails a test, by induction on how many indexes there are.
--- Assumes nothing.
 use mathlib.Core.Path.{_≡_, refl, sym, ap, _∙_}
 use mathlib.Core.Bool.{Bool, true, false, cond, _&&_, and-false}
 use mathlib.Core.Logic.{⊎-elim}
@@ -15,7 +14,8 @@ use Rattle.scan.specs.declared.Found.{Found}
 use Rattle.scan.specs.declared.Found.the-variants.{At, Nothing}
 
 -- what holds in each case of a test holds of the choice
-pub by-test {ℓ} : {A : Type ℓ} (P : A → Type 0) (b : Bool) {x y : A} → (b ≡ true → P x) → (b ≡ false → P y) → P (cond b x y)
+pub by-test {ℓ} : {A : Type ℓ} (P : A → Type 0) (b : Bool) {x y : A} → (b ≡ true → P x) → (b ≡ false → P y)
+    → P (cond b x y)
 by-test P true f g = f refl
 by-test P false f g = g refl
 
@@ -43,7 +43,8 @@ module _ (ok : ℕ → Bool) where
   unfolding lowest
   lowest-hit i zero l none is f = absurd (omega arith)
   lowest-hit i (suc n) l none is f =
-      ⊎-elim (λ e. rw (← e, none, ← is, f)) (λ lt. rw (← lowest-hit i n lt none is f)) (eq-or-lt-of-le (le-of-suc-le-suc l))
+      ⊎-elim (λ e. rw (← e, none, ← is, f)) (λ lt. rw (← lowest-hit i n lt none is f))
+      (eq-or-lt-of-le (le-of-suc-le-suc l))
 
   -- at the end none was found
   pub lowest-none : (i n : ℕ) → i ≤ n → n ≤ i → lowest ok i ≡ Nothing → Nothing ≡ lowest ok n
@@ -68,7 +69,8 @@ module _ (ok : ℕ → Bool) where
   none-all zero k none l = absurd (omega arith)
   none-all (suc n) k none l = go (lowest ok n) (ok n) (λ e lt. none-all n k e lt) refl none
     where
-      go : (f : Found) (b : Bool) → (f ≡ Nothing → k < n → ok k ≡ true) → ok n ≡ b → orElse f (cond b Nothing (At n)) ≡ Nothing
+      go : (f : Found) (b : Bool) → (f ≡ Nothing → k < n → ok k ≡ true) → ok n ≡ b → orElse f (cond b Nothing (At n))
+          ≡ Nothing
           → ok k ≡ true
       go (At j) b below eb e = absurd (let z : _≡_ {A = ℕ} 0 1 = cc in omega arith)
       go Nothing false below eb e = absurd (let z : _≡_ {A = ℕ} 0 1 = cc in omega arith)
@@ -103,8 +105,10 @@ lower-nothing Nothing = refl
 
 -- one index more, of the lower of two: the places found so far are below it
 step-both : (n : ℕ) (f g : Found) (a b : Bool) → ((k : ℕ) → f ≡ At k → k < n) → ((k : ℕ) → g ≡ At k → k < n)
-    → orElse (lowerOf f g) (cond (a && b) Nothing (At n)) ≡ lowerOf (orElse f (cond a Nothing (At n))) (orElse g (cond b Nothing (At n)))
-step-both n (At i) (At j) a b p q = by-test (λ x. orElse x (cond (a && b) Nothing (At n)) ≡ x) (leb i j) (λ _. refl) (λ _. refl)
+    → orElse (lowerOf f g) (cond (a && b) Nothing (At n))
+    ≡ lowerOf (orElse f (cond a Nothing (At n))) (orElse g (cond b Nothing (At n)))
+step-both n (At i) (At j) a b p q = by-test (λ x. orElse x (cond (a && b) Nothing (At n)) ≡ x) (leb i j) (λ _. refl)
+    (λ _. refl)
 step-both n (At i) Nothing a true p q = refl
 step-both n (At i) Nothing a false p q = rw (le-leb i n (omega (arith, p i refl)))
 step-both n Nothing (At j) true b p q = refl
@@ -120,10 +124,12 @@ unfolding lowest
 lowest-both ok also zero = refl
 lowest-both ok also (suc n) =
     rw (lowest-both ok also n)
-    (step-both n (lowest ok n) (lowest also n) (ok n) (also n) (λ k e. found-at ok n k e .inside) (λ k e. found-at also n k e .inside))
+    (step-both n (lowest ok n) (lowest also n) (ok n) (also n) (λ k e. found-at ok n k e .inside)
+    (λ k e. found-at also n k e .inside))
 
 -- a turn of a loop over the tests: f is the lowest that fails one of the first i, g the lowest that fails test i
-pub lowest-tests : (ok : ℕ → ℕ → Bool) (n i : ℕ) {f g : Found} → f ≡ lowest (λ k. allBelow (λ j. ok j k) i) n → g ≡ lowest (ok i) n
+pub lowest-tests : (ok : ℕ → ℕ → Bool) (n i : ℕ) {f g : Found} → f ≡ lowest (λ k. allBelow (λ j. ok j k) i) n → g
+    ≡ lowest (ok i) n
     → lowerOf f g ≡ lowest (λ k. allBelow (λ j. ok j k) (i + 1)) n
 unfolding allBelow
 lowest-tests ok n i ef eg = rw (add-one, ef, eg) (sym (lowest-both (λ k. allBelow (λ j. ok j k) i) (ok i) n))
@@ -134,7 +140,8 @@ module _ (ok : ℕ → Bool) where
   unfolding allBelow
   all-each zero k e l = absurd (omega arith)
   all-each (suc n) k e l =
-      ⊎-elim (λ q. ap ok q ∙ and-second (allBelow ok n) (ok n) e) (λ lt. all-each n k (and-first (allBelow ok n) (ok n) e) lt)
+      ⊎-elim (λ q. ap ok q ∙ and-second (allBelow ok n) (ok n) e)
+      (λ lt. all-each n k (and-first (allBelow ok n) (ok n) e) lt)
       (eq-or-lt-of-le (le-of-suc-le-suc l))
 
   pub each-all : (n : ℕ) → ((k : ℕ) → k < n → ok k ≡ true) → allBelow ok n ≡ true

@@ -1,4 +1,5 @@
--- The lowest index that fails a test. Document 01, "Numbers handed back": each check runs over the whole file, lowest frame named.
+-- The lowest index that fails a test. Document 01, "Numbers handed back": each check runs over the whole file, lowest
+-- frame named.
 use Prim.Native.Nat.{ℕ, zero, suc}
 use mathlib.Core.Bool.{Bool, cond, _&&_, true}
 use Rattle.scan.specs.declared.Found.{Found}

@@ -1,5 +1,5 @@
 -- Types marked in order: a mark is made from those before it, so with n types marked the table says of them what
--- `holdsPending` says, and of no other type. Assumes nothing.
+-- `holdsPending` says, and of no other type.
 use Prim.Native.Nat.{ℕ, zero, suc, _+_, _≤_, _<_}
 use native.Mathlib.Decide.{decLt}
 use native.Mathlib.Omega.{arith}
@@ -48,9 +48,11 @@ module _ (fr : List ℕ) (s : Starts) (marks : List Bool) (n : ℕ) (is : Marked
       go (no l) =
           let k : n ≤ b .0 = omega arith in
           is b
-          ∙ rw (le-ltb (b .0) n k) (sym (List·getD-eq-default (holding fr s n) false {n = b .0} (rw (in-order-length (nextHolds fr s) n) k)))
+          ∙ rw (le-ltb (b .0) n k)
+          (sym (List·getD-eq-default (holding fr s n) false {n = b .0} (rw (in-order-length (nextHolds fr s) n) k)))
 
-  next-mark : (one : Bool) (t : TypeForm) → one ≡ formHolds fr s (lookHolds marks) t → t ≡ typeIn fr s (record { 0 = n })
+  next-mark : (one : Bool) (t : TypeForm) → one ≡ formHolds fr s (lookHolds marks) t → t
+      ≡ typeIn fr s (record { 0 = n })
       → one ≡ holdsPending fr s (record { 0 = n })
   unfolding holdsPending
   next-mark one t e h =
@@ -77,7 +79,8 @@ module _ (fr : List ℕ) (s : Starts) (marks : List Bool) (n : ℕ) (is : Marked
 -- all are marked
 pub marks-end : (fr : List ℕ) (s : Starts) (marks : List Bool) (n m : ℕ) → Marked fr s marks n → n ≡ m
     → lookHolds marks ≡ (λ (b : TypeNumber). ltb (b .0) m && holdsPending fr s b)
-marks-end fr s marks n m is e j b = subst (λ (x : ℕ). lookHolds marks b ≡ (ltb (b .0) x && holdsPending fr s b)) e (is b) j
+marks-end fr s marks n m is e j b = subst (λ (x : ℕ). lookHolds marks b ≡ (ltb (b .0) x && holdsPending fr s b)) e
+    (is b) j
 
 -- MARKS OF 1,024 TYPES say of every number what `holdsPending` says, where there are no more
 
@@ -101,11 +104,13 @@ pub range-all : (fr : List ℕ) (s : Starts) (marks : List Bool) (least greatest
     ≡ rangeIn fr s (countsOf least) (countsOf greatest) n
 unfolding rangeIn
 range-all fr s marks least greatest n h e =
-    ap (λ (x : TypeNumber → Bool). rangeOf (measureBy fr s x (countsOf least) n) (measureBy fr s x (countsOf greatest) n))
+    ap (λ (x : TypeNumber → Bool). rangeOf (measureBy fr s x (countsOf least) n)
+    (measureBy fr s x (countsOf greatest) n))
     (e ∙ (λ j b. all-marked fr s h b j))
 
 -- the override at fault is one of the file's
-pub span-within : (s : Starts) (least greatest : Counts) (o : ℕ) → faultySpan s least greatest ≡ At o → o < overrideCount s
+pub span-within : (s : Starts) (least greatest : Counts) (o : ℕ) → faultySpan s least greatest ≡ At o
+    → o < overrideCount s
 unfolding faultySpan
 span-within s least greatest o e =
     found-at (λ (k : ℕ). spanOk least greatest (record { 0 = k })) (overrideCount s) o e .inside

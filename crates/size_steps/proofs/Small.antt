@@ -1,4 +1,4 @@
--- Vectors and matrices are small: their numbers fit. Assumes nothing.
+-- Vectors and matrices are small: their numbers fit.
 use Prim.Native.Nat.{ℕ, _+_, _*_, _≤_}
 use native.Mathlib.Omega.{arith}
 use mir.Syntax.{w8, w32}
@@ -31,6 +31,12 @@ round-small Two n = omega arith
 round-small Four n = omega arith
 round-small Eight n = omega arith
 round-small Sixteen n = omega arith
+
+pub round-least : (a : Alignment) (n : ℕ) → n ≤ roundUp a n
+round-least Two n = omega arith
+round-least Four n = omega arith
+round-least Eight n = omega arith
+round-least Sixteen n = omega arith
 
 -- a column of a matrix, and its columns
 column-small : (r : VectorSize) (a : Alignment) → roundUp (vectorAlign r a) (vectorBytes r a) ≤ 79

@@ -8,8 +8,8 @@ use rule_sizes::Measure;
 use rule_sizes::OptionAlignment;
 use rule_sizes::SizeFault;
 ghost use mathlib.Core.Path.{_≡_};
-ghost use Prim.Native.Nat.{_≤_};
-ghost use Rattle.rule_sizes.specs.Wgsl.{bytes, alignmentOf, roundUp, integerAlign, floatAlign, numberAlign, alignCount, vectorAlign, vectorBytes, matrixBytes};
+ghost use Rattle.rule_sizes.specs.Wgsl.{bytes, alignmentOf, roundUp, integerAlign, floatAlign, numberAlign, alignCount};
+ghost use Rattle.rule_sizes.specs.Wgsl.{vectorAlign, vectorBytes, matrixBytes};
 ghost use Rattle.rule_sizes.specs.Sizes.{scalarMeasure, vectorMeasure, matrixMeasure, leafOf};
 
 pub fn alignment_bytes(a: Alignment) -> u8
@@ -38,15 +38,14 @@ pub fn alignment_of(b: u8) -> Alignment
 }
 
 // WGSL's roundUp.
-pub fn round_up(a: Alignment, n: u64) -> u64
-    requires { ⌜ n ≤ 9223372036854775807 ⌝ }
+pub fn round_up(a: Alignment, n: u32) -> u64
     ensures { λ r. ⌜ r ≡ roundUp a n ⌝ }
 {
     match a {
-        Alignment::Two => (n + 1) / 2 * 2,
-        Alignment::Four => (n + 3) / 4 * 4,
-        Alignment::Eight => (n + 7) / 8 * 8,
-        Alignment::Sixteen => (n + 15) / 16 * 16,
+        Alignment::Two => ((n as u64) + 1) / 2 * 2,
+        Alignment::Four => ((n as u64) + 3) / 4 * 4,
+        Alignment::Eight => ((n as u64) + 7) / 8 * 8,
+        Alignment::Sixteen => ((n as u64) + 15) / 16 * 16,
     }
 }
 
@@ -108,7 +107,7 @@ fn vector_bytes(z: VectorSize, a: Alignment) -> u32
 fn matrix_bytes(c: VectorSize, r: VectorSize, a: Alignment) -> u32
     ensures { λ v. ⌜ v ≡ matrixBytes c r a ⌝ }
 {
-    let stride = round_up(vector_align(r, a), vector_bytes(r, a) as u64);
+    let stride = round_up(vector_align(r, a), vector_bytes(r, a));
     (c.number() as u32) * (stride as u32)
 }
 

@@ -1,19 +1,18 @@
 // One array, and one struct member by member, by what their parts fill.
+use super::SoFar;
 use super::leaves::alignment_bytes;
 use super::leaves::round_up;
 use ir::TypeNumber;
 use rule_sizes::Alignment;
 use rule_sizes::Measure;
-use rule_sizes::Parts;
 use rule_sizes::SizeFault;
 ghost use mathlib.Core.Path.{_≡_};
 ghost use Prim.Native.Nat.{_+_, _*_, _≤_};
 ghost use Rattle.rule_sizes.specs.Wgsl.{isMultiple, greater};
-ghost use Rattle.rule_sizes.specs.Sizes.{arrayOf, lower, joined, spanned, structOf};
-ghost use Rattle.rule_ranges.specs.Counts.{freshOffset, freshStruct};
-ghost use Rattle.rule_ranges.specs.ForProofs.{offsetBy, endOf};
+ghost use Rattle.rule_sizes.specs.Sizes.{arrayOf};
+ghost use Rattle.size_steps.specs.SoFar.{lowerFault, offsetFor, upTo, memberMore, spanEnd, freshEnd, structBy};
 
-pub fn is_multiple(a: Alignment, n: u64) -> bool
+fn is_multiple(a: Alignment, n: u64) -> bool
     ensures { λ r. ⌜ r ≡ isMultiple a n ⌝ }
 {
     match a {
@@ -24,7 +23,7 @@ pub fn is_multiple(a: Alignment, n: u64) -> bool
     }
 }
 
-pub fn greater(a: Alignment, b: Alignment) -> Alignment
+fn greater(a: Alignment, b: Alignment) -> Alignment
     ensures { λ r. ⌜ r ≡ greater a b ⌝ }
 {
     if alignment_bytes(a) < alignment_bytes(b) {
@@ -41,9 +40,10 @@ fn product(count: u32, stride: u32) -> u64
     (count as u64) * (stride as u64)
 }
 
+// The end of a member.
 fn total(offset: u64, size: u32) -> u64
-    requires { ⌜ offset ≤ 9223372036854775807 ⌝ }
-    ensures { λ r. ⌜ (r ≡ offset + size) × (r ≤ offset + 4294967295) ⌝ }
+    requires { ⌜ offset ≤ 4294967310 ⌝ }
+    ensures { λ r. ⌜ r ≡ offset + size ⌝ }
 {
     offset + (size as u64)
 }
@@ -85,82 +85,103 @@ pub fn array_of(n: TypeNumber, e: Measure, count: u32, stride: u32) -> Measure
 }
 
 // The fault of the lower type.
-fn lower(k: SizeFault, p: TypeNumber, j: SizeFault, q: TypeNumber) -> Parts
-    ensures { λ r. ⌜ (r ≡ lower k p j q) × (endOf r ≡ 0) ⌝ }
+fn lower(k: SizeFault, p: TypeNumber, j: SizeFault, q: TypeNumber) -> SoFar
+    ensures { λ r. ⌜ r ≡ lowerFault k p j q ⌝ }
 {
     if p.0 <= q.0 {
-        Parts::Broken { fault: k, place: p }
+        SoFar::Broken { fault: k, place: p }
     } else {
-        Parts::Broken { fault: j, place: q }
+        SoFar::Broken { fault: j, place: q }
     }
 }
 
-// The next member's offset: WGSL's where the struct is laid out afresh, else the file's.
-pub fn offset_by(afresh: bool, sofar: Parts, offset: u32, part: Measure) -> u64
-    requires { ⌜ endOf sofar ≤ 9223372036854775807 ⌝ }
-    ensures { λ r. ⌜ (r ≡ offsetBy afresh sofar offset part) × (r ≤ endOf sofar + 4294967295) ⌝ }
+// The next member's offset: WGSL's where the struct is laid out afresh, else the file's; at most 15 past 32 bits.
+fn offset_for(afresh: bool, a: Alignment, end: u32, offset: u32) -> u64
+    ensures { λ r. ⌜ (r ≡ offsetFor afresh a end offset) × (r ≤ 4294967310) ⌝ }
 {
     if afresh {
-        fresh_offset(sofar, part)
+        round_up(a, end)
     } else {
         wide(offset)
     }
 }
 
-// WGSL's: the end before the member, rounded up to its alignment.
-fn fresh_offset(sofar: Parts, part: Measure) -> u64
-    requires { ⌜ endOf sofar ≤ 9223372036854775807 ⌝ }
-    ensures { λ r. ⌜ (r ≡ freshOffset sofar part) × (r ≤ endOf sofar + 15) ⌝ }
+// Members that end at `end`.
+fn up_to(align: Alignment, end: u64, placed: bool) -> SoFar
+    ensures { λ r. ⌜ r ≡ upTo align end placed ⌝ }
 {
-    match sofar {
-        Parts::Broken { fault: _, place: _ } => 0,
-        Parts::Laid {
-            align: _,
-            end,
-            placed: _,
-        } => match part {
-            Measure::Faulty { fault: _, place: _ } => 0,
-            Measure::Fills { align, size: _ } => round_up(align, end),
-        },
+    if end < 4294967296 {
+        SoFar::Laid {
+            align,
+            end: end as u32,
+            placed,
+        }
+    } else {
+        SoFar::Past
     }
 }
 
-// One member more, at an offset.
-pub fn joined(sofar: Parts, offset: u64, part: Measure) -> Parts
-    requires { ⌜ offset ≤ 9223372036854775807 ⌝ }
-    ensures { λ r. ⌜ (r ≡ joined sofar offset part) × (endOf r ≤ offset + 4294967295) ⌝ }
+// A member that has a size, after those that end within 32 bits.
+fn placed_by(
+    afresh: bool,
+    b: Alignment,
+    end: u32,
+    placed: bool,
+    offset: u32,
+    a: Alignment,
+    size: u32,
+) -> SoFar
+    ensures { λ r. ⌜ r ≡ memberMore afresh (SoFar.Laid b end placed) offset (Measure.Fills a size) ⌝ }
+{
+    let at = offset_for(afresh, a, end, offset);
+    let top = greater(b, a);
+    let e = total(at, size);
+    let ok = is_multiple(a, at);
+    let before = wide(end);
+    up_to(top, e, placed & (ok & (before <= at)))
+}
+
+// One member more; by the file's offset, or afresh.
+pub fn member_more(afresh: bool, sofar: SoFar, offset: u32, part: Measure) -> SoFar
+    ensures { λ r. ⌜ r ≡ memberMore afresh sofar offset part ⌝ }
 {
     match sofar {
-        Parts::Broken { fault, place } => match part {
+        SoFar::Broken { fault, place } => match part {
             Measure::Faulty { fault: j, place: q } => lower(fault, place, j, q),
-            Measure::Fills { align: _, size: _ } => Parts::Broken { fault, place },
+            Measure::Fills { align: _, size: _ } => SoFar::Broken { fault, place },
         },
-        Parts::Laid { align, end, placed } => match part {
-            Measure::Faulty { fault: j, place: q } => Parts::Broken { fault: j, place: q },
-            Measure::Fills { align: a, size } => {
-                let top = greater(align, a);
-                let e = total(offset, size);
-                let ok = is_multiple(a, offset);
-                Parts::Laid {
-                    align: top,
-                    end: e,
-                    placed: placed & (ok & (end <= offset)),
-                }
-            }
+        SoFar::Past => match part {
+            Measure::Faulty { fault: j, place: q } => SoFar::Broken { fault: j, place: q },
+            Measure::Fills { align: _, size: _ } => SoFar::Past,
+        },
+        SoFar::Laid { align, end, placed } => match part {
+            Measure::Faulty { fault: j, place: q } => SoFar::Broken { fault: j, place: q },
+            Measure::Fills { align: a, size } => placed_by(
+                afresh,
+                align,
+                end,
+                placed,
+                offset,
+                a,
+                size,
+            ),
         },
     }
 }
 
 // Struct n with members, by its span.
-fn spanned(n: TypeNumber, parts: Parts, span: u32) -> Measure
-    ensures { λ r. ⌜ r ≡ spanned n parts span ⌝ }
+fn span_end(n: TypeNumber, sofar: SoFar, span: u32) -> Measure
+    ensures { λ r. ⌜ r ≡ spanEnd n sofar span ⌝ }
 {
-    match parts {
-        Parts::Broken { fault, place } => Measure::Faulty { fault, place },
-        Parts::Laid { align, end, placed } => {
-            let at = wide(span);
-            let ok = is_multiple(align, at);
-            if placed & ((end <= at) & ok) {
+    match sofar {
+        SoFar::Broken { fault, place } => Measure::Faulty { fault, place },
+        SoFar::Past => Measure::Faulty {
+            fault: SizeFault::Misplaced,
+            place: n,
+        },
+        SoFar::Laid { align, end, placed } => {
+            let ok = is_multiple(align, wide(span));
+            if placed & ((end <= span) & ok) {
                 Measure::Fills { align, size: span }
             } else {
                 Measure::Faulty {
@@ -172,28 +193,17 @@ fn spanned(n: TypeNumber, parts: Parts, span: u32) -> Measure
     }
 }
 
-// Struct n of so many members.
-pub fn struct_of(n: TypeNumber, parts: Parts, count: u16, span: u32) -> Measure
-    ensures { λ r. ⌜ r ≡ structOf n parts count span ⌝ }
-{
-    if count == 0 {
-        Measure::Faulty {
-            fault: SizeFault::Unmeasured,
-            place: n,
-        }
-    } else {
-        spanned(n, parts, span)
-    }
-}
-
 // Struct n laid out afresh.
-pub fn fresh_struct(n: TypeNumber, parts: Parts) -> Measure
-    requires { ⌜ endOf parts ≤ 9223372036854775807 ⌝ }
-    ensures { λ r. ⌜ r ≡ freshStruct n parts ⌝ }
+fn fresh_end(n: TypeNumber, sofar: SoFar) -> Measure
+    ensures { λ r. ⌜ r ≡ freshEnd n sofar ⌝ }
 {
-    match parts {
-        Parts::Broken { fault, place } => Measure::Faulty { fault, place },
-        Parts::Laid {
+    match sofar {
+        SoFar::Broken { fault, place } => Measure::Faulty { fault, place },
+        SoFar::Past => Measure::Faulty {
+            fault: SizeFault::Huge,
+            place: n,
+        },
+        SoFar::Laid {
             align,
             end,
             placed: _,
@@ -211,5 +221,21 @@ pub fn fresh_struct(n: TypeNumber, parts: Parts) -> Measure
                 }
             }
         }
+    }
+}
+
+// Struct n of so many members: laid out afresh, or by its span.
+pub fn struct_by(afresh: bool, n: TypeNumber, sofar: SoFar, count: u16, span: u32) -> Measure
+    ensures { λ r. ⌜ r ≡ structBy afresh n sofar count span ⌝ }
+{
+    if afresh {
+        fresh_end(n, sofar)
+    } else if count == 0 {
+        Measure::Faulty {
+            fault: SizeFault::Unmeasured,
+            place: n,
+        }
+    } else {
+        span_end(n, sofar, span)
     }
 }

@@ -1,5 +1,6 @@
--- What holds of the texel of a density. Of a half the laws but `tie-even` and those on what moved know only that it goes to one of its two neighbours (`tied-near`), so that 10,000 times the texel is at
--- most 5,000 away from d times 65,535 (`close`); from that alone follow the nearest texel, the range, the order and the ends. Assumes nothing.
+-- What holds of the texel of a density. Of a half the laws but `tie-even` and those on what moved know only that it
+-- goes to one of its two neighbours (`tied-near`), so that 10,000 times the texel is at most 5,000 away from d times
+-- 65,535 (`close`); from that alone follow the nearest texel, the range, the order and the ends.
 use Prim.Native.Nat.{ℕ, _+_, _*_, _-_, _/_, _%_, _≤_, _<_}
 use native.Mathlib.Decide.{decLt, decLe}
 use native.Mathlib.Omega.{arith}
@@ -46,7 +47,8 @@ at-half n h =
 pub close : (n : ℕ) → (n ≤ rounded n * 10000 + 5000) × (rounded n * 10000 ≤ n + 5000)
 close n = go (decLt (n % 10000 * 2) 10000) (decLt 10000 (n % 10000 * 2))
   where
-    go : Dec (n % 10000 * 2 < 10000) → Dec (10000 < n % 10000 * 2) → (n ≤ rounded n * 10000 + 5000) × (rounded n * 10000 ≤ n + 5000)
+    go : Dec (n % 10000 * 2 < 10000) → Dec (10000 < n % 10000 * 2) → (n ≤ rounded n * 10000 + 5000)
+        × (rounded n * 10000 ≤ n + 5000)
     go (yes b) a = let e = below-half n b in (omega arith, omega arith)
     go (no b) (yes a) = let e = above-half n a in (omega arith, omega arith)
     go (no b) (no a) =
@@ -159,7 +161,8 @@ all-same = refl
 pub stayed : (d t : ℕ) → texelOf d ≡ Given t → (d ≡ 3000 → ⊥) → (d ≡ 7000 → ⊥) → t ≡ upTexel d
 stayed d t e three seven =
     let g = given-when d t .0 e in
-    g .1 ∙ eqb-true (rounded (d * 65535)) (upTexel d) (go (eqb d 3000) (eqb d 7000) refl refl (all-each sameOr 10001 d all-same (omega (arith, g .0))))
+    g .1 ∙ eqb-true (rounded (d * 65535)) (upTexel d)
+    (go (eqb d 3000) (eqb d 7000) refl refl (all-each sameOr 10001 d all-same (omega (arith, g .0))))
   where
     go : (a b : Bool) → eqb d 3000 ≡ a → eqb d 7000 ≡ b → (a || (b || eqb (rounded (d * 65535)) (upTexel d))) ≡ true
         → eqb (rounded (d * 65535)) (upTexel d) ≡ true

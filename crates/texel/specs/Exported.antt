@@ -1,4 +1,5 @@
--- What the exported function returns of a texel, and what it leaves in its out-slice (document 02, request 1; the bytes are a choice, docs/DECISIONS.md).
+-- What the exported function returns of a texel, and what it leaves in its out-slice (document 02, request 1; the bytes
+-- are a choice, docs/DECISIONS.md).
 use Prim.Native.Nat.{ℕ, _/_, _%_}
 use mathlib.Core.Bool.{cond}
 use mathlib.Core.List.{List, _∷_}
@@ -11,7 +12,8 @@ abbrev pub texelNumber : SaidOne ℕ → ℕ
 texelNumber (asked t) = 0
 texelNumber (instead r) = r .number
 
--- a texel at the front of a slice, as it stands in memory: two bytes, low byte first. No byte is changed where none is given
+-- a texel at the front of a slice, as it stands in memory: two bytes, low byte first. No byte is changed where none is
+-- given
 abbrev pub texelPut : List ℕ → SaidOne ℕ → List ℕ
 texelPut out (asked t) = t % 256 ∷ t / 256 ∷ drop 2 out
 texelPut out (instead r) = out

@@ -40,7 +40,8 @@ fn nearest(n: u32) -> u32
 // The texel of a density.
 pub fn texel_of(density: u32) -> Texel
     ensures outcome { λ r. ⌜ r ≡ texelOf density ⌝ }
-    ensures said { λ r. ⌜ texelSaid r ≡ cond (leb density 10000) (asked (rounded (density * 65535))) (instead (at 40 0)) ⌝ }
+    ensures said { λ r. ⌜ texelSaid r
+        ≡ cond (leb density 10000) (asked (rounded (density * 65535))) (instead (at 40 0)) ⌝ }
 {
     if density <= 10000 {
         Texel::Given(nearest(density * 65535) as u16)
@@ -54,7 +55,8 @@ pub fn put_texel(density: u32, out: &mut [u8]) -> u32
     ensures outcome { λ r. ⌜ r
         ≡ byTexelRoom (now (out .entry)) 3 (texelNumber (texelSaid (texelOf density))) ⌝ }
     ensures out { λ r. ⌜ now (out .exit)
-        ≡ byTexelRoom (now (out .entry)) (now (out .entry)) (texelPut (now (out .entry)) (texelSaid (texelOf density))) ⌝ }
+        ≡ byTexelRoom (now (out .entry)) (now (out .entry))
+        (texelPut (now (out .entry)) (texelSaid (texelOf density))) ⌝ }
 {
     if out.len() < 2 {
         return 3;

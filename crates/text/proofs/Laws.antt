@@ -1,5 +1,5 @@
--- What each outcome of reading a text says of the text and the buffers, both ways, by the tests of the definition in their
--- order; and what reading leaves where it accepts. Assumes nothing.
+-- What each outcome of reading a text says of the text and the buffers, both ways, by the tests of the definition in
+-- their order; and what reading leaves where it accepts.
 use mathlib.Core.Path.{_≡_, refl, sym, ap, _∙_}
 use mathlib.Core.Bool.{Bool, true, false, cond, _&&_, _||_, or-true}
 use mathlib.Core.List.{List, _++_}
@@ -22,7 +22,8 @@ use Rattle.answers.specs.Limit.{maxFrames}
 use Rattle.text.specs.declared.AnswerRoom.{AnswerRoom}
 use Rattle.text.specs.declared.AnswerRoom.the-variants.{NotLent, Lent}
 use Rattle.text.specs.Lines.{lineOk, lineCount, frameByte, byteOf, decoded}
-use Rattle.text.specs.Reading.{answerFrames, answerBytes, roomBelow, tooShort, afterTorn, mostFrames, readText, framesRead}
+use Rattle.text.specs.Reading.{answerFrames, answerBytes, roomBelow, tooShort, afterTorn, mostFrames, readText}
+use Rattle.text.specs.Reading.{framesRead}
 use Rattle.text.proofs.Line.{or-cases, length-whole, byte-small}
 use Rattle.text.proofs.Turn.{byte-of-line}
 
@@ -49,7 +50,8 @@ Bytes l = (i : ℕ) → getD l i 0 < 256
 pub most-small : (limit : ℕ) → mostFrames limit ≤ maxFrames
 unfolding mostFrames
 most-small limit =
-    by-test (λ m. m ≤ maxFrames) (leb 1 limit && leb limit maxFrames) (λ e. leb-true _ _ (and-second (leb 1 limit) _ e)) (λ e. omega arith)
+    by-test (λ m. m ≤ maxFrames) (leb 1 limit && leb limit maxFrames) (λ e. leb-true _ _ (and-second (leb 1 limit) _ e))
+    (λ e. omega arith)
 
 -- which it is: the limit handed in from 1 to 1,024, and 1,024 for 0 and for any higher one
 pub most-given : (limit : ℕ) → 1 ≤ limit → limit ≤ maxFrames → mostFrames limit ≡ limit
@@ -113,8 +115,10 @@ module _ (t : List ℕ) (f : ℕ) (room : AnswerRoom) where
   one-lacks : (tooShort t f room ≡ true) ↔ ((f < 16 * lineCount t) ⊎ RoomLacks room (answerBytes t))
   unfolding tooShort
   one-lacks = (
-    λ e. ⊎-elim (λ a. inl (ltb-true _ _ a)) (λ b. inr (room-lacks room (answerBytes t) .0 b)) (or-cases (ltb f (16 * lineCount t)) _ e),
-    ⊎-elim (λ a. rw (lt-ltb f (16 * lineCount t) a)) (λ b. rw (room-lacks room (answerBytes t) .1 b) (or-true (ltb f (16 * lineCount t)))),
+    λ e. ⊎-elim (λ a. inl (ltb-true _ _ a)) (λ b. inr (room-lacks room (answerBytes t) .0 b))
+        (or-cases (ltb f (16 * lineCount t)) _ e),
+    ⊎-elim (λ a. rw (lt-ltb f (16 * lineCount t) a))
+        (λ b. rw (room-lacks room (answerBytes t) .1 b) (or-true (ltb f (16 * lineCount t)))),
   )
 
 -- ---- each outcome, both ways
@@ -122,10 +126,12 @@ module _ (limit : ℕ) (t : List ℕ) (f : ℕ) (room : AnswerRoom) where
   -- what holds in each of the four cases holds of what reading gives
   pub by-read : (P : Outcome → Type 0) → (33 * mostFrames limit < length t → P (Long (mostFrames limit)))
       → ((k : ℕ) → TornAt limit t k → P (Torn k))
-      → (TooSmall limit t f room → P Short) → (Readable limit t f room (lineCount t) → P (Accepted (lineCount t))) → P (readText limit t f room)
+      → (TooSmall limit t f room → P Short) → (Readable limit t f room (lineCount t) → P (Accepted (lineCount t)))
+      → P (readText limit t f room)
   unfolding readText
   by-read P long torn short accepted =
-      by-test P (ltb (33 * mostFrames limit) (length t)) (λ e. long (ltb-true _ _ e)) (λ e. go (ltb-false _ _ e) (lowest (lineOk t) (lineCount t)) refl)
+      by-test P (ltb (33 * mostFrames limit) (length t)) (λ e. long (ltb-true _ _ e))
+      (λ e. go (ltb-false _ _ e) (lowest (lineOk t) (lineCount t)) refl)
     where
       go : length t ≤ 33 * mostFrames limit → (o : Found) → lowest (lineOk t) (lineCount t) ≡ o
           → P (afterTorn o (cond (tooShort t f room) Short (Accepted (lineCount t))))
@@ -133,7 +139,13 @@ module _ (limit : ℕ) (t : List ℕ) (f : ℕ) (room : AnswerRoom) where
       go l Nothing e =
           let w : Whole t = λ k. none-all (lineOk t) (lineCount t) k e in
           by-test P (tooShort t f room) (λ s. short (record { within = l; whole = w; lacks = one-lacks t f room .0 s }))
-          (λ s. accepted (record { within = l; whole = w; count = refl; frames = frames-fit t f room s; answers = answers-fit t f room s }))
+          (λ s. accepted (record {
+            within = l;
+            whole = w;
+            count = refl;
+            frames = frames-fit t f room s;
+            answers = answers-fit t f room s;
+          }))
 
   -- two outcomes that differ are not equal
   never : {X : Type 0} → _≡_ {A = ℕ} 0 1 → X
@@ -143,7 +155,8 @@ module _ (limit : ℕ) (t : List ℕ) (f : ℕ) (room : AnswerRoom) where
   pub long-when : (readText limit t f room ≡ Long (mostFrames limit)) ↔ (33 * mostFrames limit < length t)
   unfolding readText
   long-when = (
-    by-read (λ r. r ≡ Long (mostFrames limit) → 33 * mostFrames limit < length t) (λ l e. l) (λ k r e. never (cc)) (λ r e. never (cc)) (λ r e. never (cc)),
+    by-read (λ r. r ≡ Long (mostFrames limit) → 33 * mostFrames limit < length t) (λ l e. l) (λ k r e. never (cc))
+        (λ r e. never (cc)) (λ r e. never (cc)),
     λ l. rw (lt-ltb (33 * mostFrames limit) (length t) l),
   )
 
@@ -151,7 +164,8 @@ module _ (limit : ℕ) (t : List ℕ) (f : ℕ) (room : AnswerRoom) where
   pub torn-when : (k : ℕ) → (readText limit t f room ≡ Torn k) ↔ TornAt limit t k
   unfolding readText
   torn-when k = (
-    by-read (λ r. r ≡ Torn k → TornAt limit t k) (λ l e. never (cc)) (λ j r e. let q : j ≡ k = cc in rw q at r) (λ r e. never (cc)) (λ r e. never (cc)),
+    by-read (λ r. r ≡ Torn k → TornAt limit t k) (λ l e. never (cc)) (λ j r e. let q : j ≡ k = cc in rw q at r)
+        (λ r e. never (cc)) (λ r e. never (cc)),
     λ r. rw (le-ltb (33 * mostFrames limit) (length t) (r .within), at-found (lineOk t) (lineCount t) k (r .line)),
   )
 
@@ -159,19 +173,29 @@ module _ (limit : ℕ) (t : List ℕ) (f : ℕ) (room : AnswerRoom) where
   pub short-when : (readText limit t f room ≡ Short) ↔ TooSmall limit t f room
   unfolding readText
   short-when = (
-    by-read (λ r. r ≡ Short → TooSmall limit t f room) (λ l e. never (cc)) (λ k r e. never (cc)) (λ r e. r) (λ r e. never (cc)),
-    λ r. rw (le-ltb (33 * mostFrames limit) (length t) (r .within), lowest-all (lineOk t) (lineCount t) (r .whole), one-lacks t f room .1 (r .lacks)),
+    by-read (λ r. r ≡ Short → TooSmall limit t f room) (λ l e. never (cc)) (λ k r e. never (cc)) (λ r e. r)
+        (λ r e. never (cc)),
+    λ r. rw (
+      le-ltb (33 * mostFrames limit) (length t) (r .within),
+      lowest-all (lineOk t) (lineCount t) (r .whole),
+      one-lacks t f room .1 (r .lacks),
+    ),
   )
 
   -- a text is accepted exactly where none of the three is given, and n is its number of lines
   pub accepted-when : (n : ℕ) → (readText limit t f room ≡ Accepted n) ↔ Readable limit t f room n
   unfolding readText
   accepted-when n = (
-    by-read (λ r. r ≡ Accepted n → Readable limit t f room n) (λ l e. never (cc)) (λ k r e. never (cc)) (λ r e. never (cc))
+    by-read (λ r. r ≡ Accepted n → Readable limit t f room n) (λ l e. never (cc)) (λ k r e. never (cc))
+        (λ r e. never (cc))
         (λ r e. let q : lineCount t ≡ n = cc in rw q at r),
     λ r. let a : 16 * lineCount t ≤ f = rw (← r .count) (r .frames) in
-        rw
-        (le-ltb (33 * mostFrames limit) (length t) (r .within), lowest-all (lineOk t) (lineCount t) (r .whole), both-fit t f room a (r .answers), ← r .count),
+        rw (
+          le-ltb (33 * mostFrames limit) (length t) (r .within),
+          lowest-all (lineOk t) (lineCount t) (r .whole),
+          both-fit t f room a (r .answers),
+          ← r .count,
+        ),
   )
 
 -- a text within two limits reads alike at either
@@ -179,7 +203,8 @@ pub alike-within : (limit other : ℕ) (t : List ℕ) (f : ℕ) (room : AnswerRo
     → length t ≤ 33 * mostFrames other
     → readText limit t f room ≡ readText other t f room
 unfolding readText
-alike-within limit other t f room a b = rw (le-ltb (33 * mostFrames limit) (length t) a, le-ltb (33 * mostFrames other) (length t) b)
+alike-within limit other t f room a b
+    = rw (le-ltb (33 * mostFrames limit) (length t) a, le-ltb (33 * mostFrames other) (length t) b)
 
 -- ---- a text that is accepted, and its frames
 -- n frames are 16 n bytes
@@ -210,14 +235,20 @@ module _ {limit : ℕ} {t : List ℕ} {f : ℕ} {room : AnswerRoom} {n : ℕ} (r
   pub decoded-bytes : Bytes (decoded t n)
   decoded-bytes i =
       lt-of-not-le (λ big.
-      let l : i < 16 * n = lt-of-not-le (λ h. omega (arith, List·getD-eq-default (decoded t n) 0 {n = i} (rw length-decoded h))) in
+      let l : i < 16 * n = lt-of-not-le
+      (λ h. omega (arith, List·getD-eq-default (decoded t n) 0 {n = i} (rw length-decoded h))) in
       let e : 16 * (i / 16) + i % 16 ≡ i = omega arith in
       let w = whole-line (i / 16) (omega arith) in
-      omega (arith, rw e at (decoded-at t n (i / 16) (i % 16) (omega arith) (omega arith)), byte-small t (i / 16) w (i % 16) (omega arith)))
+      omega (
+        arith,
+        rw e at (decoded-at t n (i / 16) (i % 16) (omega arith) (omega arith)),
+        byte-small t (i / 16) w (i % 16) (omega arith),
+      ))
 
 -- the answer frames that a line asks for, by its frame
 pub answers-by-frame : (t : List ℕ) (n k : ℕ) → k < n
-    → answerFrames t k ≡ cond (eqb (getD (decoded t n) (16 * k) 0) 4) (cond (eqb (getD (decoded t n) (16 * k + 1) 0) 5) 2 1) 0
+    → answerFrames t k ≡ cond (eqb (getD (decoded t n) (16 * k) 0) 4)
+    (cond (eqb (getD (decoded t n) (16 * k + 1) 0) 5) 2 1) 0
 unfolding answerFrames
 answers-by-frame t n k l =
     let z : 16 * k + 0 ≡ 16 * k = omega arith in

@@ -1,5 +1,5 @@
--- What a digit is, and what a whole line holds: by the tests of the definitions, and since no character past the end of a
--- text is a line feed. Assumes nothing.
+-- What a digit is, and what a whole line holds: by the tests of the definitions, and since no character past the end of
+-- a text is a line feed.
 use mathlib.Core.Path.{_≡_, refl, sym, _∙_}
 use mathlib.Core.Bool.{Bool, true, false, _&&_, _||_, and-false}
 use mathlib.Core.List.{List}
@@ -32,7 +32,8 @@ digit-cases c e =
 pub value-small : (c : ℕ) → isDigit c ≡ true → digitValue c < 16
 unfolding digitValue
 value-small c e =
-    ⊎-elim (λ a. rw (lt-ltb c 58 (a .1)) (omega arith)) (λ b. rw (le-ltb c 58 (omega arith)) (omega arith)) (digit-cases c e)
+    ⊎-elim (λ a. rw (lt-ltb c 58 (a .1)) (omega arith)) (λ b. rw (le-ltb c 58 (omega arith)) (omega arith))
+    (digit-cases c e)
 
 -- ---- a line that is whole
 module _ (t : List ℕ) (k : ℕ) (whole : lineOk t k ≡ true) where
@@ -49,16 +50,22 @@ module _ (t : List ℕ) (k : ℕ) (whole : lineOk t k ≡ true) where
   -- it lies in the text
   pub line-in : 33 * k + 33 ≤ length t
   line-in =
-      let l : 33 * k + 32 < length t = lt-of-not-le (λ h. let z : 0 ≡ 10 = sym (List·getD-eq-default t 0 h) ∙ line-feed in omega arith) in
+      let l : 33 * k + 32 < length t = lt-of-not-le
+      (λ h. let z : 0 ≡ 10 = sym (List·getD-eq-default t 0 h) ∙ line-feed in omega arith) in
       omega arith
 
   -- what it stands for are bytes
   pub byte-small : (j : ℕ) → j < 16 → frameByte t k j < 256
   byte-small j l =
-      omega (arith, value-small (charAt t k (2 * j)) (line-digit (2 * j) (omega arith)), value-small (charAt t k (2 * j + 1)) (line-digit (2 * j + 1) (omega arith)))
+      omega (
+        arith,
+        value-small (charAt t k (2 * j)) (line-digit (2 * j) (omega arith)),
+        value-small (charAt t k (2 * j + 1)) (line-digit (2 * j + 1) (omega arith)),
+      )
 
 -- 32 digits and a line feed are a whole line
-pub line-whole : (t : List ℕ) (k : ℕ) → ((j : ℕ) → j < 32 → isDigit (charAt t k j) ≡ true) → charAt t k 32 ≡ 10 → lineOk t k ≡ true
+pub line-whole : (t : List ℕ) (k : ℕ) → ((j : ℕ) → j < 32 → isDigit (charAt t k j) ≡ true) → charAt t k 32 ≡ 10
+    → lineOk t k ≡ true
 unfolding lineOk
 line-whole t k digits feed = rw (each-all (λ (j : ℕ). isDigit (charAt t k j)) 32 digits, feed)
 

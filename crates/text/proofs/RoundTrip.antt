@@ -1,5 +1,5 @@
--- Frames that are written and read again come back, and so does a text that is read and written again: digit by digit, since
--- a digit's value has that digit. Assumes nothing.
+-- Frames that are written and read again come back, and so does a text that is read and written again: digit by digit,
+-- since a digit's value has that digit.
 use mathlib.Core.Path.{_≡_, sym, ap, _∙_}
 use mathlib.Core.Bool.{true, cond}
 use mathlib.Core.List.{List}
@@ -82,7 +82,8 @@ module _ (fr : List ℕ) (n : ℕ) (bytes : Bytes fr) where
         let b = getD fr (16 * k + j / 2) 0 in
         let h : b < 256 = bytes (16 * k + j / 2) in
         rw (text-at j (omega arith), ← char-of-line fr k j (omega arith), ne-eqb j 32 (omega arith))
-        (by-test (λ c. isDigit c ≡ true) (eqb (j % 2) 0) (λ _. digit-is (b / 16) (omega arith)) (λ _. digit-is (b % 16) (omega arith)))
+        (by-test (λ c. isDigit c ≡ true) (eqb (j % 2) 0) (λ _. digit-is (b / 16) (omega arith))
+        (λ _. digit-is (b % 16) (omega arith)))
 
     -- every line is whole
     pub text-whole : lineOk (textOf fr n) k ≡ true
@@ -92,7 +93,8 @@ module _ (fr : List ℕ) (n : ℕ) (bytes : Bytes fr) where
     text-byte j m =
         let b = getD fr (16 * k + j) 0 in
         let h : b < 256 = bytes (16 * k + j) in
-        rw (text-high j m, text-low j m, value-of-digit (b / 16) (omega arith), value-of-digit (b % 16) (omega arith)) (omega arith)
+        rw (text-high j m, text-low j m, value-of-digit (b / 16) (omega arith), value-of-digit (b % 16) (omega arith))
+        (omega arith)
 
   -- the frames come back
   pub decoded-text : length fr ≡ 16 * n → decoded (textOf fr n) n ≡ fr
@@ -101,15 +103,23 @@ module _ (fr : List ℕ) (n : ℕ) (bytes : Bytes fr) where
       let l : i < 16 * n = rw length-decoded at h in
       let e : 16 * (i / 16) + i % 16 ≡ i = omega arith in
       let d =
-      decoded-at (textOf fr n) n (i / 16) (i % 16) (omega arith) (omega arith) ∙ text-byte (i / 16) (omega arith) (i % 16) (omega arith) in
+      decoded-at (textOf fr n) n (i / 16) (i % 16) (omega arith) (omega arith)
+      ∙ text-byte (i / 16) (omega arith) (i % 16) (omega arith) in
       rw e at d)
 
   -- and are accepted where they fit
-  pub read-written : (limit f : ℕ) → n ≤ mostFrames limit → 16 * n ≤ f → readText limit (textOf fr n) f NotLent ≡ Accepted n
+  pub read-written : (limit f : ℕ) → n ≤ mostFrames limit → 16 * n ≤ f → readText limit (textOf fr n) f NotLent
+      ≡ Accepted n
   read-written limit f m fits =
       accepted-when limit (textOf fr n) f NotLent n .1
-      (record
-      { within = omega (arith, length-text fr n); whole = λ k l. text-whole k (omega (arith, count-text fr n)); count = sym (count-text fr n); frames = fits; answers = tt })
+      (record {
+        within = omega (arith, length-text fr n);
+        whole = λ k l. text-whole k
+            (omega (arith, count-text fr n));
+        count = sym (count-text fr n);
+        frames = fits;
+        answers = tt;
+      })
 
 -- ---- a text, read and written
 module _ {limit : ℕ} {t : List ℕ} {f : ℕ} {room : AnswerRoom} {n : ℕ} (r : Readable limit t f room n) where
@@ -140,4 +150,5 @@ module _ {limit : ℕ} {t : List ℕ} {f : ℕ} {room : AnswerRoom} {n : ℕ} (r
       ext-getD 0 (textOf (decoded t n) n) t (length-text (decoded t n) n ∙ sym (length-read r)) (λ i h.
       let l : i < 33 * n = rw length-text at h in
       let e : 33 * (i / 33) + i % 33 ≡ i = omega arith in
-      getD-build (charOf (decoded t n)) (33 * n) i l ∙ line-back (i / 33) (i % 33) (omega arith) (omega arith) ∙ ap (λ m. getD t m 0) e)
+      getD-build (charOf (decoded t n)) (33 * n) i l ∙ line-back (i / 33) (i % 33) (omega arith) (omega arith)
+      ∙ ap (λ m. getD t m 0) e)

@@ -1,5 +1,5 @@
--- Turns of the loops that fill a buffer line by line: a byte by its line and place, and a buffer whose front is made, taken up
--- where an inner loop begins and left where it ends. Assumes nothing.
+-- Turns of the loops that fill a buffer line by line: a byte by its line and place, and a buffer whose front is made,
+-- taken up where an inner loop begins and left where it ends.
 use mathlib.Core.Path.{_≡_, sym, ap, _∙_}
 use mathlib.Core.List.{List, _++_}
 use Prim.Native.Nat.{ℕ, _+_, _*_, _/_, _%_, _<_}
@@ -52,7 +52,8 @@ module _ (f : ℕ → ℕ) (d d₀ : List ℕ) (i : ℕ) (e : d ≡ build f i ++
   pub past : (m : ℕ) → drop (i + m) d ≡ drop (i + m) d₀
   past m =
       rw e
-      (ap (λ j. drop (j + m) (build f i ++ drop i d₀)) (sym (length-build f i)) ∙ drop-append-add (build f i) (drop i d₀) m
+      (ap (λ j. drop (j + m) (build f i ++ drop i d₀)) (sym (length-build f i))
+      ∙ drop-append-add (build f i) (drop i d₀) m
       ∙ drop-drop m i d₀)
 
   -- where an inner loop begins
@@ -60,5 +61,6 @@ module _ (f : ℕ → ℕ) (d d₀ : List ℕ) (i : ℕ) (e : d ≡ build f i ++
   begun = let z : i + 0 ≡ i = omega arith in rw z (e ∙ ap (λ l. build f i ++ l) (sym (rw z at (past 0))))
 
   -- where it ends, m bytes on
-  pub ended : (d′ : List ℕ) (m j : ℕ) → j ≡ m → d′ ≡ build f (i + j) ++ drop (i + j) d → d′ ≡ build f (i + m) ++ drop (i + m) d₀
+  pub ended : (d′ : List ℕ) (m j : ℕ) → j ≡ m → d′ ≡ build f (i + j) ++ drop (i + j) d → d′ ≡ build f (i + m)
+      ++ drop (i + m) d₀
   ended d′ m j z h = (rw z at h) ∙ ap (λ l. build f (i + m) ++ l) (past m)

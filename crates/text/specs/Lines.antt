@@ -1,4 +1,5 @@
--- Document 01, "The file": lines of hexadecimal, one frame a line, 32 lower-case digits and a line feed. A frame is 16 bytes.
+-- Document 01, "The file": lines of hexadecimal, one frame a line, 32 lower-case digits and a line feed. A frame is 16
+-- bytes.
 use Prim.Native.Nat.{ℕ, _+_, _*_, _/_, _%_}
 use mathlib.Core.Bool.{Bool, cond, _&&_}
 use mathlib.Core.List.{List}

@@ -1,4 +1,4 @@
--- A line's frame put after those of the lines before it, where there is room: the bytes of one line more are made. Assumes nothing.
+-- A line's frame put after those of the lines before it, where there is room: the bytes of one line more are made.
 use Prim.Native.Nat.{ℕ, zero, suc, _+_, _*_, _≤_, _<_}
 use native.Mathlib.Omega.{arith}
 use mathlib.Core.Path.{_≡_, refl, sym, ap, _∙_}
@@ -36,11 +36,13 @@ unfolding frameAt build
 line-frame g l e = rw e
 
 -- the sixteen bytes of line k follow those of the lines before it
-line-more : (t : List ℕ) (k : ℕ) → build (byteOf t) (16 * k + 16) ≡ build (byteOf t) (16 * k) ++ bytesOf (framed (frameByte t k))
+line-more : (t : List ℕ) (k : ℕ) → build (byteOf t) (16 * k + 16) ≡ build (byteOf t) (16 * k)
+    ++ bytesOf (framed (frameByte t k))
 line-more t k =
     build-on (byteOf t) (16 * k) 16
     ∙ ap (λ (l : List ℕ). build (byteOf t) (16 * k) ++ l)
-    (build-same (λ (j : ℕ). byteOf t (16 * k + j)) (frameByte t k) 16 (λ j l. sym (byte-of-line t k j l)) ∙ sixteen (frameByte t k))
+    (build-same (λ (j : ℕ). byteOf t (16 * k + j)) (frameByte t k) 16 (λ j l. sym (byte-of-line t k j l))
+    ∙ sixteen (frameByte t k))
 
 pub line-put : (t fr d : List ℕ) (k : ℕ) → d ≡ build (byteOf t) (16 * k) ++ drop (16 * k) fr → 16 * k + 16 ≤ length fr
     → putFrame d k (framed (frameByte t k)) ≡ build (byteOf t) (16 * k + 16) ++ drop (16 * k + 16) fr
@@ -48,7 +50,8 @@ unfolding putFrame
 line-put t fr d k e h =
     let n : length d ≡ length fr =
     rw e
-    (length-append (build (byteOf t) (16 * k)) (drop (16 * k) fr) ∙ omega (arith, length-build (byteOf t) (16 * k), length-drop (16 * k) fr))
+    (length-append (build (byteOf t) (16 * k)) (drop (16 * k) fr)
+    ∙ omega (arith, length-build (byteOf t) (16 * k), length-drop (16 * k) fr))
     in
     let l : k < frameCount d = omega (arith, n) in
     let a : take (16 * k) d ≡ build (byteOf t) (16 * k) =

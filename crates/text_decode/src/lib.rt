@@ -115,7 +115,8 @@ fn answer_frames(text: &[u8], n: usize) -> usize
 
 // Whether a lent buffer is too small for the text. The frame buffer has f bytes.
 fn too_short(text: &[u8], f: usize, room: AnswerRoom) -> bool
-    requires { ⌜ (lowest (lineOk (now text)) (lineCount (now text)) ≡ Found.Nothing) × (length (now text) ≤ maxTextBytes) ⌝ }
+    requires { ⌜ (lowest (lineOk (now text)) (lineCount (now text)) ≡ Found.Nothing)
+        × (length (now text) ≤ maxTextBytes) ⌝ }
     ensures { λ r. ⌜ r ≡ tooShort (now (text .entry)) f room ⌝ }
 {
     let n = line_count(text);
@@ -140,7 +141,8 @@ fn decode_line(text: &[u8], k: usize, line: &mut [u8])
     }
 }
 
-// Writes the frames of the first n lines. A line's bytes are put at once, which compiles to far fewer instructions than to put each as it is made.
+// Writes the frames of the first n lines. A line's bytes are put at once, which compiles to far fewer instructions than
+// to put each as it is made.
 fn decode(text: &[u8], frames: &mut [u8], n: usize)
     requires { ⌜ (lowest (lineOk (now text)) n ≡ Found.Nothing) × (16 * n ≤ length (now frames)) ⌝ }
     ensures { λ _. ⌜ now (frames .exit) ≡ decoded (now (text .entry)) n ++ drop (16 * n) (now (frames .entry)) ⌝ }

@@ -11,7 +11,8 @@ use ir::TypeNumber;
 use ir::TypeResolution;
 use rule_types::CanonicalForm;
 ghost use mathlib.Core.Path.{_≡_};
-ghost use Rattle.rule_types.specs.Canonical.{baseGiven, baseOfForm, pointerBaseIn, formGiven, canonicalOfForm, canonicalTypeIn};
+ghost use Rattle.rule_types.specs.Canonical.{baseGiven, baseOfForm, pointerBaseIn, formGiven, canonicalOfForm};
+ghost use Rattle.rule_types.specs.Canonical.{canonicalTypeIn};
 
 fn base_given(base: OptionTypeResolution) -> PointerBase
     ensures { λ r. ⌜ r ≡ baseGiven base ⌝ }

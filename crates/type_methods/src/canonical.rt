@@ -11,7 +11,8 @@ use rule_types::CanonicalForm;
 use rule_types::OptionBool;
 ghost use mathlib.Core.Path.{_≡_};
 ghost use Rattle.rule_types.specs.Canonical.{valuePointer, formFound, throughBase, canonicalFormIn};
-ghost use Rattle.rule_types.specs.ForProofs.{isAtomic, isAtomicForm, isAtomicPointer, orSelf, canonicalThrough, canonicalOf};
+ghost use Rattle.rule_types.specs.ForProofs.{isAtomic, isAtomicForm, isAtomicPointer, orSelf, canonicalThrough};
+ghost use Rattle.rule_types.specs.ForProofs.{canonicalOf};
 ghost use Rattle.rule.specs.Answers.{resolved};
 
 fn is_atomic(t: TypeInner) -> bool

@@ -65,7 +65,8 @@ fn by_forms(left: TypeForm, right: TypeForm) -> OptionBool
     }
 }
 
-// Whether two types are the same: identical ones are, the number of a struct is no other type, else canonical forms are compared.
+// Whether two types are the same: identical ones are, the number of a struct is no other type, else canonical forms are
+// compared.
 pub fn compare_types(frames: &[u8], s: Starts, a: TypeResolution, b: TypeResolution) -> OptionBool
     ensures { λ r. ⌜ r ≡ optional (given (now (frames .entry)) s (compare nowhere (resolved a) (resolved b) done)) ⌝ }
 {

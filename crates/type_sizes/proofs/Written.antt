@@ -26,7 +26,8 @@ put-after front rest k f e h =
     let b = front ++ rest in
     let g : k < frameCount b = omega (arith, length-append front rest) in
     let a : take (16 * k) b ≡ front = take-at front rest (16 * k) e in
-    let d : drop (16 * k + 16) b ≡ drop 16 rest = sym (drop-drop 16 (16 * k) b) ∙ ap (drop 16) (drop-at front rest (16 * k) e) in
+    let d : drop (16 * k + 16) b ≡ drop 16 rest = sym (drop-drop 16 (16 * k) b)
+    ∙ ap (drop 16) (drop-at front rest (16 * k) e) in
     rw (lt-ltb k (frameCount b) g, a, d)
 
 module _ (frame : ℕ → Frame) (s : Starts) where

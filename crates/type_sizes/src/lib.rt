@@ -8,38 +8,30 @@ use archive_access::families::member_at;
 use archive_access::families::type_at;
 use frames::frame_at;
 use frames::put_frame;
-use ir::ArraySize;
 use ir::MemberNumber;
-use ir::TypeForm;
-use ir::TypeInner;
 use ir::TypeNumber;
 use rule_ranges::Range;
 use rule_sizes::Alignment;
 use rule_sizes::Measure;
-use rule_sizes::Parts;
 use rule_sizes::TypeSize;
-use size_pending::count_at;
-use size_pending::is_marked;
+use size_needs::Needs;
+use size_needs::needs_of;
 use size_pending::pending_marks;
-use size_steps::leaves::leaf;
+use size_steps::SoFar;
 use size_steps::leaves::unmeasured;
 use size_steps::steps::array_of;
-use size_steps::steps::fresh_struct;
-use size_steps::steps::joined;
-use size_steps::steps::offset_by;
-use size_steps::steps::struct_of;
+use size_steps::steps::member_more;
+use size_steps::steps::struct_by;
 use size_steps::table::measure_frame;
 use size_steps::table::measure_of;
 use size_steps::table::range_frame;
-use size_steps::table::said_frame;
 ghost use mathlib.Core.Path.{_≡_};
-ghost use Prim.Native.Nat.{_≤_};
-ghost use Rattle.rule_sizes.specs.Sizes.{sizedArray, ofInner, measureIn, typeSizeIn, sizeFrame};
+ghost use Rattle.frames.specs.Bytes.{putFrame};
+ghost use Rattle.rule_sizes.specs.Sizes.{measureIn, typeSizeIn, measureFrame, sizeFrame};
 ghost use Rattle.rule_sizes.specs.ForProofs.{framesWritten};
-ghost use Rattle.rule_ranges.specs.Pending.{lookHolds};
-ghost use Rattle.rule_ranges.specs.Counts.{countedArray, countedInner, formBy};
 ghost use Rattle.rule_ranges.specs.Ranges.{countsOf, rangeOf, rangeFrame};
-ghost use Rattle.rule_ranges.specs.ForProofs.{measureMarked, earlier, KnownMarked, partsBy, endOf};
+ghost use Rattle.size_steps.specs.Exact.{Like};
+ghost use Rattle.rule_ranges.specs.ForProofs.{measureMarked, earlier, KnownMarked, partsBy};
 
 // What a type fills that type n names.
 fn part(
@@ -73,15 +65,14 @@ fn parts(
     first: MemberNumber,
     count: u16,
     afresh: bool,
-) -> Parts
+) -> SoFar
     requires { ⌜ KnownMarked (now frames) s (now marks) (now counts) (now table) ⌝ }
-    ensures { λ r. ⌜ (r
-        ≡ partsBy afresh (now (frames .entry)) s
-        (earlier (now (frames .entry)) s (now (marks .entry)) (now (counts .entry)) n) first count)
-        × (KnownMarked (now (frames .entry)) s (now (marks .entry)) (now (counts .entry)) (now (table .exit))
-        × (endOf r ≤ 9223372036854775807)) ⌝ }
+    ensures { λ r. ⌜ Like afresh
+        (partsBy afresh (now (frames .entry)) s
+        (earlier (now (frames .entry)) s (now (marks .entry)) (now (counts .entry)) n) first count) r
+        × KnownMarked (now (frames .entry)) s (now (marks .entry)) (now (counts .entry)) (now (table .exit)) ⌝ }
 {
-    let mut so_far = Parts::Laid {
+    let mut so_far = SoFar::Laid {
         align: Alignment::Two,
         end: 0,
         placed: true,
@@ -91,156 +82,18 @@ fn parts(
         let m = member_at(frames, s, first, i as u32);
         let t = m.ty;
         let e = part(frames, s, marks, counts, table, n, t);
-        let at = offset_by(afresh, so_far, m.offset, e);
-        so_far = joined(so_far, at, e);
+        so_far = member_more(afresh, so_far, m.offset, e);
         i += 1;
     }
     so_far
 }
 
-fn by_form(
-    frames: &[u8],
-    s: Starts,
-    marks: &[bool],
-    counts: &[u32],
-    table: &mut [u8],
-    n: TypeNumber,
-    form: TypeForm,
-) -> Measure
-    requires { ⌜ KnownMarked (now frames) s (now marks) (now counts) (now table) ⌝ }
-    ensures { λ r. ⌜ (r
-        ≡ formBy (now (frames .entry)) s (lookHolds (now (marks .entry))) (countsOf (now (counts .entry)))
-        (earlier (now (frames .entry)) s (now (marks .entry)) (now (counts .entry)) n) n form)
-        × KnownMarked (now (frames .entry)) s (now (marks .entry)) (now (counts .entry)) (now (table .exit)) ⌝ }
+// Measure m of type n, put into the table.
+fn kept(table: &mut [u8], n: TypeNumber, m: Measure) -> Measure
+    ensures { λ r. ⌜ (r ≡ m) × (now (table .exit) ≡ putFrame (now (table .entry)) (n .0) (measureFrame m)) ⌝ }
 {
-    match form {
-        TypeForm::Known(t) => {
-            if is_marked(marks, n) {
-                counted_inner(frames, s, marks, counts, table, n, t)
-            } else {
-                by_inner(frames, s, marks, counts, table, n, t)
-            }
-        }
-        TypeForm::Unknown => unmeasured(n),
-    }
-}
-
-fn by_inner(
-    frames: &[u8],
-    s: Starts,
-    marks: &[bool],
-    counts: &[u32],
-    table: &mut [u8],
-    n: TypeNumber,
-    t: TypeInner,
-) -> Measure
-    requires { ⌜ KnownMarked (now frames) s (now marks) (now counts) (now table) ⌝ }
-    ensures { λ r. ⌜ (r
-        ≡ ofInner (now (frames .entry)) s
-        (earlier (now (frames .entry)) s (now (marks .entry)) (now (counts .entry)) n) n t)
-        × KnownMarked (now (frames .entry)) s (now (marks .entry)) (now (counts .entry)) (now (table .exit)) ⌝ }
-{
-    match t {
-        TypeInner::Array { base, size, stride } => {
-            by_size(frames, s, marks, counts, table, n, base, size, stride)
-        }
-        TypeInner::Struct { first, count, span } => {
-            let p = parts(frames, s, marks, counts, table, n, first, count, false);
-            struct_of(n, p, count, span)
-        }
-        _ => leaf(n, t),
-    }
-}
-
-fn by_size(
-    frames: &[u8],
-    s: Starts,
-    marks: &[bool],
-    counts: &[u32],
-    table: &mut [u8],
-    n: TypeNumber,
-    base: TypeNumber,
-    size: ArraySize,
-    stride: u32,
-) -> Measure
-    requires { ⌜ KnownMarked (now frames) s (now marks) (now counts) (now table) ⌝ }
-    ensures { λ r. ⌜ (r
-        ≡ sizedArray n (earlier (now (frames .entry)) s (now (marks .entry)) (now (counts .entry)) n) base size stride)
-        × KnownMarked (now (frames .entry)) s (now (marks .entry)) (now (counts .entry)) (now (table .exit)) ⌝ }
-{
-    match size {
-        ArraySize::Constant(c) => {
-            let e = part(frames, s, marks, counts, table, n, base);
-            array_of(n, e, c, stride)
-        }
-        ArraySize::Pending(_) => unmeasured(n),
-        ArraySize::Dynamic => unmeasured(n),
-    }
-}
-
-// A type that is a pending array or holds one: a struct is laid out afresh.
-fn counted_inner(
-    frames: &[u8],
-    s: Starts,
-    marks: &[bool],
-    counts: &[u32],
-    table: &mut [u8],
-    n: TypeNumber,
-    t: TypeInner,
-) -> Measure
-    requires { ⌜ KnownMarked (now frames) s (now marks) (now counts) (now table) ⌝ }
-    ensures { λ r. ⌜ (r
-        ≡ countedInner (now (frames .entry)) s (lookHolds (now (marks .entry))) (countsOf (now (counts .entry)))
-        (earlier (now (frames .entry)) s (now (marks .entry)) (now (counts .entry)) n) n t)
-        × KnownMarked (now (frames .entry)) s (now (marks .entry)) (now (counts .entry)) (now (table .exit)) ⌝ }
-{
-    match t {
-        TypeInner::Array { base, size, stride } => {
-            counted_array(frames, s, marks, counts, table, n, base, size, stride)
-        }
-        TypeInner::Struct {
-            first,
-            count,
-            span: _,
-        } => {
-            let p = parts(frames, s, marks, counts, table, n, first, count, true);
-            fresh_struct(n, p)
-        }
-        _ => unmeasured(n),
-    }
-}
-
-// A pending array by its count; an array over a pending one, or over what holds one, is outside the list.
-fn counted_array(
-    frames: &[u8],
-    s: Starts,
-    marks: &[bool],
-    counts: &[u32],
-    table: &mut [u8],
-    n: TypeNumber,
-    base: TypeNumber,
-    size: ArraySize,
-    stride: u32,
-) -> Measure
-    requires { ⌜ KnownMarked (now frames) s (now marks) (now counts) (now table) ⌝ }
-    ensures { λ r. ⌜ (r
-        ≡ countedArray (lookHolds (now (marks .entry))) (countsOf (now (counts .entry)))
-        (earlier (now (frames .entry)) s (now (marks .entry)) (now (counts .entry)) n) n base size stride)
-        × KnownMarked (now (frames .entry)) s (now (marks .entry)) (now (counts .entry)) (now (table .exit)) ⌝ }
-{
-    match size {
-        ArraySize::Constant(_) => unmeasured(n),
-        ArraySize::Pending(o) => {
-            if is_marked(marks, base) {
-                unmeasured(n)
-            } else {
-                let e = part(frames, s, marks, counts, table, n, base);
-                let c = count_at(counts, o.0 as usize);
-                array_of(n, e, c, stride)
-            }
-        }
-        ArraySize::Dynamic => unmeasured(n),
-    }
+    put_frame(table, n.0 as usize, measure_frame(m));
+    m
 }
 
 // What type n fills: as the table has it, or found from the types it names.
@@ -257,15 +110,34 @@ fn measured(
         × KnownMarked (now (frames .entry)) s (now (marks .entry)) (now (counts .entry)) (now (table .exit)) ⌝ }
 {
     let held = frame_at(table, n.0 as usize);
-    if held.b0 == 12 {
+    if held.b0 != 0 {
         return measure_of(held);
     }
-    let m = by_form(frames, s, marks, counts, table, n, type_at(frames, s, n));
-    put_frame(table, n.0 as usize, measure_frame(m));
-    m
+    let needs = needs_of(marks, counts, n, type_at(frames, s, n));
+    match needs {
+        Needs::Nothing(m) => kept(table, n, m),
+        Needs::Element {
+            base,
+            count,
+            stride,
+        } => {
+            let e = part(frames, s, marks, counts, table, n, base);
+            kept(table, n, array_of(n, e, count, stride))
+        }
+        Needs::Members {
+            first,
+            count,
+            span,
+            afresh,
+        } => {
+            let p = parts(frames, s, marks, counts, table, n, first, count, afresh);
+            kept(table, n, struct_by(afresh, n, p, count, span))
+        }
+    }
 }
 
-// What type n fills, where the types that are marked go by these counts.
+// What type n fills, where the types that are marked go by these counts. Earlier types are measured first, in order: so
+// each finds what it names in the table, and the calls go two deep however the types are stacked.
 pub fn measure_marked(
     frames: &[u8],
     s: Starts,
@@ -276,6 +148,11 @@ pub fn measure_marked(
     ensures { λ r. ⌜ r ≡ measureMarked (now (frames .entry)) s (now (marks .entry)) (now (counts .entry)) n ⌝ }
 {
     let mut table = [0u8; 16384];
+    let mut k = 0u16;
+    while k < n.0 {
+        measured(frames, s, marks, counts, &mut table, TypeNumber(k));
+        k += 1;
+    }
     measured(frames, s, marks, counts, &mut table, n)
 }
 
@@ -288,8 +165,8 @@ pub fn measure(frames: &[u8], s: Starts, n: TypeNumber) -> Measure
     measure_marked(frames, s, &marks, &counts, n)
 }
 
-// What every type fills, a frame each, at the front of a buffer, whose bytes past them stay; a buffer without room for all
-// of them stays as it was, and so does every buffer where there are more than 1,024.
+// What every type fills, a frame each, at the front of a buffer, whose bytes past them stay; a buffer without room for
+// all of them stays as it was, and so does every buffer where there are more than 1,024.
 pub fn measure_all(frames: &[u8], s: Starts, out: &mut [u8])
     ensures { λ _. ⌜ now (out .exit) ≡ framesWritten (sizeFrame (now (frames .entry)) s) s (now (out .entry)) ⌝ }
 {
@@ -306,7 +183,7 @@ pub fn measure_all(frames: &[u8], s: Starts, out: &mut [u8])
     let mut k = 0;
     while k < n {
         let m = measured(frames, s, &marks, &counts, &mut table, TypeNumber(k as u16));
-        put_frame(out, k, said_frame(m));
+        put_frame(out, k, measure_frame(m));
         k += 1;
     }
 }

@@ -1,2 +1,5 @@
+pub mod BothShown
+pub mod EqualForms
+pub mod OneComponent
 pub mod Runs
 pub mod Shown

@@ -1,4 +1,5 @@
--- Not part of any public statement: for proofs and code only. What the frame of a component's answer shows of its type, before any look.
+-- Not part of any public statement: for proofs and code only. What the frame of a component's answer shows of its type,
+-- before any look.
 use Prim.Native.Nat.{ℕ}
 use mathlib.Core.Bool.{Bool, false, cond, _&&_, _||_}
 use mathlib.Core.List.{List}
@@ -21,14 +22,16 @@ abbrev pub sameForm : Frame → Frame → Bool
 sameForm f g =
     isScalarToMatrix f
     && (eqb (byte f 1) (byte g 1)
-    && (eqb (byte f 2) (byte g 2) && (eqb (byte f 3) (byte g 3) && (eqb (byte f 4) (byte g 4) && eqb (byte f 5) (byte g 5)))))
+    && (eqb (byte f 2) (byte g 2)
+    && (eqb (byte f 3) (byte g 3) && (eqb (byte f 4) (byte g 4) && eqb (byte f 5) (byte g 5)))))
 
 -- the frame of a pointer and another are of the same pointer to a scalar, a vector or a matrix
 abbrev pub samePointer : List ℕ → Starts → Frame → Frame → Bool
 samePointer fr s f g =
     cond
     (eqb (byte g 1) 6
-    && (eqb (byte f 2) (byte g 2) && (eqb (byte f 3) (byte g 3) && (eqb (byte f 6) (byte g 6) && eqb (byte f 7) (byte g 7)))))
+    && (eqb (byte f 2) (byte g 2)
+    && (eqb (byte f 3) (byte g 3) && (eqb (byte f 6) (byte g 6) && eqb (byte f 7) (byte g 7)))))
     (isScalarToMatrix (typeFrameIn fr s (record { 0 = half f 2 }))) false
 
 -- the frames of a value and of a type show that they are the same
@@ -37,7 +40,8 @@ valueShown fr s f g = cond (eqb (byte f 1) 6) (samePointer fr s f g) (sameForm f
 
 -- an answer's frame shows that it is the same as type n: its number, or a value with that type's bytes
 abbrev pub typeShown : List ℕ → Starts → TypeNumber → Frame → Bool
-typeShown fr s n f = cond (eqb (byte f 0) 8) (eqb (half f 2) (n .0)) (cond (eqb (byte f 0) 9) (valueShown fr s f (typeFrameIn fr s n)) false)
+typeShown fr s n f = cond (eqb (byte f 0) 8) (eqb (half f 2) (n .0))
+    (cond (eqb (byte f 0) 9) (valueShown fr s f (typeFrameIn fr s n)) false)
 
 -- the type that is asked of component i; of a column type 0, which no verdict comes to
 abbrev pub askedType : List ℕ → Starts → Part → ℕ → TypeNumber

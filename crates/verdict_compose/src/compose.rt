@@ -1,4 +1,5 @@
-// The verdict on a compose: the source's validate_compose (valid/compose.rs), by the rule that stands in crate rule_compose.
+// The verdict on a compose: the source's validate_compose (valid/compose.rs), by the rule that stands in crate
+// rule_compose.
 use super::Part;
 use super::counted::counted_parts;
 use super::vector::vector_parts;

@@ -1,20 +1,22 @@
 // The verdict on a matrix, an array or a struct: from as many components as it has parts, each as is asked of it.
-use super::OptionVerdict;
+use super::Decided;
 use super::Part;
 use super::by_frame::type_shown;
-use answers::Unresolved;
+use super::component::adds_if;
+use super::component::by_end;
+use super::component::without_type;
+use super::equal::are_equal;
+use super::equal::is_vector;
 use answers::Verdict;
 use archive::Starts;
 use archive_access::families::component_at;
 use archive_access::families::member_at;
 use frames::Frame;
-use frames_answers::read::unresolved;
 use ir::ComponentNumber;
 use ir::MemberNumber;
 use ir::RowNumber;
 use ir::Scalar;
 use ir::TypeForm;
-use ir::TypeInner;
 use ir::TypeNumber;
 use ir::TypeResolution;
 use ir::VectorSize;
@@ -26,19 +28,15 @@ use row_operands::plain::type_frame;
 use row_operands::plain::typed_frame;
 use rule_types::OptionBool;
 use type_methods::compare::compare_types;
-use type_methods::equality::equal_types;
 ghost use mathlib.Core.Path.{_≡_};
 ghost use Rattle.frames.specs.ForProofs.{valueOf, answerOf};
-ghost use Rattle.rule.specs.Answers.{number, resolved};
-ghost use Rattle.rule_types.specs.Canonical.{equalTypes};
-ghost use Rattle.rule_types.specs.ForProofs.{likeness};
 ghost use Rattle.rule_compose.specs.Verdict.{eachPart, counted};
 ghost use Rattle.rule_compose.specs.Judged.{toJudged};
 ghost use Rattle.verdict_compose.specs.declared.Part.the-variants.{Column, Element};
 ghost use Rattle.verdict_compose.specs.Shown.{askedType};
-ghost use Rattle.rule_rows.specs.OverBuffer.{judgedBy};
+ghost use Rattle.rule_rows.specs.OverBuffer.{answerIn, judgedBy};
 ghost use Rattle.rule_compose.specs.ForProofs.{partsIn};
-ghost use Rattle.verdict_compose.specs.Decided.{askedOf, memberType, partSaid, partVerdict, answerVerdict, endVerdict, partJudged};
+ghost use Rattle.verdict_compose.specs.Decided.{askedOf, memberType, likeSaid, partBy};
 
 // The type of the struct's member of this index.
 fn member_type(frames: &[u8], s: Starts, first: MemberNumber, count: u16, i: u32) -> TypeNumber
@@ -52,80 +50,13 @@ fn member_type(frames: &[u8], s: Starts, first: MemberNumber, count: u16, i: u32
     }
 }
 
-fn part_verdict(i: u32, same: OptionBool) -> OptionVerdict
-    ensures { λ r. ⌜ r ≡ partSaid i same ⌝ }
+// By whether its type is the same as asked; none where a look comes to an unknown kind.
+fn by_likeness(i: u32, same: OptionBool) -> Decided
+    ensures { λ r. ⌜ r ≡ likeSaid i same ⌝ }
 {
     match same {
-        OptionBool::None => OptionVerdict::Some(Verdict::NewerComponent { index: i }),
-        OptionBool::Some(b) => {
-            if b {
-                OptionVerdict::None
-            } else {
-                OptionVerdict::Some(Verdict::ComponentType { index: i })
-            }
-        }
-    }
-}
-
-fn end_verdict(i: u32, end: Unresolved) -> OptionVerdict
-    ensures { λ r. ⌜ r ≡ endVerdict i end ⌝ }
-{
-    match end {
-        Unresolved::Refused(_) => OptionVerdict::Some(Verdict::ComponentRefused { index: i }),
-        Unresolved::Newer { row: _ } => OptionVerdict::Some(Verdict::NewerComponent { index: i }),
-    }
-}
-
-// Whether a type is the scalar k.
-fn is_scalar(k: Scalar, t: TypeInner) -> bool
-    ensures { λ r. ⌜ r ≡ equalTypes t (TypeInner.Scalar k) ⌝ }
-{
-    match t {
-        TypeInner::Scalar(own) => own.equals(k),
-        _ => false,
-    }
-}
-
-// Whether it is this vector.
-fn is_vector(size: VectorSize, k: Scalar, t: TypeInner) -> bool
-    ensures { λ r. ⌜ r ≡ equalTypes t (TypeInner.Vector size k) ⌝ }
-{
-    match t {
-        TypeInner::Vector {
-            size: z,
-            scalar: own,
-        } => (z.number() == size.number()) & own.equals(k),
-        _ => false,
-    }
-}
-
-// Whether it is this matrix.
-fn is_matrix(columns: VectorSize, rows: VectorSize, k: Scalar, t: TypeInner) -> bool
-    ensures { λ r. ⌜ r ≡ equalTypes t (TypeInner.Matrix columns rows k) ⌝ }
-{
-    match t {
-        TypeInner::Matrix {
-            columns: c,
-            rows: d,
-            scalar: own,
-        } => (c.number() == columns.number()) & ((d.number() == rows.number()) & own.equals(k)),
-        _ => false,
-    }
-}
-
-// Whether two types are equal.
-fn are_equal(t: TypeInner, u: TypeInner) -> bool
-    ensures { λ r. ⌜ r ≡ equalTypes t u ⌝ }
-{
-    match u {
-        TypeInner::Scalar(k) => is_scalar(k, t),
-        TypeInner::Vector { size, scalar } => is_vector(size, scalar, t),
-        TypeInner::Matrix {
-            columns,
-            rows,
-            scalar,
-        } => is_matrix(columns, rows, scalar, t),
-        _ => equal_types(t, u),
+        OptionBool::None => Decided::Ends(Verdict::NewerComponent { index: i }),
+        OptionBool::Some(b) => adds_if(i, b, 1),
     }
 }
 
@@ -139,21 +70,19 @@ fn look_column(
     scalar: Scalar,
     i: u32,
     n: RowNumber,
-) -> OptionVerdict
+) -> Decided
     ensures { λ r. ⌜ r
-        ≡ partJudged (now (frames .entry)) s (now (answers .entry)) (now (places .entry)) (Column rows scalar) i n ⌝ }
+        ≡ partBy (now (frames .entry)) s (Column rows scalar) i
+        (answerIn (now (answers .entry)) (now (places .entry)) n) ⌝ }
 {
     match look_component(frames, s, answers, places, n) {
-        Looked::Seen(t) => {
-            let same = is_vector(rows, scalar, t);
-            part_verdict(i, OptionBool::Some(same))
-        }
-        Looked::Ended(end) => end_verdict(i, end),
+        Looked::Seen(t) => adds_if(i, is_vector(rows, scalar, t), 1),
+        Looked::Ended(end) => by_end(i, end),
     }
 }
 
-// Component i, which is row n, as a column: it must be the vector itself. By the frame of its type where that shows the
-// form.
+// Component i, which is row n, as a column: it must be the vector itself. A refusal is seen by the first byte of its
+// frame; else it goes by the frame of its type where that shows the form.
 fn judge_column(
     frames: &[u8],
     s: Starts,
@@ -163,27 +92,27 @@ fn judge_column(
     scalar: Scalar,
     i: u32,
     n: RowNumber,
-) -> OptionVerdict
+) -> Decided
     ensures { λ r. ⌜ r
-        ≡ partJudged (now (frames .entry)) s (now (answers .entry)) (now (places .entry)) (Column rows scalar) i n ⌝ }
+        ≡ partBy (now (frames .entry)) s (Column rows scalar) i
+        (answerIn (now (answers .entry)) (now (places .entry)) n) ⌝ }
 {
     let f = past_frame(answers, places, n);
+    if f.b0 == 10 {
+        return without_type(i, f);
+    }
     match plain_form(typed_frame(frames, s, f)) {
-        TypeForm::Known(t) => {
-            let same = is_vector(rows, scalar, t);
-            part_verdict(i, OptionBool::Some(same))
-        }
+        TypeForm::Known(t) => adds_if(i, is_vector(rows, scalar, t), 1),
         TypeForm::Unknown => look_column(frames, s, answers, places, rows, scalar, i, n),
     }
 }
 
 // Component i by a value, held to type ty by the comparison.
-fn value_verdict(frames: &[u8], s: Starts, ty: TypeNumber, i: u32, form: TypeForm) -> OptionVerdict
-    ensures { λ r. ⌜ r
-        ≡ answerVerdict i (λ t. partVerdict i (likeness (now (frames .entry)) s (number ty) (resolved t))) (valueOf form) ⌝ }
+fn by_value(frames: &[u8], s: Starts, ty: TypeNumber, i: u32, form: TypeForm) -> Decided
+    ensures { λ r. ⌜ r ≡ partBy (now (frames .entry)) s (Element ty) i (valueOf form) ⌝ }
 {
     match form {
-        TypeForm::Known(t) => part_verdict(
+        TypeForm::Known(t) => by_likeness(
             i,
             compare_types(
                 frames,
@@ -192,20 +121,19 @@ fn value_verdict(frames: &[u8], s: Starts, ty: TypeNumber, i: u32, form: TypeFor
                 TypeResolution::Value(t),
             ),
         ),
-        TypeForm::Unknown => OptionVerdict::Some(Verdict::ComponentRefused { index: i }),
+        TypeForm::Unknown => Decided::Ends(Verdict::ComponentRefused { index: i }),
     }
 }
 
 // Component i by the frame of its row's answer, held to type ty by the comparison.
-fn answer_verdict(frames: &[u8], s: Starts, ty: TypeNumber, i: u32, f: Frame) -> OptionVerdict
-    ensures { λ r. ⌜ r
-        ≡ answerVerdict i (λ t. partVerdict i (likeness (now (frames .entry)) s (number ty) (resolved t))) (answerOf f) ⌝ }
+fn by_answer(frames: &[u8], s: Starts, ty: TypeNumber, i: u32, f: Frame) -> Decided
+    ensures { λ r. ⌜ r ≡ partBy (now (frames .entry)) s (Element ty) i (answerOf f) ⌝ }
 {
     let family = f.b0;
     match family {
         8 => {
             let n = f.named();
-            part_verdict(
+            by_likeness(
                 i,
                 compare_types(
                     frames,
@@ -215,13 +143,13 @@ fn answer_verdict(frames: &[u8], s: Starts, ty: TypeNumber, i: u32, f: Frame) ->
                 ),
             )
         }
-        9 => value_verdict(frames, s, ty, i, f.type_form()),
-        _ => end_verdict(i, unresolved(f)),
+        9 => by_value(frames, s, ty, i, f.type_form()),
+        _ => without_type(i, f),
     }
 }
 
 // Component i, which is row n, as an element or a member: it must be of type ty. By the frames of both where these show
-// it, else by the comparison.
+// it; a refusal is seen by the first byte of its frame; else by the comparison.
 fn judge_type(
     frames: &[u8],
     s: Starts,
@@ -230,21 +158,23 @@ fn judge_type(
     ty: TypeNumber,
     i: u32,
     n: RowNumber,
-) -> OptionVerdict
+) -> Decided
     ensures { λ r. ⌜ r
-        ≡ partJudged (now (frames .entry)) s (now (answers .entry)) (now (places .entry)) (Element ty) i n ⌝ }
+        ≡ partBy (now (frames .entry)) s (Element ty) i (answerIn (now (answers .entry)) (now (places .entry)) n) ⌝ }
 {
     let f = past_frame(answers, places, n);
     if type_shown(frames, s, ty, f) {
-        return OptionVerdict::None;
+        return Decided::Adds(1);
+    }
+    if f.b0 == 10 {
+        return without_type(i, f);
     }
     if let TypeForm::Known(t) = plain_form(type_frame(frames, s, ty)) {
         if let TypeForm::Known(u) = plain_form(typed_frame(frames, s, f)) {
-            let same = are_equal(t, u);
-            return part_verdict(i, OptionBool::Some(same));
+            return adds_if(i, are_equal(t, u), 1);
         }
     }
-    answer_verdict(frames, s, ty, i, f)
+    by_answer(frames, s, ty, i, f)
 }
 
 // The type that is asked of component i; a column is asked by its form, and type 0, which no verdict comes to, stands
@@ -268,8 +198,9 @@ fn judge_part(
     asked: Part,
     i: u32,
     n: RowNumber,
-) -> OptionVerdict
-    ensures { λ r. ⌜ r ≡ partJudged (now (frames .entry)) s (now (answers .entry)) (now (places .entry)) asked i n ⌝ }
+) -> Decided
+    ensures { λ r. ⌜ r
+        ≡ partBy (now (frames .entry)) s asked i (answerIn (now (answers .entry)) (now (places .entry)) n) ⌝ }
 {
     match asked {
         Part::Column { rows, scalar } => judge_column(
@@ -313,10 +244,10 @@ fn each_part(
     while i < n {
         let row = component_at(frames, s, first, i);
         match judge_part(frames, s, answers, places, asked, i, row) {
-            OptionVerdict::None => {
+            Decided::Adds(_) => {
                 i += 1;
             }
-            OptionVerdict::Some(v) => {
+            Decided::Ends(v) => {
                 return v;
             }
         }

@@ -1,6 +1,8 @@
 // The verdict on a vector: from scalars and vectors of its scalar, which add up to its size.
-use super::Added;
-use answers::Unresolved;
+use super::Decided;
+use super::component::adds_if;
+use super::component::by_end;
+use super::component::without_type;
 use answers::Verdict;
 use archive::Starts;
 use archive_access::families::component_at;
@@ -15,48 +17,22 @@ use row_operands::past::look_component;
 use row_operands::plain::past_frame;
 use row_operands::plain::typed_frame;
 ghost use mathlib.Core.Path.{_≡_};
-ghost use mathlib.Core.Bool.{cond};
-ghost use mathlib.Core.Option.{none, some};
 ghost use Rattle.ir.specs.Scalars.{equalScalars};
 ghost use Rattle.frames.specs.Fields.{read, scalar};
 ghost use Rattle.rule_compose.specs.Verdict.{vectorParts, adds};
 ghost use Rattle.rule_compose.specs.Judged.{toJudged};
-ghost use Rattle.rule_rows.specs.OverBuffer.{judgedBy};
+ghost use Rattle.rule_rows.specs.OverBuffer.{answerIn, judgedBy};
 ghost use Rattle.rule_compose.specs.ForProofs.{partsIn};
-ghost use Rattle.verdict_compose.specs.Decided.{countAdded, endAdded, addedBy};
-
-fn adds_scalar(i: u32, same: bool, size: u32) -> Added
-    ensures { λ r. ⌜ r ≡ countAdded i (cond same (some size) none) ⌝ }
-{
-    if same {
-        Added::Count(size)
-    } else {
-        Added::Decided(Verdict::ComponentType { index: i })
-    }
-}
+ghost use Rattle.verdict_compose.specs.Decided.{countDecides, addedBy};
 
 // How many components of a vector of `scalar` a type makes.
-fn count_added(i: u32, scalar: Scalar, t: TypeInner) -> Added
-    ensures { λ r. ⌜ r ≡ countAdded i (adds scalar t) ⌝ }
+fn count_added(i: u32, scalar: Scalar, t: TypeInner) -> Decided
+    ensures { λ r. ⌜ r ≡ countDecides i (adds scalar t) ⌝ }
 {
     match t {
-        TypeInner::Scalar(k) => adds_scalar(i, k.equals(scalar), 1),
-        TypeInner::Vector { size, scalar: k } => adds_scalar(
-            i,
-            k.equals(scalar),
-            size.number() as u32,
-        ),
-        _ => Added::Decided(Verdict::ComponentType { index: i }),
-    }
-}
-
-// An answer without a type decides.
-fn end_added(i: u32, end: Unresolved) -> Added
-    ensures { λ r. ⌜ r ≡ endAdded i end ⌝ }
-{
-    match end {
-        Unresolved::Refused(_) => Added::Decided(Verdict::ComponentRefused { index: i }),
-        Unresolved::Newer { row: _ } => Added::Decided(Verdict::NewerComponent { index: i }),
+        TypeInner::Scalar(k) => adds_if(i, k.equals(scalar), 1),
+        TypeInner::Vector { size, scalar: k } => adds_if(i, k.equals(scalar), size.number() as u32),
+        _ => Decided::Ends(Verdict::ComponentType { index: i }),
     }
 }
 
@@ -69,12 +45,13 @@ fn look_added(
     scalar: Scalar,
     i: u32,
     n: RowNumber,
-) -> Added
-    ensures { λ r. ⌜ r ≡ addedBy (now (frames .entry)) s (now (answers .entry)) (now (places .entry)) scalar i n ⌝ }
+) -> Decided
+    ensures { λ r. ⌜ r
+        ≡ addedBy (now (frames .entry)) s scalar i (answerIn (now (answers .entry)) (now (places .entry)) n) ⌝ }
 {
     match look_component(frames, s, answers, places, n) {
         Looked::Seen(t) => count_added(i, scalar, t),
-        Looked::Ended(end) => end_added(i, end),
+        Looked::Ended(end) => by_end(i, end),
     }
 }
 
@@ -92,7 +69,8 @@ fn scalar_is(f: Frame, k: Scalar) -> bool
     }
 }
 
-// What component i, which is row n, adds to a vector: by the frame of its type where that is a scalar or a vector.
+// What component i, which is row n, adds to a vector: a refusal is seen by the first byte of its frame; else it goes by
+// the frame of its type where that is a scalar or a vector.
 fn added_by(
     frames: &[u8],
     s: Starts,
@@ -101,16 +79,21 @@ fn added_by(
     scalar: Scalar,
     i: u32,
     n: RowNumber,
-) -> Added
-    ensures { λ r. ⌜ r ≡ addedBy (now (frames .entry)) s (now (answers .entry)) (now (places .entry)) scalar i n ⌝ }
+) -> Decided
+    ensures { λ r. ⌜ r
+        ≡ addedBy (now (frames .entry)) s scalar i (answerIn (now (answers .entry)) (now (places .entry)) n) ⌝ }
 {
-    let f = typed_frame(frames, s, past_frame(answers, places, n));
-    let kind = f.b1;
+    let f = past_frame(answers, places, n);
+    if f.b0 == 10 {
+        return without_type(i, f);
+    }
+    let g = typed_frame(frames, s, f);
+    let kind = g.b1;
     match kind {
-        1 => adds_scalar(i, scalar_is(f, scalar), 1),
+        1 => adds_if(i, scalar_is(g, scalar), 1),
         2 => {
-            let size = VectorSize::from_number(f.b2);
-            adds_scalar(i, scalar_is(f, scalar), size.number() as u32)
+            let size = VectorSize::from_number(g.b2);
+            adds_if(i, scalar_is(g, scalar), size.number() as u32)
         }
         _ => look_added(frames, s, answers, places, scalar, i, n),
     }
@@ -137,11 +120,11 @@ pub fn vector_parts(
     while i < n {
         let row = component_at(frames, s, first, i);
         match added_by(frames, s, answers, places, scalar, i, row) {
-            Added::Count(m) => {
+            Decided::Adds(m) => {
                 total += m;
                 i += 1;
             }
-            Added::Decided(v) => {
+            Decided::Ends(v) => {
                 return v;
             }
         }

@@ -1,4 +1,4 @@
--- `check_fields`: a place that was found is below 1,024; the refusal or what follows is picked by what was found. Assumes nothing.
+-- `check_fields`: a place that was found is below 1,024; the refusal or what follows is picked by what was found.
 use mathlib.Core.Path.{sym, _∙_}
 use native.Mathlib.Omega.{arith}
 use Rattle.scan.proofs.Laws.{found-at}
@@ -20,4 +20,5 @@ check-fields-spec =
     (λ c. c .match .keys2)
     (λ c κs. c .before .before .before .before .pre)
     (λ c. rw (← c .before .before .before .first-unfit .ensures, c .before .k .given .1))
-    (λ c. rw (← c .before .before .before .first-unfit .ensures, c .before .enum-told .given .1) (c .check-index .ensures)))
+    (λ c. rw (← c .before .before .before .first-unfit .ensures, c .before .enum-told .given .1)
+    (c .check-index .ensures)))

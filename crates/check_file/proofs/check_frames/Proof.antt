@@ -1,4 +1,4 @@
--- `check_frames`: the checks in the order of the definition. Assumes nothing.
+-- `check_frames`: the checks in the order of the definition.
 use mathlib.Core.Path.{_≡_, sym, _∙_}
 use mathlib.Core.Bool.{false}
 use Prim.Native.Nat.{_≤_, _<_}
@@ -26,8 +26,11 @@ returns c =
 returns-2 : tie.Need-returns-2
 unfolding checkFrames
 returns-2 c =
-    rw
-    (le-ltb maxFrames _ (few (c .before .before .before .before)), ← c .before .before .before .first-disorder .ensures, c .before .k .given .1)
+    rw (
+      le-ltb maxFrames _ (few (c .before .before .before .before)),
+      ← c .before .before .before .first-disorder .ensures,
+      c .before .k .given .1,
+    )
 
 returns-3 : tie.Need-returns-3
 unfolding checkFrames

@@ -1,4 +1,4 @@
--- `check_index`: a place that was found is below 1,024; the refusal or what follows is picked by what was found. Assumes nothing.
+-- `check_index`: a place that was found is below 1,024; the refusal or what follows is picked by what was found.
 use mathlib.Core.Path.{sym, _∙_}
 use native.Mathlib.Omega.{arith}
 use Rattle.scan.proofs.Laws.{found-at}
@@ -23,4 +23,5 @@ check-index-spec =
     (λ c κs. tt)
     (λ c. rw (← c .before .before .before .first-misplaced .ensures, c .before .k .given .1))
     (λ c.
-    rw (← c .before .before .before .first-misplaced .ensures, c .before .enum-told .given .1) (ap Accepted (c .frame-count .ensures))))
+    rw (← c .before .before .before .first-misplaced .ensures, c .before .enum-told .given .1)
+    (ap Accepted (c .frame-count .ensures))))

@@ -1,4 +1,4 @@
--- `components_of`: the numbers that `last` and `second` ensure. Assumes nothing.
+-- `components_of`: the numbers that `first_component` and `count` ensure.
 use borrow.Author.Needs.{needs}
 use Rattle.check_file.proofs.components_of.Statement.{statement}
 use Rattle.check_file.proofs.components_of.Tie as tie
@@ -14,4 +14,8 @@ components-of-spec =
     (λ c. search needs)
     (λ c. search needs)
     (λ c κs. tt)
-    (λ c. rw (c .least .ensures, c .before .second .ensures, c .before .before .before .before .last .ensures)))
+    (λ c. rw (
+      c .least .ensures,
+      c .before .count .ensures,
+      c .before .before .before .before .first-component .ensures,
+    )))

@@ -1,4 +1,4 @@
--- `first_late`. The invariant: what was found is the lowest part that is late for one of the owners passed. Assumes nothing.
+-- `first_late`. The invariant: what was found is the lowest part that is late for one of the owners passed.
 use mathlib.Core.Path.{_≡_, refl, sym, ap, _∙_}
 use mathlib.Core.List.{List}
 use Prim.Native.Nat.{ℕ, _-_, _≤_}
@@ -30,7 +30,8 @@ abbrev μ-loop : tie.MeasureT-loop
 μ-loop frames s n found₀ o₀ found o = n - o
 
 -- the parts looked at are those that frame o holds
-holds : (c : tie.After-held-by Inv-loop μ-loop) → let a = c .before .before .before .before .before .before .args .frames .now in
+holds : (c : tie.After-held-by Inv-loop μ-loop)
+    → let a = c .before .before .before .before .before .before .args .frames .now in
     let o = c .before .before .before .loop .o in
     c .held-by .result ≡ heldBy (startsOf a) o (frameAt a o)
 holds c =
@@ -57,7 +58,16 @@ first-late-spec =
     (λ c κs. tt)
     (λ c κs. let st = c .before .before .before .before .before in
     let small = starts-small (st .args .frames .now) maxFrames (st .pre .1) in
-    rw (st .pre .0) (omega (arith, c .before .loop-test .taken, c .before .before .before .frame-count .ensures, st .pre .1), small .0, small .1))
+    rw (st .pre .0) (
+      omega (
+        arith,
+        c .before .loop-test .taken,
+        c .before .before .before .frame-count .ensures,
+        st .pre .1,
+      ),
+      small .0,
+      small .1,
+    ))
     (λ c κs. let a = c .before .before .before .before .before .before .args .frames .now in
     let o = c .before .before .before .loop .o in
     rw (holds c) (held-within a o (frameAt a o)))
@@ -69,6 +79,7 @@ first-late-spec =
     record {
       few = search needs;
       first = c .lower .ensures ∙ lowest-tests (earlyFor a) _ _ (i .inv .first)
-          (c .before .first-late-of .ensures ∙ ap (λ (h : Held). lowest (earlyIn a h) (frameCount a)) (holds (c .before .before)));
+          (c .before .first-late-of .ensures
+          ∙ ap (λ (h : Held). lowest (earlyIn a h) (frameCount a)) (holds (c .before .before)));
     })
     returns)

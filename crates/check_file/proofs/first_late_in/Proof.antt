@@ -1,4 +1,4 @@
--- `first_late_in`. The invariant: no part passed is late. Assumes nothing.
+-- `first_late_in`. The invariant: no part passed is late.
 use mathlib.Core.Path.{_≡_, sym, ap, _∙_}
 use mathlib.Core.List.{List}
 use Prim.Native.Nat.{ℕ, _-_, _≤_, _<_}
@@ -39,13 +39,18 @@ first-late-in-spec =
     (tie.spec
     Inv-loop
     μ-loop
-    (λ c. let a = c .before .args in record { past = search needs; none = none-before (a .frames .now) (a .from) (a .to) (a .owner) })
+    (λ c. let a = c .before .args in
+    record { past = search needs; none = none-before (a .frames .now) (a .from) (a .to) (a .owner) })
     (λ c κs. tt)
     (λ c κs. tt)
     (λ c. search needs)
     (λ c. search needs)
     (λ c. let i = c .before .before .before .before .loop in let m = c .before .before .before .loop-test .taken in
-    record { past = search needs; none = lowest-more _ _ (i .inv .none) (tested (c .before) (i .inv .past) m) (c .if1 .taken) })
+    record {
+      past = search needs;
+      none = lowest-more _ _ (i .inv .none) (tested (c .before) (i .inv .past) m)
+          (c .if1 .taken);
+    })
     (λ c. let i = c .before .before .before .before .loop in let m = c .before .before .before .loop-test .taken in
     let p = c .before .before .before .before .before .before .pre in
     lowest-hit _ (i .k) _ (omega (arith, m, p)) (i .inv .none) (tested (c .before) (i .inv .past) m) (c .if1 .left))

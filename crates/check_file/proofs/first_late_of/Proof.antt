@@ -1,4 +1,4 @@
--- `first_late_of`: the parts are looked at, and a frame that holds none has none that is late. Assumes nothing.
+-- `first_late_of`: the parts are looked at, and a frame that holds none has none that is late.
 use Rattle.archive.proofs.Owners.{none-held}
 use Rattle.check_file.proofs.first_late_of.Statement.{statement}
 use Rattle.check_file.proofs.first_late_of.Tie as tie

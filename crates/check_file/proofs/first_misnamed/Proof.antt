@@ -1,4 +1,4 @@
--- `first_misnamed`. The invariant: no frame passed names wrongly. Assumes nothing.
+-- `first_misnamed`. The invariant: no frame passed names wrongly.
 use mathlib.Core.Path.{_≡_, refl, sym, ap, _∙_}
 use mathlib.Core.List.{List}
 use Prim.Native.Nat.{ℕ, _-_, _≤_}
@@ -44,7 +44,12 @@ first-misnamed-spec =
     (λ c κs. tt)
     (λ c. record { few = search needs; none = lowest-zero _ })
     (λ c κs. tt)
-    (λ c κs. omega (arith, c .before .loop-test .taken, c .before .before .before .frame-count .ensures, c .before .before .before .before .before .pre .1))
+    (λ c κs. omega (
+      arith,
+      c .before .loop-test .taken,
+      c .before .before .before .frame-count .ensures,
+      c .before .before .before .before .before .pre .1,
+    ))
     (λ c. search needs)
     (λ c. search needs)
     (λ c. let l = c .before .before .before .before .loop .inv in

@@ -1,4 +1,4 @@
--- `first_misplaced`: the lower of the two that are looked for, and so the lowest that fails one of the two tests. Assumes nothing.
+-- `first_misplaced`: the lower of the two that are looked for, and so the lowest that fails one of the two tests.
 use mathlib.Core.Path.{sym, _∙_}
 use Rattle.scan.proofs.Laws.{lowest-both}
 use Rattle.archive.specs.Names.{namesOk}

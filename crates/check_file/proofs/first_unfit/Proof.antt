@@ -1,4 +1,4 @@
--- `first_unfit`. The invariant: every frame passed has its bytes within their values. Assumes nothing.
+-- `first_unfit`. The invariant: every frame passed has its bytes within their values.
 use mathlib.Core.Path.{_≡_, refl, sym, ap, _∙_}
 use mathlib.Core.List.{List}
 use Prim.Native.Nat.{ℕ, _-_, _≤_}

@@ -1,4 +1,4 @@
--- `held_by`: the tests pick the case. Assumes nothing.
+-- `held_by`: the tests pick the case.
 use borrow.Author.Needs.{needs}
 use Rattle.check_file.proofs.held_by.Statement.{statement}
 use Rattle.check_file.proofs.held_by.Tie as tie

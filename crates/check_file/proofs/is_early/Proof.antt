@@ -1,4 +1,4 @@
--- `is_early`: each arm knows its case, and what its calls ensure. Assumes nothing.
+-- `is_early`: each arm knows its case, and what its calls ensure.
 use borrow.Author.Needs.{needs}
 use Rattle.check_file.proofs.is_early.Statement.{statement}
 use Rattle.check_file.proofs.is_early.Tie as tie

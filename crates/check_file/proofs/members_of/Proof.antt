@@ -1,4 +1,4 @@
--- `members_of`: the numbers that `named` and `second` ensure. Assumes nothing.
+-- `members_of`: the numbers that `first_member` and `count` ensure.
 use borrow.Author.Needs.{needs}
 use Rattle.check_file.proofs.members_of.Statement.{statement}
 use Rattle.check_file.proofs.members_of.Tie as tie
@@ -14,4 +14,4 @@ members-of-spec =
     (λ c. search needs)
     (λ c. search needs)
     (λ c κs. tt)
-    (λ c. rw (c .least .ensures, c .before .second .ensures, c .before .before .before .before .named .ensures)))
+    (λ c. rw (c .least .ensures, c .before .count .ensures, c .before .before .before .before .first-member .ensures)))

@@ -1,4 +1,4 @@
--- `names_of`: each arm knows the family, and what the tests of that family ensure. Assumes nothing.
+-- `names_of`: each arm knows the family, and what the tests of that family ensure.
 use mathlib.Core.Bool.{true}
 use mathlib.Core.List.{[], _∷_}
 use Prim.Native.Nat.{_-_}
@@ -36,6 +36,7 @@ names-of-spec =
     let f = c .before .args .f in
     let k = c .before .args .k in
     past
-    (true ∷ typeFormNames s (record { 0 = k }) (typeOf f) ∷ isType s (memberOf f .ty) ∷ itemNames s (itemOf f) ∷ rowFormNames s
+    (true ∷ typeFormNames s (record { 0 = k }) (typeOf f) ∷ isType s (memberOf f .ty) ∷ itemNames s
+    (itemOf f) ∷ rowFormNames s
     (record { 0 = k - s .rows }) (rowOf f) ∷ isRow s (componentOf f) ∷ [])
     _ _ (c .match .rest)))

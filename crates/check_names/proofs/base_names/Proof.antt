@@ -1,4 +1,4 @@
--- `base_names`: each arm knows its case, and what its calls ensure. Assumes nothing.
+-- `base_names`: each arm knows its case, and what its calls ensure.
 use Rattle.check_names.proofs.base_names.Statement.{statement}
 use Rattle.check_names.proofs.base_names.Tie as tie
 

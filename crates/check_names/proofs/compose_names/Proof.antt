@@ -1,4 +1,4 @@
--- `compose_names`: what `is_type` and `minus` ensure. Assumes nothing.
+-- `compose_names`: what `is_type` and `minus` ensure.
 use borrow.Author.Needs.{needs}
 use Rattle.check_names.proofs.compose_names.Statement.{statement}
 use Rattle.check_names.proofs.compose_names.Tie as tie

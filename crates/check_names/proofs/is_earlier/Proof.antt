@@ -1,4 +1,4 @@
--- `is_earlier`: the test of the definition. Assumes nothing.
+-- `is_earlier`: the test of the definition.
 use mathlib.Core.Path.{refl}
 use Rattle.check_names.proofs.is_earlier.Statement.{statement}
 use Rattle.check_names.proofs.is_earlier.Tie as tie

@@ -1,4 +1,4 @@
--- `item_names`: each arm knows its case, and what its calls ensure. Assumes nothing.
+-- `item_names`: each arm knows its case, and what its calls ensure.
 use Rattle.check_names.proofs.item_names.Statement.{statement}
 use Rattle.check_names.proofs.item_names.Tie as tie
 

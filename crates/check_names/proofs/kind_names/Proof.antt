@@ -1,4 +1,4 @@
--- `kind_names`: each arm knows its kind, and what its calls ensure; an arm of several kinds kind by kind. Assumes nothing.
+-- `kind_names`: each arm knows its kind, and what its calls ensure; an arm of several kinds kind by kind.
 use mathlib.Core.Path.{refl, _∙_}
 use mathlib.Core.List.{[], _∷_}
 use Rattle.ir.proofs.Keys.{of-row-kinds}
@@ -49,41 +49,44 @@ kind-names-spec =
     rw (
       c .before .before .before .before .enum-told6 .given .1,
       c .compose-names .ensures,
-      c .before .last .ensures,
-      c .before .before .second .ensures,
-      c .before .before .before .named .ensures,
+      c .before .first-component .ensures,
+      c .before .before .count .ensures,
+      c .before .before .before .ty .ensures,
     ))
     (λ c.
     rw (
       c .before .before .before .enum-told7 .given .1,
       c .query-names .ensures,
       c .before .from-number .ensures,
-      c .before .before .named2 .ensures,
+      c .before .before .operand .ensures,
     ))
     (λ c.
     rw (
       c .before .before .before .enum-told8 .given .1,
       c .relational-names .ensures,
-      c .before .named3 .ensures,
+      c .before .operand2 .ensures,
       c .before .before .from-number2 .ensures,
     ))
     (λ c.
     rw (
       c .before .before .before .enum-told9 .given .1,
       c .is-earlier .ensures,
-      c .before .second2 .ensures,
+      c .before .right .ensures,
       c .before .before .names-earlier .ensures,
     ))
     (λ c.
     let g = c .before .before .args in
     c .names-type .ensures
-    ∙ of-row-kinds (λ k. rowFormNames (g .s) (g .n) (rowAs k (g .f))) (4 ∷ 25 ∷ 26 ∷ 32 ∷ []) refl (g .kind) (c .before .match .keys10))
+    ∙ of-row-kinds (λ k. rowFormNames (g .s) (g .n) (rowAs k (g .f))) (4 ∷ 25 ∷ 26 ∷ 32 ∷ []) refl (g .kind)
+    (c .before .match .keys10))
     (λ c.
     let g = c .before .args in
-    of-row-kinds (λ k. rowFormNames (g .s) (g .n) (rowAs k (g .f))) (0 ∷ 1 ∷ 10 ∷ 22 ∷ 27 ∷ 28 ∷ 29 ∷ 30 ∷ 31 ∷ []) refl (g .kind)
+    of-row-kinds (λ k. rowFormNames (g .s) (g .n) (rowAs k (g .f))) (0 ∷ 1 ∷ 10 ∷ 22 ∷ 27 ∷ 28 ∷ 29 ∷ 30 ∷ 31 ∷ []) refl
+    (g .kind)
     (c .match .keys11))
     (λ c.
     let g = c .before .before .args in
     c .names-earlier2 .ensures
-    ∙ of-row-kinds (λ k. rowFormNames (g .s) (g .n) (rowAs k (g .f))) (6 ∷ 7 ∷ 8 ∷ 9 ∷ 13 ∷ 14 ∷ 15 ∷ 17 ∷ 19 ∷ 20 ∷ 23 ∷ 33 ∷ 34 ∷ [])
+    ∙ of-row-kinds (λ k. rowFormNames (g .s) (g .n) (rowAs k (g .f)))
+    (6 ∷ 7 ∷ 8 ∷ 9 ∷ 13 ∷ 14 ∷ 15 ∷ 17 ∷ 19 ∷ 20 ∷ 23 ∷ 33 ∷ 34 ∷ [])
     refl (g .kind) (c .before .match .keys12)))

@@ -1,4 +1,4 @@
--- `query_names`: each arm knows its case, and what its calls ensure; the arm of several queries query by query. Assumes nothing.
+-- `query_names`: each arm knows its case, and what its calls ensure; the arm of several queries query by query.
 use mathlib.Core.Path.{refl}
 use mathlib.Core.List.{[], _∷_}
 use Rattle.ir.proofs.Keys.{of-image-queries}
@@ -13,4 +13,5 @@ query-names-spec =
     (λ c. c .match .keys1)
     (λ c κs. tt)
     (λ c. rw (c .before .enum-told .given .1, c .is-earlier .ensures))
-    (λ c. let a = c .before .args in of-image-queries (queryNames (a .n) (a .image)) (1 ∷ 2 ∷ 3 ∷ []) refl (a .query) (c .match .keys2)))
+    (λ c. let a = c .before .args in
+    of-image-queries (queryNames (a .n) (a .image)) (1 ∷ 2 ∷ 3 ∷ []) refl (a .query) (c .match .keys2)))

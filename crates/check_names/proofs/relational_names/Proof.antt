@@ -1,4 +1,4 @@
--- `relational_names`: an arm of two functions function by function. Assumes nothing.
+-- `relational_names`: an arm of two functions function by function.
 use mathlib.Core.Path.{refl, _∙_}
 use mathlib.Core.List.{[], _∷_}
 use Rattle.ir.proofs.Keys.{of-relational-functions}
@@ -17,4 +17,5 @@ relational-names-spec =
     (λ c.
     let a = c .before .before .args in
     c .is-earlier .ensures
-    ∙ of-relational-functions (λ g. relationalNames (a .n) g (a .argument)) (2 ∷ 3 ∷ []) refl (a .fun) (c .before .match .keys2)))
+    ∙ of-relational-functions (λ g. relationalNames (a .n) g (a .argument)) (2 ∷ 3 ∷ []) refl (a .fun)
+    (c .before .match .keys2)))

@@ -1,4 +1,4 @@
--- `row_names`: by the row's kind. Assumes nothing.
+-- `row_names`: by the row's kind.
 use Rattle.frames.specs.Forms.{rowOf}
 use Rattle.check_names.proofs.row_names.Statement.{statement}
 use Rattle.check_names.proofs.row_names.Tie as tie

@@ -1,4 +1,4 @@
--- `type_names`: each arm knows its case, and what its calls ensure; the other kinds case by case. Assumes nothing.
+-- `type_names`: each arm knows its case, and what its calls ensure; the other kinds case by case.
 use mathlib.Core.Path.{_≡_}
 use mathlib.Core.Bool.{false}
 use mathlib.Core.List.{[], _∷_}
@@ -12,7 +12,8 @@ use Rattle.check_names.proofs.type_names.Statement.{statement}
 use Rattle.check_names.proofs.type_names.Tie as tie
 
 -- the other kinds
-rest : (a : Starts) (b : TypeNumber) → Others (kindsBut (5 ∷ 7 ∷ 8 ∷ 13 ∷ [])) (λ t. typeNames a b (Ti.RayQuery false) ≡ typeNames a b t)
+rest : (a : Starts) (b : TypeNumber)
+    → Others (kindsBut (5 ∷ 7 ∷ 8 ∷ 13 ∷ [])) (λ t. typeNames a b (Ti.RayQuery false) ≡ typeNames a b t)
 rest a b = of-each (search needs)
 
 pub type-names-spec : {M : Type 1} → statement M

@@ -1,4 +1,5 @@
--- `explain_file::explain_answers`. The invariant: the lines passed stand at the front of the output, and the next row is counted. Assumes nothing.
+-- `explain_file::explain_answers`. The invariant: the lines passed stand at the front of the output, and the next row
+-- is counted.
 use mathlib.Core.Path.{_≡_, refl, sym, ap, _∙_}
 use mathlib.Core.List.{List, _++_}
 use Prim.Native.Nat.{ℕ, _+_, _*_, _-_, _/_, _≤_, _<_}
@@ -10,14 +11,16 @@ use Rattle.ir.specs.declared.RowNumber.{RowNumber}
 use Rattle.frames.specs.Bytes.{frameCount, frameAt}
 use Rattle.explain_words.specs.ForProofs.{written}
 use Rattle.explain_words.proofs.Writing.{written-long, put-fits}
-use Rattle.explain_lines.specs.Answers.{lineOf}
+use Rattle.rule_explain.specs.Answers.{lineOf}
 use Rattle.explain_lines.proofs.Long.{line-long}
-use Rattle.explain_file.specs.Explained.{rowAt, lineAt, answerLines}
-use Rattle.explain_file.proofs.Fitting.{joined-long, After, before, turn, shown-all, made, made-long, made-at, at-place, row-on, row-small}
+use Rattle.rule_explain.specs.Explained.{rowAt, lineAt, answerLines}
+use Rattle.explain_file.proofs.Fitting.{joined-long, After, before, turn, shown-all, made, made-long, made-at}
+use Rattle.explain_file.proofs.Fitting.{at-place, row-on, row-small}
 use Rattle.explain_file.proofs.explain_answers.Statement.{statement}
 use Rattle.explain_file.proofs.explain_answers.Tie as tie
 
--- k of the n lines are written, as far as at, and row is that of the next; the other bytes of the output are as they were
+-- k of the n lines are written, as far as at, and row is that of the next; the other bytes of the output are as they
+-- were
 record Inv (frames answers line out₀ out : List ℕ) (n k at : ℕ) (row : RowNumber) : Type 0 where
   few : k ≤ n
   counted : row ≡ rowAt answers k
@@ -107,9 +110,11 @@ loop-again c =
     let o = q .ensures ∙ put-fits (l .out) y (l .at) fits in
     record {
       few = omega (arith, h);
-      counted = row-on (g .answers .now) (l .k) (l .row) (r .result) (f .result) (l .inv .counted) (f .ensures) (r .ensures);
+      counted = row-on (g .answers .now) (l .k) (l .row) (r .result) (f .result) (l .inv .counted) (f .ensures)
+          (r .ensures);
       small = row-small (l .k) (l .row) (r .result) (f .result) (r .ensures) (l .inv .small);
-      written = turn (lineAt (g .frames .now) (g .answers .now)) (l .k) (g .out .now) (l .out) (q .last .1 .0) y (l .at) (p .result) (l .inv .written) x
+      written = turn (lineAt (g .frames .now) (g .answers .now)) (l .k) (g .out .now) (l .out) (q .last .1 .0) y (l .at)
+          (p .result) (l .inv .written) x
           (w .0 ∙ ap length e) (omega (arith, room-here put, l .inv .long)) o;
       wide = m .0;
       long = ap length o ∙ written-long (l .out) y (l .at) fits ∙ l .inv .long;
@@ -120,7 +125,8 @@ returns c =
     let g = c .before .before .before .before .before .before .before .args in
     let l = c .before .loop in
     let n = c .before .before .frame-count .ensures in
-    shown-all (answerLines (g .frames .now) (g .answers .now)) (g .out .now) (l .out) (l .k) (l .at) (omega (arith, n)) (l .inv .written)
+    shown-all (answerLines (g .frames .now) (g .answers .now)) (g .out .now) (l .out) (l .k) (l .at) (omega (arith, n))
+    (l .inv .written)
 
 pub explain-answers-spec : {M : Type 1} → statement M
 explain-answers-spec =

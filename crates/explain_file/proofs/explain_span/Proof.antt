@@ -1,4 +1,4 @@
--- `explain_file::explain_span`: one line. Assumes nothing.
+-- `explain_file::explain_span`: one line.
 use mathlib.Core.Path.{_≡_, refl, _∙_}
 use Prim.Native.Nat.{_+_}
 use native.Mathlib.Nat.{zero-add}
@@ -6,9 +6,9 @@ use native.Mathlib.Omega.{arith}
 use lib.ListN.{length, take}
 use borrow.Author.Needs.{needs}
 use Rattle.explain_words.proofs.Writing.{put-fits}
-use Rattle.explain_lines.specs.Sizes.{spanOf}
+use Rattle.rule_explain.specs.Sizes.{spanOf}
 use Rattle.explain_lines.proofs.Long.{span-long}
-use Rattle.explain_file.specs.Sized.{spanLines}
+use Rattle.rule_explain.specs.Sized.{spanLines}
 use Rattle.explain_file.proofs.Fitting.{before, turn, shown-all, made, made-long, made-at}
 use Rattle.explain_file.proofs.explain_span.Statement.{statement}
 use Rattle.explain_file.proofs.explain_span.Tie as tie

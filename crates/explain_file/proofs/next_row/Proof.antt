@@ -1,8 +1,8 @@
--- `explain_file::next_row`: by its one test. Assumes nothing.
+-- `explain_file::next_row`: by its one test.
 use mathlib.Core.Path.{_≡_, refl}
 use borrow.Author.Needs.{needs}
 use borrow.Author.Tests.{eq-eqb, ne-eqb}
-use Rattle.explain_file.specs.Explained.{nextRow}
+use Rattle.rule_explain.specs.Explained.{nextRow}
 use Rattle.explain_file.proofs.next_row.Statement.{statement}
 use Rattle.explain_file.proofs.next_row.Tie as tie
 

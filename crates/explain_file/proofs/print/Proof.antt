@@ -1,4 +1,4 @@
--- `explain_file::print`: all of the lines, or none. Assumes nothing.
+-- `explain_file::print`: all of the lines, or none.
 use mathlib.Core.Path.{_≡_, refl, ap, _∙_}
 use mathlib.Core.List.{List, _++_}
 use Prim.Native.Nat.{ℕ, _+_}
@@ -6,7 +6,7 @@ use native.Mathlib.Nat.{zero-add}
 use native.Mathlib.Omega.{arith}
 use lib.ListN.{length, drop}
 use borrow.Author.Needs.{needs}
-use Rattle.rule_file.proofs.Printed.{not-printed, all-printed}
+use Rattle.law_file.proofs.Printed.{not-printed, all-printed}
 use Rattle.explain_words.proofs.Writing.{put-fits}
 use Rattle.explain_file.proofs.print.Statement.{statement}
 use Rattle.explain_file.proofs.print.Tie as tie

@@ -1,4 +1,4 @@
--- `explain_file::ranges_text`: the lines stand at the front of their buffer, and are copied to the other. Assumes nothing.
+-- `explain_file::ranges_text`: the lines stand at the front of their buffer, and are copied to the other.
 use mathlib.Core.Path.{_≡_, sym, ap, _∙_}
 use mathlib.Core.List.{List}
 use Prim.Native.Nat.{ℕ}
@@ -9,8 +9,8 @@ use borrow.Author.Needs.{needs}
 use Rattle.answers.specs.Numbers.{printedSaid}
 use Rattle.rule_ranges.specs.Ranges.{countsOf}
 use Rattle.rule_file.specs.Printed.{printed, printedAfter}
-use Rattle.rule_file.proofs.Over.{with-said}
-use Rattle.explain_file.specs.Sized.{rangesOf}
+use Rattle.law_file.proofs.Over.{with-said}
+use Rattle.rule_explain.specs.Sized.{rangesOf}
 use Rattle.explain_file.proofs.Fits.{ranged-fits}
 use Rattle.explain_file.proofs.Fitting.{inside, lines-are}
 use Rattle.explain_file.proofs.ranges_text.Statement.{statement}
@@ -18,10 +18,12 @@ use Rattle.explain_file.proofs.ranges_text.Tie as tie
 
 returns : tie.Need-returns
 returns c =
-    let g = c .before .before .before .before .before .before .before .before .before .before .before .before .before .before .before .before .before .before .args in
+    let g = c .before .before .before .before .before .before .before .before .before .before .before .before .before
+    .before .before .before .before .before .args in
     let q = c .before .before .before .before .before .before .before .before .before .ranges-with in
     let p = c .before .before .print in
-    let e = lines-are (rangesOf (g .limit) (countsOf (g .least .now)) (countsOf (g .greatest .now)) (g .text .now)) _ (q .last .1 .1 .1 .1 .1 .1 .1 .0) (q .result) (q .ensures) in
+    let e = lines-are (rangesOf (g .limit) (countsOf (g .least .now)) (countsOf (g .greatest .now)) (g .text .now)) _
+    (q .last .1 .1 .1 .1 .1 .1 .1 .0) (q .result) (q .ensures) in
     with-said printedSaid (p .ensures .0 ∙ ap (λ (x : List ℕ). printed x (length (g .out .now))) e)
     (p .ensures .1 ∙ ap (λ (x : List ℕ). printedAfter x (g .out .now)) e)
 
@@ -34,11 +36,20 @@ ranges-text-spec =
     (λ c. search needs)
     (λ c. search needs)
     (λ c κs. (search needs, (search needs, (search needs, search needs))))
-    (λ c. omega (arith, c .before .before .before .before .ranges-with .ensures .0, let g = c .before .before .before .before .before .before .before .before .before .before .before .before .before .args in ranged-fits (g .limit) (countsOf (g .least .now)) (countsOf (g .greatest .now)) (g .text .now)))
+    (λ c. omega (
+      arith,
+      c .before .before .before .before .ranges-with .ensures .0,
+      let g = c .before .before .before .before .before .before .before .before .before .before .before .before
+          .before .args in ranged-fits (g .limit) (countsOf (g .least .now)) (countsOf (g .greatest .now))
+          (g .text .now),
+    ))
     (λ c.
     let q = c .before .before .before .before .before .ranges-with in
-    let g = c .before .before .before .before .before .before .before .before .before .before .before .before .before .before .args in
-    sym (length-take-le (q .result) (q .last .1 .1 .1 .1 .1 .1 .1 .0) (inside (rangesOf (g .limit) (countsOf (g .least .now)) (countsOf (g .greatest .now)) (g .text .now)) _ (q .last .1 .1 .1 .1 .1 .1 .1 .0) (q .result) (q .ensures))))
+    let g = c .before .before .before .before .before .before .before .before .before .before .before .before .before
+    .before .args in
+    sym (length-take-le (q .result) (q .last .1 .1 .1 .1 .1 .1 .1 .0)
+    (inside (rangesOf (g .limit) (countsOf (g .least .now)) (countsOf (g .greatest .now)) (g .text .now)) _
+    (q .last .1 .1 .1 .1 .1 .1 .1 .0) (q .result) (q .ensures))))
     (λ c κs. search needs)
     (λ c. search needs)
     returns)

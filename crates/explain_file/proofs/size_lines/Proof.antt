@@ -1,4 +1,4 @@
--- `explain_file::size_lines`. The invariant: the lines of the types passed stand at the front of the output. Assumes nothing.
+-- `explain_file::size_lines`. The invariant: the lines of the types passed stand at the front of the output.
 use mathlib.Core.Path.{_≡_, refl, sym, ap, _∙_}
 use mathlib.Core.List.{List, _++_}
 use Prim.Native.Nat.{ℕ, _+_, _*_, _-_, _/_, _≤_, _<_}
@@ -10,9 +10,9 @@ use Rattle.frames.specs.declared.Frame.{Frame}
 use Rattle.frames.specs.Bytes.{frameCount, frameAt}
 use Rattle.explain_words.specs.ForProofs.{written}
 use Rattle.explain_words.proofs.Writing.{written-long, put-fits}
-use Rattle.explain_lines.specs.Sizes.{sizeLineOf}
+use Rattle.rule_explain.specs.Sizes.{sizeLineOf}
 use Rattle.explain_lines.proofs.Long.{size-line-long}
-use Rattle.explain_file.specs.Sized.{sizeLineAt, sizeLines}
+use Rattle.rule_explain.specs.Sized.{sizeLineAt, sizeLines}
 use Rattle.explain_file.proofs.Fitting.{joined-long, After, before, turn, shown-all, made, made-long, made-at}
 use Rattle.explain_file.proofs.size_lines.Statement.{statement}
 use Rattle.explain_file.proofs.size_lines.Tie as tie
@@ -56,7 +56,8 @@ kept-here : (c : tie.After-put-size Inv-loop μ-loop) → let p = c .put-size in
 kept-here c =
     let l = c .before .before .before .before .loop in
     let p = c .put-size in
-    let x = sizeLineOf (c .before .before .before .before .before .before .before .before .before .before .args .frames .now) (record { 0 = l .k }) (c .before .before .frame-at .result) in
+    let x = sizeLineOf (c .before .before .before .before .before .before .before .before .before .before .args .frames
+    .now) (record { 0 = l .k }) (c .before .before .frame-at .result) in
     let w = made-here c in
     made-long (l .line) (p .last .1 .1 .1 .0) x (p .result) (w .1) (w .0) (p .ensures .1) (l .inv .wide)
 
@@ -93,15 +94,18 @@ loop-again c =
     let w = made-here put in
     let m = kept-here put in
     let y = take (p .result) (p .last .1 .1 .1 .0) in
-    let e : sizeLineOf (g .frames .now) (record { 0 = l .k }) (f .result) ≡ sizeLineAt (g .frames .now) (g .sizes .now) (l .k) =
+    let e : sizeLineOf (g .frames .now) (record { 0 = l .k }) (f .result)
+    ≡ sizeLineAt (g .frames .now) (g .sizes .now) (l .k) =
     ap (λ (x : Frame). sizeLineOf (g .frames .now) (record { 0 = l .k }) x) (f .ensures) in
     let x : y ≡ sizeLineAt (g .frames .now) (g .sizes .now) (l .k) =
-    made (l .line) (p .last .1 .1 .1 .0) (sizeLineOf (g .frames .now) (record { 0 = l .k }) (f .result)) (p .result) (w .1) (w .0) ∙ e in
+    made (l .line) (p .last .1 .1 .1 .0) (sizeLineOf (g .frames .now) (record { 0 = l .k }) (f .result)) (p .result)
+    (w .1) (w .0) ∙ e in
     let fits : l .at + length y ≤ length (l .out) = omega (arith, room-here put, m .1) in
     let o = q .ensures ∙ put-fits (l .out) y (l .at) fits in
     record {
       few = omega (arith, h);
-      written = turn (sizeLineAt (g .frames .now) (g .sizes .now)) (l .k) (g .out .now) (l .out) (q .last .1 .0) y (l .at) (p .result)
+      written = turn (sizeLineAt (g .frames .now) (g .sizes .now)) (l .k) (g .out .now) (l .out) (q .last .1 .0) y
+          (l .at) (p .result)
           (l .inv .written) x (w .0 ∙ ap length e) (omega (arith, room-here put, l .inv .long)) o;
       wide = m .0;
       long = ap length o ∙ written-long (l .out) y (l .at) fits ∙ l .inv .long;
@@ -112,7 +116,8 @@ returns c =
     let g = c .before .before .before .before .before .before .before .args in
     let l = c .before .loop in
     let n = c .before .before .frame-count .ensures in
-    shown-all (sizeLines (g .frames .now) (g .sizes .now)) (g .out .now) (l .out) (l .k) (l .at) (omega (arith, n, l .inv .few, c .loop-test .left))
+    shown-all (sizeLines (g .frames .now) (g .sizes .now)) (g .out .now) (l .out) (l .k) (l .at)
+    (omega (arith, n, l .inv .few, c .loop-test .left))
     (l .inv .written)
 
 pub size-lines-spec : {M : Type 1} → statement M
@@ -125,7 +130,12 @@ size-lines-spec =
     loop-holds
     (λ c κs. search needs)
     (λ c.
-    omega (arith, c .before .loop-test .taken, c .before .before .before .frame-count .ensures, c .before .before .before .before .before .before .before .before .pre .1))
+    omega (
+      arith,
+      c .before .loop-test .taken,
+      c .before .before .before .frame-count .ensures,
+      c .before .before .before .before .before .before .before .before .pre .1,
+    ))
     (λ c κs. search needs)
     (λ c. omega (arith, kept-here (c .before .before) .0, c .before .before .put-size .ensures .1))
     (λ c. kept-here (c .before .before .before) .1)

@@ -1,4 +1,4 @@
--- `explain_file::sizes_text`: the lines stand at the front of their buffer, and are copied to the other. Assumes nothing.
+-- `explain_file::sizes_text`: the lines stand at the front of their buffer, and are copied to the other.
 use mathlib.Core.Path.{_≡_, sym, ap, _∙_}
 use mathlib.Core.List.{List}
 use Prim.Native.Nat.{ℕ}
@@ -8,8 +8,8 @@ use lib.Seq.{length-take-le}
 use borrow.Author.Needs.{needs}
 use Rattle.answers.specs.Numbers.{printedSaid}
 use Rattle.rule_file.specs.Printed.{printed, printedAfter}
-use Rattle.rule_file.proofs.Over.{with-said}
-use Rattle.explain_file.specs.Sized.{sizesOf}
+use Rattle.law_file.proofs.Over.{with-said}
+use Rattle.rule_explain.specs.Sized.{sizesOf}
 use Rattle.explain_file.proofs.Fits.{sized-fits}
 use Rattle.explain_file.proofs.Fitting.{inside, lines-are}
 use Rattle.explain_file.proofs.sizes_text.Statement.{statement}
@@ -17,7 +17,8 @@ use Rattle.explain_file.proofs.sizes_text.Tie as tie
 
 returns : tie.Need-returns
 returns c =
-    let g = c .before .before .before .before .before .before .before .before .before .before .before .before .before .before .before .before .args in
+    let g = c .before .before .before .before .before .before .before .before .before .before .before .before .before
+    .before .before .before .args in
     let q = c .before .before .before .before .before .before .before .before .before .sizes-with in
     let p = c .before .before .print in
     let e = lines-are (sizesOf (g .limit) (g .text .now)) _ (q .last .1 .1 .1 .1 .1 .0) (q .result) (q .ensures) in
@@ -33,10 +34,20 @@ sizes-text-spec =
     (λ c. search needs)
     (λ c. search needs)
     (λ c κs. (search needs, (search needs, (search needs, search needs))))
-    (λ c. omega (arith, c .before .before .before .before .sizes-with .ensures .0, sized-fits (c .before .before .before .before .before .before .before .before .before .before .before .args .limit) (c .before .before .before .before .before .before .before .before .before .before .before .args .text .now)))
+    (λ c. omega (
+      arith,
+      c .before .before .before .before .sizes-with .ensures .0,
+      sized-fits (c .before .before .before .before .before .before .before .before .before .before .before .args
+          .limit) (c .before .before .before .before .before .before .before .before .before .before .before .args
+          .text .now),
+    ))
     (λ c.
     let q = c .before .before .before .before .before .sizes-with in
-    sym (length-take-le (q .result) (q .last .1 .1 .1 .1 .1 .0) (inside (sizesOf (c .before .before .before .before .before .before .before .before .before .before .before .before .args .limit) (c .before .before .before .before .before .before .before .before .before .before .before .before .args .text .now)) _ (q .last .1 .1 .1 .1 .1 .0) (q .result) (q .ensures))))
+    sym (length-take-le (q .result) (q .last .1 .1 .1 .1 .1 .0)
+    (inside (sizesOf (c .before .before .before .before .before .before .before .before .before .before .before
+    .before .args .limit)
+    (c .before .before .before .before .before .before .before .before .before .before .before .before .args
+    .text .now)) _ (q .last .1 .1 .1 .1 .1 .0) (q .result) (q .ensures))))
     (λ c κs. search needs)
     (λ c. search needs)
     returns)

@@ -1,4 +1,4 @@
--- `explain_words::copy`: by its two tests. Assumes nothing.
+-- `explain_words::copy`: by its two tests.
 use Prim.Native.Nat.{ℕ, _+_, _*_, _<_, _≤_}
 use mathlib.Core.Path.{_≡_, refl}
 use native.Mathlib.Omega.{arith}
@@ -32,4 +32,5 @@ returns-3 c =
     rw (le-leb _ _ h) (c .before .before .copy-in .ensures)
 
 pub copy-spec : {M : Type 1} → statement M
-copy-spec = tie.close (tie.spec returns (λ c. search needs) returns-2 (λ c κs. search needs) (λ c. search needs) returns-3)
+copy-spec = tie.close
+    (tie.spec returns (λ c. search needs) returns-2 (λ c κs. search needs) (λ c. search needs) returns-3)

@@ -1,4 +1,4 @@
--- `explain_words::copy_in`. The invariant: the bytes passed are copied, and the others are as they were. Assumes nothing.
+-- `explain_words::copy_in`. The invariant: the bytes passed are copied, and the others are as they were.
 use mathlib.Core.Path.{_≡_, refl, sym, ap, _∙_}
 use Prim.Native.Nat.{ℕ, _+_, _-_, _≤_}
 use native.Mathlib.Nat.{le-antisymm}
@@ -23,7 +23,8 @@ Inv-loop src out₀ at j₀ out j = Inv src out₀ out at j
 abbrev μ-loop : tie.MeasureT-loop
 μ-loop src out₀ at j₀ out j = length src - j
 
-turn : (src out₀ out : List ℕ) (at j : ℕ) → out ≡ paste out₀ at src j → j + 1 ≤ length src → at + length src ≤ length out₀
+turn : (src out₀ out : List ℕ) (at j : ℕ) → out ≡ paste out₀ at src j → j + 1 ≤ length src
+    → at + length src ≤ length out₀
     → set out (at + j) (getD src j 0) ≡ paste out₀ at src (j + 1)
 turn src out₀ out at j e h r = rw (add-one, e) (paste-suc out₀ at src j 0 (omega arith) (omega arith))
 
@@ -33,7 +34,8 @@ loop-again c =
     let l = c .before .before .loop in
     record {
       few = omega arith;
-      bytes = turn (a .src .now) (a .out .now) (l .out) (a .at) (l .j) (l .inv .bytes) (omega arith) (c .before .before .before .pre);
+      bytes = turn (a .src .now) (a .out .now) (l .out) (a .at) (l .j) (l .inv .bytes) (omega arith)
+          (c .before .before .before .pre);
       long = simp length-set (l .inv .long);
     }
 
@@ -43,7 +45,8 @@ returns c =
     let l = c .before .loop in
     let j : l .j ≡ length (a .src .now) = omega arith in
     l .inv .bytes ∙ ap (paste (a .out .now) (a .at) (a .src .now)) j
-    ∙ ap (λ (x : List ℕ). take (a .at) (a .out .now) ++ x ++ drop (a .at + length (a .src .now)) (a .out .now)) (take-length (a .src .now))
+    ∙ ap (λ (x : List ℕ). take (a .at) (a .out .now) ++ x ++ drop (a .at + length (a .src .now)) (a .out .now))
+    (take-length (a .src .now))
 
 pub copy-in-spec : {M : Type 1} → statement M
 copy-in-spec =
@@ -51,7 +54,12 @@ copy-in-spec =
     (tie.spec
     Inv-loop
     μ-loop
-    (λ c. record { few = omega arith; bytes = paste-zero (c .args .out .now) (c .args .at) (c .args .src .now); long = refl })
+    (λ c. record {
+      few = omega arith;
+      bytes = paste-zero (c .args .out .now) (c .args .at)
+          (c .args .src .now);
+      long = refl;
+    })
     (λ c. search needs)
     (λ c. omega arith)
     (λ c. omega arith)

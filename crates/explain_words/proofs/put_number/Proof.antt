@@ -1,4 +1,4 @@
--- `explain_words::put_number`: the digits, copied from the end of a buffer of ten bytes. Assumes nothing.
+-- `explain_words::put_number`: the digits, copied from the end of a buffer of ten bytes.
 use mathlib.Core.Path.{_≡_, refl, sym, ap, _∙_}
 use mathlib.Core.List.{List, _++_}
 use Prim.Native.Nat.{ℕ, _+_, _-_, _≤_, _<_}
@@ -6,7 +6,7 @@ use native.Mathlib.Omega.{arith}
 use lib.ListN.{length, take, drop, length-drop}
 use lib.Seq.{take-all}
 use borrow.Author.Needs.{needs}
-use Rattle.explain_words.specs.Lines.{decimal}
+use Rattle.rule_explain.specs.Lines.{decimal}
 use Rattle.explain_words.specs.ForProofs.{written}
 use Rattle.explain_words.proofs.put_number.Statement.{statement}
 use Rattle.explain_words.proofs.put_number.Tie as tie

@@ -1,4 +1,4 @@
--- `explain_words::put_pieces`: by its two tests. Assumes nothing.
+-- `explain_words::put_pieces`: by its two tests.
 use Prim.Native.Nat.{ℕ, _+_, _*_, _<_, _≤_}
 use mathlib.Core.Path.{_≡_, refl}
 use native.Mathlib.Omega.{arith}
@@ -20,7 +20,8 @@ returns-2 : tie.Need-returns-2
 unfolding putPieces placeAfter
 returns-2 c =
     let g = c .before .before .before .before .args in
-    let h : length (g .out .now) < g .at + 48 * length (g .pieces .now) = omega (arith, c .if2 .taken, c .before .if1 .left) in
+    let h : length (g .out .now) < g .at + 48 * length
+    (g .pieces .now) = omega (arith, c .if2 .taken, c .before .if1 .left) in
     rw (lt-leb _ _ h) (refl, omega arith, refl)
 
 returns-3 : tie.Need-returns-3
@@ -32,4 +33,5 @@ returns-3 c =
     rw (le-leb _ _ h) (c .before .before .put-run .ensures)
 
 pub put-pieces-spec : {M : Type 1} → statement M
-put-pieces-spec = tie.close (tie.spec returns (λ c. search needs) returns-2 (λ c κs. search needs) (λ c. search needs) returns-3)
+put-pieces-spec = tie.close
+    (tie.spec returns (λ c. search needs) returns-2 (λ c κs. search needs) (λ c. search needs) returns-3)

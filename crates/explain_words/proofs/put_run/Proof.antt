@@ -1,4 +1,4 @@
--- `explain_words::put_run`. The invariant: the pieces passed are written, one after the other. Assumes nothing.
+-- `explain_words::put_run`. The invariant: the pieces passed are written, one after the other.
 use mathlib.Core.Path.{_≡_, refl, sym, ap, _∙_}
 use mathlib.Core.List.{List, [], _++_}
 use Prim.Native.Nat.{ℕ, _+_, _*_, _-_, _≤_, _<_}
@@ -6,7 +6,7 @@ use native.Mathlib.Omega.{arith}
 use lib.ListN.{length, take, drop, getD, length-append}
 use lib.Seq.{take-length}
 use borrow.Author.Needs.{needs}
-use Rattle.explain_words.specs.Lines.{pieceBytes, spelled}
+use Rattle.rule_explain.specs.Lines.{pieceBytes, spelled}
 use Rattle.explain_words.specs.ForProofs.{written}
 use Rattle.explain_words.proofs.Writing.{join, written-none, written-long, spelled-one, spelled-none}
 use Rattle.explain_words.proofs.put_run.Statement.{statement}
@@ -30,7 +30,8 @@ abbrev μ-loop : tie.MeasureT-loop
 more : (ps out₀ out last : List ℕ) (at next r i p : ℕ) → i < length ps → at + 48 * length ps ≤ length out₀
     → next ≡ at + length (spelled (take i ps)) → next ≤ at + 48 * i → out ≡ written out₀ at (spelled (take i ps))
     → p ≡ getD ps i 0 → r ≡ next + length (pieceBytes p) → r ≤ next + 48 → last ≡ written out next (pieceBytes p)
-    → (r ≡ at + length (spelled (take (i + 1) ps))) × (last ≡ written out₀ at (spelled (take (i + 1) ps))) × (length last ≡ length out₀)
+    → (r ≡ at + length (spelled (take (i + 1) ps))) × (last ≡ written out₀ at (spelled (take (i + 1) ps)))
+    × (length last ≡ length out₀)
 more ps out₀ out last at next r i p h room en ln eo ep er lr el =
     let x = spelled (take i ps) in
     let y = pieceBytes (getD ps i 0) in
@@ -50,8 +51,10 @@ loop-again c =
     let l = c .before .before .before .before .before .before .loop in
     let q = c .before .before .put-piece in
     let m =
-    more (g .pieces .now) (g .out .now) (l .out) (q .last .1 .0) (g .at) (l .next) (q .result) (l .i) (getD (g .pieces .now) (l .i) 0)
-    (omega arith) (s .pre) (l .inv .next) (l .inv .small) (l .inv .bytes) refl (q .ensures .0) (q .ensures .1) (q .ensures .2) in
+    more (g .pieces .now) (g .out .now) (l .out) (q .last .1 .0) (g .at) (l .next) (q .result) (l .i)
+    (getD (g .pieces .now) (l .i) 0)
+    (omega arith) (s .pre) (l .inv .next) (l .inv .small) (l .inv .bytes) refl (q .ensures .0) (q .ensures .1)
+    (q .ensures .2) in
     record { few = omega arith; next = m .0; small = omega (arith, q .ensures .1); bytes = m .1; long = m .2 }
 
 returns : tie.Need-returns Inv-loop μ-loop
@@ -59,7 +62,8 @@ returns c =
     let g = c .before .before .before .before .args in
     let l = c .before .loop in
     let i : l .i ≡ length (g .pieces .now) = omega arith in
-    let e : take (l .i) (g .pieces .now) ≡ g .pieces .now = ap (λ (k : ℕ). take k (g .pieces .now)) i ∙ take-length (g .pieces .now) in (
+    let e : take (l .i) (g .pieces .now) ≡ g .pieces .now = ap (λ (k : ℕ). take k (g .pieces .now)) i
+    ∙ take-length (g .pieces .now) in (
       l .inv .next ∙ ap (λ (x : List ℕ). g .at + length (spelled x)) e,
       omega arith,
       l .inv .bytes ∙ ap (λ (x : List ℕ). written (g .out .now) (g .at) (spelled x)) e,
@@ -69,7 +73,14 @@ loop-holds : tie.Need-loop-holds Inv-loop μ-loop
 unfolding spelled
 loop-holds c =
     let g = c .before .before .args in
-    record { few = omega arith; next = omega arith; small = omega arith; bytes = written-none (g .out .now) (g .at); long = refl }
+    record {
+      few = omega arith;
+      next = omega arith;
+      small = omega arith;
+      bytes = written-none (g .out .now)
+          (g .at);
+      long = refl;
+    }
 
 pub put-run-spec : {M : Type 1} → statement M
 put-run-spec =

@@ -1,11 +1,11 @@
--- `explain_words::put_word`: by where each word begins in the run of all. Assumes nothing.
+-- `explain_words::put_word`: by where each word begins in the run of all.
 use mathlib.Core.Path.{_≡_, refl, sym, ap, _∙_}
 use mathlib.Core.List.{List, [], _++_}
 use Prim.Native.Nat.{ℕ, _+_, _-_, _≤_, _<_}
 use native.Mathlib.Omega.{arith}
 use lib.ListN.{length, take, drop}
 use borrow.Author.Needs.{needs}
-use Rattle.explain_words.specs.Words.{table, wordBytes}
+use Rattle.rule_explain.specs.Words.{wordTable, wordBytes}
 use Rattle.explain_words.specs.ForProofs.{written}
 use Rattle.explain_words.proofs.Places.{run, starts, start, next, next-is, word-is, short, within, no-word}
 use Rattle.explain_words.proofs.Writing.{written-none}
@@ -15,7 +15,8 @@ use Rattle.explain_words.proofs.put_word.Tie as tie
 copy-part-requires : tie.Need-copy-part-requires
 copy-part-requires c κs =
     let w = c .before .before .before .before .before .before .before .args .w in
-    let a : c .before .before .before .before .wide .result ≡ start w = c .before .before .before .before .wide .ensures in
+    let a : c .before .before .before .before .wide .result
+    ≡ start w = c .before .before .before .before .wide .ensures in
     let e : c .before .before .before .wide2 .result ≡ next w = c .before .before .before .wide2 .ensures in
     let h : w < 163 = c .before .before .before .before .before .if1 .taken in
     (omega (arith, next-is w h), omega (arith, within w h), omega (arith, next-is w h, short w h))
@@ -41,7 +42,7 @@ add-result c =
     omega (arith, next-is w h, short w h)
 
 returns : tie.Need-returns
-unfolding table
+unfolding wordTable
 returns c =
     let w = c .before .before .before .before .before .before .before .before .before .before .args .w in
     let a : c .before .before .before .before .before .before .before .wide .result ≡ start w =
@@ -54,8 +55,9 @@ returns c =
       omega (arith, next-is w h, short w h),
       c .before .before .copy-part .ensures
           ∙ ap (written (g .out .now) (g .at))
-          (ap (λ (k : ℕ). take (c .before .before .before .before .before .before .wide2 .result - k) (drop k (run table))) a
-          ∙ ap (λ (k : ℕ). take (k - start w) (drop (start w) (run table))) e ∙ word-is w h),
+          (ap (λ (k : ℕ). take (c .before .before .before .before .before .before .wide2 .result - k)
+          (drop k (run wordTable))) a
+          ∙ ap (λ (k : ℕ). take (k - start w) (drop (start w) (run wordTable))) e ∙ word-is w h),
     )
 
 returns-2 : tie.Need-returns-2

@@ -1,4 +1,4 @@
--- `all_hand_back`. The invariant: k is what the rows passed hand back, at most two each. Assumes nothing.
+-- `all_hand_back`. The invariant: k is what the rows passed hand back, at most two each.
 use Prim.Native.Nat.{ℕ, _+_, _*_, _-_, _≤_}
 use native.Mathlib.Numerals.{add-one}
 use native.Mathlib.Nat.{le-antisymm}
@@ -13,7 +13,7 @@ use Rattle.frames.specs.declared.Frame.{Frame}
 use Rattle.frames.specs.Bytes.{frameAt}
 use Rattle.archive.specs.declared.Starts.{Starts}
 use Rattle.archive.specs.Starts.{startsOf, rowCount}
-use Rattle.rule_file.proofs.Row.{few-rows, row-small}
+use Rattle.law_file.proofs.Row.{few-rows, row-small}
 use Rattle.file_answers.specs.ForProofs.{handsBack}
 use Rattle.file_answers.proofs.all_hand_back.Statement.{statement}
 use Rattle.file_answers.proofs.all_hand_back.Tie as tie
@@ -95,6 +95,7 @@ all-hand-back-spec =
     let l = c .before .loop in
     let p = c .before .before .before .before .pre in
     let a = c .before .before .before .before .args in
-    let n : l .m ≡ rowCount (a .s) = le-antisymm (l .inv .few) (c .loop-test .left) ∙ c .before .before .row-count .ensures in
+    let n : l .m ≡ rowCount (a .s) = le-antisymm (l .inv .few) (c .loop-test .left)
+    ∙ c .before .before .row-count .ensures in
     l .inv .sum ∙ ap (sumBelow (from (a .frames .now) (a .s .rows))) n
     ∙ ap (λ (s : Starts). sumBelow (from (a .frames .now) (s .rows)) (rowCount (a .s))) (p .1)))

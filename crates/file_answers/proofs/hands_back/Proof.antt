@@ -1,4 +1,4 @@
--- `hands_back`: by the test. Assumes nothing.
+-- `hands_back`: by the test.
 use mathlib.Core.Path.{sym, _∙_}
 use borrow.Author.Needs.{needs}
 use Rattle.file_answers.proofs.hands_back.Statement.{statement}

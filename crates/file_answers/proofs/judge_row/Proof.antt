@@ -1,4 +1,4 @@
--- `judge_row`: the type, the components and their number are read from the frame. Assumes nothing.
+-- `judge_row`: the type, the components and their number are read from the frame.
 use Rattle.file_answers.proofs.judge_row.Statement.{statement}
 use Rattle.file_answers.proofs.judge_row.Tie as tie
 
@@ -11,4 +11,6 @@ judge-row-spec =
     (λ c κs. tt)
     (λ c κs. tt)
     (λ c.
-    rw (c .before .before .before .named .ensures, c .before .before .last .ensures, c .before .second .ensures) at (c .judge .ensures)))
+    rw (c .before .before .before .ty .ensures, c .before .before .first-component .ensures, c .before .count .ensures)
+    at
+    (c .judge .ensures)))

@@ -1,4 +1,4 @@
--- `put_row`: the row is typed, and the answer that the code holds is written. Assumes nothing.
+-- `put_row`: the row is typed, and the answer that the code holds is written.
 use mathlib.Core.Path.{sym, ap, _∙_}
 use borrow.Author.Needs.{needs}
 use Rattle.frames.specs.Bytes.{putFrame}

@@ -1,4 +1,4 @@
--- `handed_frame`: a slice of sixteen bytes has a first frame, and none has a frame of the number of its bytes. Assumes nothing.
+-- `handed_frame`: a slice of sixteen bytes has a first frame, and none has a frame of the number of its bytes.
 use Prim.Native.Nat.{ℕ}
 use native.Mathlib.Omega.{arith}
 use mathlib.Core.Path.{_≡_, sym, ap, _∙_}
@@ -18,12 +18,16 @@ past-end s = rw (le-ltb (length s) (frameCount s) (omega arith))
 returns : tie.Need-returns
 unfolding handedFrame
 returns c =
-    c .frame-at .ensures ∙ sym (ap (λ (b : Bool). cond b (frameAt (c .before .before .before .args .s .now) 0) zeroFrame) (eq-eqb (length (c .before .before .before .args .s .now)) 16 (c .before .if1 .taken)))
+    c .frame-at .ensures ∙ sym
+    (ap (λ (b : Bool). cond b (frameAt (c .before .before .before .args .s .now) 0) zeroFrame)
+    (eq-eqb (length (c .before .before .before .args .s .now)) 16 (c .before .if1 .taken)))
 
 returns-2 : tie.Need-returns-2
 unfolding handedFrame
 returns-2 c =
-    c .frame-at2 .ensures ∙ past-end (c .before .before .before .args .s .now) ∙ sym (ap (λ (b : Bool). cond b (frameAt (c .before .before .before .args .s .now) 0) zeroFrame) (ne-eqb (length (c .before .before .before .args .s .now)) 16 (c .before .if1 .left)))
+    c .frame-at2 .ensures ∙ past-end (c .before .before .before .args .s .now)
+    ∙ sym (ap (λ (b : Bool). cond b (frameAt (c .before .before .before .args .s .now) 0) zeroFrame)
+    (ne-eqb (length (c .before .before .before .args .s .now)) 16 (c .before .if1 .left)))
 
 pub handed-frame-spec : {M : Type 1} → statement M
 handed-frame-spec =

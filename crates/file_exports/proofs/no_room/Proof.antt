@@ -1,4 +1,4 @@
--- `no_room`: the number of what reading gives then. Assumes nothing.
+-- `no_room`: the number of what reading gives then.
 use mathlib.Core.Path.{ap, _∙_}
 use Rattle.rule_file.specs.Exported.{outcomeNumber, noRoom}
 use borrow.Author.Needs.{needs}

@@ -1,4 +1,4 @@
--- `pass_of`: by the test. Assumes nothing.
+-- `pass_of`: by the test.
 use native.Mathlib.Omega.{arith}
 use borrow.Author.Tests.{eq-eqb, ne-eqb}
 use Rattle.rule_file.specs.Exported.{passOf}

@@ -1,31 +1,9 @@
--- `put_sameness`: each arm knows its case, and what its call ensures. Assumes nothing.
+-- `put_sameness`: each arm knows its case, and what its call ensures.
+use mathlib.Core.Path.{refl}
 use borrow.Author.Needs.{needs}
+use Rattle.file_exports.proofs.Framed.{framed}
 use Rattle.file_exports.proofs.put_sameness.Statement.{statement}
 use Rattle.file_exports.proofs.put_sameness.Tie as tie
-
-returns : tie.Need-returns
-returns c =
-    rw (c .before .before .before .before .enum-told .given .1) (c .before .before .put-zero .ensures)
-
-returns-2 : tie.Need-returns-2
-returns-2 c =
-    rw (c .before .before .before .before .enum-told2 .given .1) (c .before .before .put-zero2 .ensures)
-
-returns-3 : tie.Need-returns-3
-returns-3 c =
-    rw (c .before .before .before .before .enum-told3 .given .1) (c .before .before .put-newer .ensures)
-
-returns-4 : tie.Need-returns-4
-returns-4 c =
-    rw (c .before .before .before .before .enum-told4 .given .1) (c .before .before .put-field .ensures)
-
-returns-5 : tie.Need-returns-5
-returns-5 c =
-    rw (c .before .before .before .before .enum-told5 .given .1) (c .before .before .put-index .ensures)
-
-returns-6 : tie.Need-returns-6
-returns-6 c =
-    rw (c .before .before .before .before .before .given .given .1) (c .before .before .put-outcome .ensures)
 
 pub put-sameness-spec : {M : Type 1} → statement M
 put-sameness-spec =
@@ -39,19 +17,21 @@ put-sameness-spec =
     (λ c κs. tt)
     (λ c. c .match .keys4)
     (λ c κs. tt)
+    (λ c κs. tt)
     (λ c. c .match .keys5)
     (λ c κs. tt)
     (λ c. c .match .keys6)
     (λ c κs. tt)
     (λ c. search needs)
-    returns
+    (λ c. rw (c .before .before .before .before .enum-told .given .1) (c .before .before .put-zero .ensures))
     (λ c. search needs)
-    returns-2
+    (λ c. rw (c .before .before .before .before .enum-told2 .given .1) (c .before .before .put-zero2 .ensures))
     (λ c. search needs)
-    returns-3
+    (λ c. rw (c .before .before .before .before .enum-told3 .given .1) (c .before .before .put-newer .ensures))
     (λ c. search needs)
-    returns-4
+    (λ c. rw (c .before .before .before .before .before .enum-told4 .given .1)
+    (framed _ (c .before .before .put .ensures) refl (c .before .before .before .outcome-frame .ensures)))
     (λ c. search needs)
-    returns-5
+    (λ c. rw (c .before .before .before .before .enum-told5 .given .1) (c .before .before .put-index .ensures))
     (λ c. search needs)
-    returns-6)
+    (λ c. rw (c .before .before .before .before .before .given .given .1) (c .before .before .put-outcome .ensures)))

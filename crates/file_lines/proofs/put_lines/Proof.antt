@@ -1,7 +1,7 @@
--- `put_lines`: all lines where there is room for them. Assumes nothing.
+-- `put_lines`: all lines where there is room for them.
 use native.Mathlib.Omega.{arith}
 use borrow.Author.Needs.{needs}
-use Rattle.rule_file.proofs.Printed.{lines-short, lines-all}
+use Rattle.law_file.proofs.Printed.{lines-short, lines-all}
 use mathlib.Core.Path.{refl}
 use Rattle.file_lines.proofs.put_lines.Statement.{statement}
 use Rattle.file_lines.proofs.put_lines.Tie as tie
@@ -19,4 +19,5 @@ put-lines-spec =
     (λ c.
     let g = c .before .before .before .before .before .before .before .args in
     let w = c .before .before .write-text in
-    lines-all (g .frames .now) (g .out .now) _ refl (w .last .1 .0) (w .result) (omega (arith, c .before .before .before .before .if1 .left)) (w .ensures .0) (w .ensures .1)))
+    lines-all (g .frames .now) (g .out .now) _ refl (w .last .1 .0) (w .result)
+    (omega (arith, c .before .before .before .before .if1 .left)) (w .ensures .0) (w .ensures .1)))

@@ -1,23 +1,69 @@
--- `type_lines`: the lines of the frame of a number, or of all that is handed back. Assumes nothing.
-use mathlib.Core.Path.{_≡_, sym, ap, _∙_}
-use mathlib.Core.List.{List}
-use Prim.Native.Nat.{ℕ, _*_}
+-- `type_lines`: the lines of the frame of a number, or of all that is handed back.
+use mathlib.Core.Path.{sym, ap, _∙_}
+use Prim.Native.Nat.{_*_}
 use native.Mathlib.Omega.{arith}
 use lib.ListN.{length}
 use lib.Seq.{length-take-le}
 use borrow.Author.Needs.{needs}
-use Rattle.answers.specs.declared.Printed.{Printed}
 use Rattle.frames.specs.Bytes.{putFrame}
-use Rattle.rule_file.specs.Printed.{printed, printedAfter}
-use Rattle.rule_file.proofs.Typed.{outputs-within, outputs-fit}
-use Rattle.rule_file.proofs.Printed.{number-long, refused-lines, accepted-lines}
+use Rattle.law_file.proofs.Typed.{outputs-within, outputs-fit}
+use Rattle.law_file.proofs.Printed.{number-long, refused-lines, accepted-lines}
 use Rattle.file_lines.proofs.type_lines.Statement.{statement}
 use Rattle.file_lines.proofs.type_lines.Tie as tie
 
--- what is written of the frames is written of the text
-of-text : (l m o last : List ℕ) (r : Printed) → l ≡ m → (r ≡ printed m (length o)) × (last ≡ printedAfter m o)
-    → (r ≡ printed l (length o)) × (last ≡ printedAfter l o)
-of-text l m o last r e h = (h .0 ∙ ap (λ (x : List ℕ). printed x (length o)) (sym e), h .1 ∙ ap (λ (x : List ℕ). printedAfter x o) (sym e))
+put-lines-requires : tie.Need-put-lines-requires
+put-lines-requires c κs =
+    let s = c .before .before .before .before .before .before .before .before .before .before .before .before .before
+    .before .before .before .before .before .before .before .before .before in
+    let h = c .before .before .before .before .before .before .before .before .before .before .before .before .before
+    .before .before .type-file in
+    omega (
+      arith,
+      ap length (c .before .first-frames .ensures),
+      number-long (h .ensures) (s .pre .0) (s .pre .1) (c .before .before .before .before .before .put-frame .last .0)
+          (sym (c .before .before .before .before .before .before .before .before .before .before .frames-in .ensures) ∙
+          c .before .before .before .before .before .before .before .before .enum-told .given .1)
+          (c .before .before .before .before .before .put-frame .ensures ∙ ap (putFrame (h .last .1 .1 .1 .1 .0) 0) (c
+          .before .before .before .before .before .before .outcome-frame .ensures)),
+    )
+
+put-lines-requires-2 : tie.Need-put-lines-requires-2
+put-lines-requires-2 c κs =
+    let h = c .before .before .before .before .before .before .before .before .before .before .type-file in
+    let n = sym (c .before .before .before .before .before .frames-in .ensures) ∙ c .before .before .before .enum-told2
+    .given .1 in
+    omega (
+      arith,
+      ap length (c .before .first-frames2 .ensures),
+      length-take-le (16 * h .result .outputs) (h .last .1 .1 .1 .1 .0) (outputs-within (h .ensures) n),
+      outputs-fit (h .ensures) n,
+      c .before .before .before .before .before .before .before .before .before .before .before .before .before .before
+          .before .before .before .pre .1,
+    )
+
+returns : tie.Need-returns
+returns c =
+    let s = c .before .before .before .before .before .before .before .before .before .before .before .before .before
+    .before .before .before .before .before .before .before .before .before .before .before .before in
+    let h = c .before .before .before .before .before .before .before .before .before .before .before .before .before
+    .before .before .before .before .before .type-file in
+    rw (refused-lines (h .ensures) (s .pre .0) (s .pre .1) _
+    (sym (c .before .before .before .before .before .before .before .before .before .before .before .before .before
+    .frames-in .ensures) ∙ c .before .before .before .before .before .before .before .before .before .before .before
+    .enum-told .given .1)
+    (c .before .before .before .before .before .before .before .before .put-frame .ensures ∙ ap (putFrame (h .last .1 .1
+    .1 .1 .0) 0) (c .before .before .before .before .before .before .before .before .before .outcome-frame .ensures)))
+    (rw (c .before .before .before .before .first-frames .ensures) at (c .before .before .put-lines .ensures))
+
+returns-2 : tie.Need-returns-2
+returns-2 c =
+    let s = c .before .before .before .before .before .before .before .before .before .before .before .before .before
+    .before .before .before .before .before .before .before in
+    rw (accepted-lines (c .before .before .before .before .before .before .before .before .before .before .before
+    .before .before .type-file .ensures) (s .pre .0) (s .pre .1)
+    (sym (c .before .before .before .before .before .before .before .before .frames-in .ensures) ∙ c .before .before
+    .before .before .before .before .enum-told2 .given .1))
+    (rw (c .before .before .before .before .first-frames2 .ensures) at (c .before .before .put-lines2 .ensures))
 
 pub type-lines-spec : {M : Type 1} → statement M
 type-lines-spec =
@@ -28,59 +74,16 @@ type-lines-spec =
     (λ c. search needs)
     (λ c κs. search needs)
     (λ c κs. search needs)
+    (λ c κs. search needs)
+    put-lines-requires
     (λ c. search needs)
-    (λ c.
-    sym
-    (number-long
-    (c .before .before .before .before .before .before .before .before .before .before .before .before .before .type-file .ensures) (c .before .before .before .before .before .before .before .before .before .before .before .before .before .before .before .before .before .before .before .before .pre .0) (c .before .before .before .before .before .before .before .before .before .before .before .before .before .before .before .before .before .before .before .before .pre .1) _
-    (sym (c .before .before .before .before .before .before .before .before .frames-in .ensures) ∙ c .before .before .before .before .before .before .enum-told .given .1)
-    (c .before .before .before .put-frame .ensures ∙ ap (putFrame (c .before .before .before .before .before .before .before .before .before .before .before .before .before .type-file .last .1 .1 .1 .1 .0) 0) (c .before .before .before .before .outcome-frame .ensures))))
-    (λ c κs.
-    omega (
-      arith,
-      number-long
-          (c .before .before .before .before .before .before .before .before .before .before .before .before .before .before .type-file .ensures) (c .before .before .before .before .before .before .before .before .before .before .before .before .before .before .before .before .before .before .before .before .before .pre .0) (c .before .before .before .before .before .before .before .before .before .before .before .before .before .before .before .before .before .before .before .before .before .pre .1) (c .before .before .before .before .put-frame .last .0)
-          (sym (c .before .before .before .before .before .before .before .before .before .frames-in .ensures) ∙ c .before .before .before .before .before .before .before .enum-told .given .1)
-          (c .before .before .before .before .put-frame .ensures ∙ ap (putFrame (c .before .before .before .before .before .before .before .before .before .before .before .before .before .before .type-file .last .1 .1 .1 .1 .0) 0) (c .before .before .before .before .before .outcome-frame .ensures)),
-    ))
-    (λ c. search needs)
-    (λ c.
-    omega (
-      arith,
-      outputs-fit (c .before .before .before .before .before .before .before .before .type-file .ensures) (sym (c .before .before .before .frames-in .ensures) ∙ c .before .enum-told2 .given .1),
-      c .before .before .before .before .before .before .before .before .before .before .before .before .before .before .before .pre .1,
-    ))
-    (λ c. outputs-within (c .before .before .before .before .before .before .before .before .type-file .ensures) (sym (c .before .before .before .frames-in .ensures) ∙ c .before .enum-told2 .given .1))
-    (λ c.
-    sym
-    (length-take-le _ _
-    (outputs-within (c .before .before .before .before .before .before .before .before .before .type-file .ensures) (sym (c .before .before .before .before .frames-in .ensures) ∙ c .before .before .enum-told2 .given .1))))
-    (λ c κs.
-    let e = sym (c .before .before .before .before .before .frames-in .ensures) ∙ c .before .before .before .enum-told2 .given .1 in
-    let t = c .before .before .before .before .before .before .before .before .before .before .type-file in
-    omega (
-      arith,
-      outputs-fit (t .ensures) e,
-      c .before .before .before .before .before .before .before .before .before .before .before .before .before .before .before .before .before .pre .1,
-      length-take-le (16 * t .result .outputs) (t .last .1 .1 .1 .1 .0) (outputs-within (t .ensures) e),
-    ))
+    (λ c κs. search needs)
+    put-lines-requires-2
     (λ c. search needs)
     (λ c. search needs)
     (λ c. search needs)
-    (λ c.
-    let p = c .before .before .put-lines in
-    of-text _ _ (c .before .before .before .before .before .before .before .before .before .before .before .before .before .before .before .before .before .before .before .before .before .before .before .before .args .out .now) (p .last .1 .0) (p .result)
-    (refused-lines
-    (c .before .before .before .before .before .before .before .before .before .before .before .before .before .before .before .before .before .type-file .ensures) (c .before .before .before .before .before .before .before .before .before .before .before .before .before .before .before .before .before .before .before .before .before .before .before .before .pre .0) (c .before .before .before .before .before .before .before .before .before .before .before .before .before .before .before .before .before .before .before .before .before .before .before .before .pre .1) (c .before .before .before .before .before .before .before .put-frame .last .0)
-    (sym (c .before .before .before .before .before .before .before .before .before .before .before .before .frames-in .ensures) ∙ c .before .before .before .before .before .before .before .before .before .before .enum-told .given .1)
-    (c .before .before .before .before .before .before .before .put-frame .ensures ∙ ap (putFrame (c .before .before .before .before .before .before .before .before .before .before .before .before .before .before .before .before .before .type-file .last .1 .1 .1 .1 .0) 0) (c .before .before .before .before .before .before .before .before .outcome-frame .ensures)))
-    (p .ensures))
+    returns
     (λ c. search needs)
     (λ c. search needs)
     (λ c. search needs)
-    (λ c.
-    let p = c .before .before .put-lines2 in
-    of-text _ _ (c .before .before .before .before .before .before .before .before .before .before .before .before .before .before .before .before .before .before .before .before .args .out .now) (p .last .1 .0) (p .result)
-    (accepted-lines (c .before .before .before .before .before .before .before .before .before .before .before .before .before .type-file .ensures) (c .before .before .before .before .before .before .before .before .before .before .before .before .before .before .before .before .before .before .before .before .pre .0) (c .before .before .before .before .before .before .before .before .before .before .before .before .before .before .before .before .before .before .before .before .pre .1)
-    (sym (c .before .before .before .before .before .before .before .before .frames-in .ensures) ∙ c .before .before .before .before .before .before .enum-told2 .given .1))
-    (p .ensures)))
+    returns-2)

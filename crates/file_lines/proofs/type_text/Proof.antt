@@ -1,4 +1,4 @@
--- `type_text`: its buffers are of the largest sizes. Assumes nothing.
+-- `type_text`: its buffers are of the largest sizes.
 use mathlib.Core.Path.{ap}
 use borrow.Author.Needs.{needs}
 use Rattle.answers.specs.Numbers.{printedSaid}

@@ -1,4 +1,4 @@
--- `frames_in`: each arm knows its case, and what its calls ensure. Assumes nothing.
+-- `frames_in`: each arm knows its case, and what its calls ensure.
 use Rattle.file_read.proofs.frames_in.Statement.{statement}
 use Rattle.file_read.proofs.frames_in.Tie as tie
 

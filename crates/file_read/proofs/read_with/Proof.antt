@@ -1,26 +1,14 @@
--- `read_with`: the frames that checks 4 to 6 are lent are those that `read_text` wrote. Assumes nothing.
-use mathlib.Core.Path.{_≡_, sym, ap, _∙_}
-use Prim.Native.Nat.{_*_, _≤_}
-use native.Mathlib.Omega.{arith}
-use lib.ListN.{length}
-use lib.Seq.{length-take-le}
+-- `read_with`: the frames that checks 4 to 6 are lent are those that `read_text` wrote.
+use mathlib.Core.Path.{sym, ap, _∙_}
 use borrow.Author.Needs.{needs}
 use Rattle.answers.specs.declared.Outcome.{Outcome}
 use Rattle.answers.specs.Numbers.{outcomeValues}
-use Rattle.text.proofs.Laws.{room, front}
+use Rattle.text.proofs.Laws.{front}
 use Rattle.archive.specs.Checks.{checkFrames}
 use Rattle.rule_file.specs.File.{thenFrames, readFile, framesAfter}
-use Rattle.rule_file.proofs.Over.{accepted-of, refused-over, with-said}
+use Rattle.law_file.proofs.Over.{accepted-of, refused-over, with-said}
 use Rattle.file_read.proofs.read_with.Statement.{statement}
 use Rattle.file_read.proofs.read_with.Tie as tie
-
--- the frames lie within the buffer that they were written to
-fits : (c : tie.After-known-told)
-    → 16 * c .before .n .given .0 .0 ≤ length (c .before .before .before .before .before .before .read-text .last .1 .1 .0)
-fits c =
-    let r = c .before .before .before .before .before .before .read-text in
-    room (c .before .before .before .before .before .before .before .before .before .before .args .text .now) (c .before .before .before .before .before .before .before .before .before .before .args .frames .now) _ _ (r .result) (r .ensures .1)
-    (accepted-of (r .result) _ (sym (c .before .before .before .frames-in .ensures) ∙ c .before .n .given .1))
 
 returns : tie.Need-returns
 unfolding readFile framesAfter
@@ -28,18 +16,24 @@ returns c =
     let e = c .before .before .before .before .before .read-text .ensures in
     let t = c .before .before .before .before .before .before .before .before .before .args .text .now in
     with-said outcomeValues
-    (refused-over (λ (o : Outcome). o) checkFrames t _ (sym (c .before .before .frames-in .ensures) ∙ c .enum-told .given .1)
+    (refused-over (λ (o : Outcome). o) checkFrames t _
+    (sym (c .before .before .frames-in .ensures) ∙ c .enum-told .given .1)
     ∙ ap (thenFrames t) (e .0))
     (rw (← e .0) (e .1))
 
 returns-2 : tie.Need-returns-2
 unfolding readFile framesAfter
 returns-2 c =
-    let e = c .before .before .before .before .before .before .before .before .read-text .ensures in
-    let t = c .before .before .before .before .before .before .before .before .before .before .before .before .args .text .now in
+    let e = c .before .before .before .before .before .before .before .before .before .read-text .ensures in
+    let t = c .before .before .before .before .before .before .before .before .before .before .before .before .before
+    .args .text .now in
     let a =
-    accepted-of _ _ (sym (c .before .before .before .before .before .frames-in .ensures) ∙ c .before .before .before .n .given .1) in
-    with-said outcomeValues (c .check-frames .ensures ∙ ap checkFrames (front t _ _ _ _ (e .1) a) ∙ ap (thenFrames t) (sym a ∙ e .0)) (rw (← e .0) (e .1))
+    accepted-of _ _ (sym (c .before .before .before .before .before .before .frames-in .ensures)
+    ∙ c .before .before .before .before .n .given .1) in
+    with-said outcomeValues
+    (c .check-frames .ensures ∙ ap checkFrames (c .before .first-frames .ensures ∙ front t _ _ _ _ (e .1) a)
+    ∙ ap (thenFrames t) (sym a ∙ e .0))
+    (rw (← e .0) (e .1))
 
 pub read-with-spec : {M : Type 1} → statement M
 read-with-spec =
@@ -49,9 +43,7 @@ read-with-spec =
     (λ c κs. tt)
     (λ c. c .match .keys1)
     (λ c. c .match .keys2)
-    (λ c. omega (arith, fits c))
-    (λ c. fits c)
-    (λ c. sym (length-take-le _ _ (fits (c .before))))
+    (λ c κs. tt)
     (λ c κs. tt)
     (λ c. search needs)
     returns

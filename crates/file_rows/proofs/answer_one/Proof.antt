@@ -1,4 +1,4 @@
--- `answer_one`: the row's answer, read at its place. Assumes nothing.
+-- `answer_one`: the row's answer, read at its place.
 use mathlib.Core.Path.{_≡_, refl, sym, ap, _∙_}
 use native.Mathlib.Omega.{arith}
 use lib.ListN.{length, replicate}
@@ -9,8 +9,8 @@ use Rattle.archive.specs.Starts.{startsOf, rowCount}
 use mathlib.Core.Bool.{true, false}
 use lib.Seq.{length-take-le}
 use Rattle.archive.specs.Names.{isRow}
-use Rattle.rule_file.proofs.Row.{few-rows}
-use Rattle.rule_file.proofs.One.{places-long, one-answer}
+use Rattle.law_file.proofs.Row.{few-rows}
+use Rattle.law_file.proofs.One.{places-long, one-answer}
 use Rattle.file_answers.proofs.Rows.{all-filled}
 use Rattle.file_rows.proofs.answer_one.Statement.{statement}
 use Rattle.file_rows.proofs.answer_one.Tie as tie
@@ -25,12 +25,15 @@ answer-one-spec =
     (λ c κs. tt)
     (λ c κs. search needs)
     (λ c.
-    let a = c .before .before .before .before .before .before .before .before .before .before .before .before .before .args in
-    let ready = c .before .before .before .before .before .before .before .before .before .before .before .before .before .pre in
+    let a = c .before .before .before .before .before .before .before .before .before .before .before .before .before
+    .args in
+    let ready = c .before .before .before .before .before .before .before .before .before .before .before .before
+    .before .pre in
     let starts = c .before .before .before .before .before .before .before .before .before .before .find-starts in
     let rows = c .before .before .before .before .before .answer-rows in
     let t =
-    all-filled (a .pass) (a .frames .now) (a .answers .now) (replicate maxFrames 0) (rows .result) (rows .last .1 .1 .0) (rows .last .1 .1 .1 .0) (starts .result) (ready .1)
+    all-filled (a .pass) (a .frames .now) (a .answers .now) (replicate maxFrames 0) (rows .result) (rows .last .1 .1 .0)
+    (rows .last .1 .1 .1 .0) (starts .result) (ready .1)
     (few-rows (a .frames .now) (ready .1 .few)) (starts .ensures) (rows .ensures) in
     omega (
       arith,
@@ -38,12 +41,16 @@ answer-one-spec =
       c .before .row-count .ensures,
     ))
     (λ c.
-    let a = c .before .before .before .before .before .before .before .before .before .before .before .before .before .before .args in
-    let ready = c .before .before .before .before .before .before .before .before .before .before .before .before .before .before .pre in
-    let starts = c .before .before .before .before .before .before .before .before .before .before .before .find-starts in
+    let a = c .before .before .before .before .before .before .before .before .before .before .before .before .before
+    .before .args in
+    let ready = c .before .before .before .before .before .before .before .before .before .before .before .before
+    .before .before .pre in
+    let starts = c .before .before .before .before .before .before .before .before .before .before .before .find-starts
+    in
     let rows = c .before .before .before .before .before .before .answer-rows in
     let t =
-    all-filled (a .pass) (a .frames .now) (a .answers .now) (replicate maxFrames 0) (rows .result) (rows .last .1 .1 .0) (rows .last .1 .1 .1 .0) (starts .result) (ready .1)
+    all-filled (a .pass) (a .frames .now) (a .answers .now) (replicate maxFrames 0) (rows .result) (rows .last .1 .1 .0)
+    (rows .last .1 .1 .1 .0) (starts .result) (ready .1)
     (few-rows (a .frames .now) (ready .1 .few)) (starts .ensures) (rows .ensures) in
     sym
     (length-take-le _ _
@@ -55,19 +62,28 @@ answer-one-spec =
     (λ c κs. search needs)
     (λ c. search needs)
     (λ c.
-    let a = c .before .before .before .before .before .before .before .before .before .before .before .before .before .before .before .args in
-    let ready = c .before .before .before .before .before .before .before .before .before .before .before .before .before .before .before .pre in
-    let starts = c .before .before .before .before .before .before .before .before .before .before .before .before .find-starts in
+    let a = c .before .before .before .before .before .before .before .before .before .before .before .before .before
+    .before .before .args in
+    let ready = c .before .before .before .before .before .before .before .before .before .before .before .before
+    .before .before .before .pre in
+    let starts = c .before .before .before .before .before .before .before .before .before .before .before .before
+    .find-starts in
     let rows = c .before .before .before .before .before .before .before .answer-rows in
     let t =
-    all-filled (a .pass) (a .frames .now) (a .answers .now) (replicate maxFrames 0) (rows .result) (rows .last .1 .1 .0) (rows .last .1 .1 .1 .0) (starts .result) (ready .1)
+    all-filled (a .pass) (a .frames .now) (a .answers .now) (replicate maxFrames 0) (rows .result) (rows .last .1 .1 .0)
+    (rows .last .1 .1 .1 .0) (starts .result) (ready .1)
     (few-rows (a .frames .now) (ready .1 .few)) (starts .ensures) (rows .ensures) in
     let n = c .before .before .before .row-count in
-    one-answer (a .pass) (a .frames .now) (a .answers .now) (rows .last .1 .1 .0) (rows .last .1 .1 .1 .0) _ (starts .result) ready (starts .ensures)
-    (t .1 .0) (t .1 .1) (a .row) (sym (c .before .before .before .before .before .before .before .before .before .before .before .is-row .ensures) ∙ c .before .before .before .before .before .before .before .before .before .before .if1 .taken)
+    one-answer (a .pass) (a .frames .now) (a .answers .now) (rows .last .1 .1 .0) (rows .last .1 .1 .1 .0) _
+    (starts .result) ready (starts .ensures)
+    (t .1 .0) (t .1 .1) (a .row)
+    (sym (c .before .before .before .before .before .before .before .before .before .before .before .is-row
+    .ensures) ∙ c .before .before .before .before .before .before .before .before .before .before .if1 .taken)
     (n .result) (c .past .result) (n .ensures) (c .past .ensures))
     (λ c.
-    (let e : isRow (startsOf (c .before .before .before .before .before .args .frames .now)) (c .before .before .before .before .before .args .row) ≡ false =
-    ap (λ (z : Starts). isRow z (c .before .before .before .before .before .args .row)) (sym (c .before .before .find-starts .ensures))
+    (let e : isRow (startsOf (c .before .before .before .before .before .args .frames .now))
+    (c .before .before .before .before .before .args .row) ≡ false =
+    ap (λ (z : Starts). isRow z (c .before .before .before .before .before .args .row))
+    (sym (c .before .before .find-starts .ensures))
     ∙ sym (c .before .is-row .ensures) ∙ c .if1 .left in
     rw e (refl, refl))))

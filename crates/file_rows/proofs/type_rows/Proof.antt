@@ -1,4 +1,4 @@
--- `type_rows`: as `type_file`, of which it gives the outcome. Assumes nothing.
+-- `type_rows`: as `type_file`, of which it gives the outcome.
 use borrow.Author.Needs.{needs}
 use Rattle.file_rows.proofs.type_rows.Statement.{statement}
 use Rattle.file_rows.proofs.type_rows.Tie as tie
@@ -10,4 +10,5 @@ type-rows-spec =
     (λ c κs. search needs)
     (λ c. search needs)
     (λ c. search needs)
-    (λ c. let h = c .before .before .before .before .type-file .ensures in (h .outcome, (h .said, (h .frames, h .answers)))))
+    (λ c. let h = c .before .before .before .before .type-file .ensures in
+    (h .outcome, (h .said, (h .frames, h .answers)))))

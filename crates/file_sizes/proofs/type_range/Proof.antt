@@ -1,4 +1,4 @@
--- `type_range`: number 6, then 45, then the range by marks of all types. Assumes nothing.
+-- `type_range`: number 6, then 45, then the range by marks of all types.
 use native.Mathlib.Omega.{arith}
 use mathlib.Core.Path.{sym, ap, _∙_}
 use borrow.Author.Needs.{needs}
@@ -11,24 +11,33 @@ use Rattle.file_sizes.proofs.type_range.Tie as tie
 cast-t12 : tie.Need-cast-t12
 cast-t12 c =
     let g = c .before .before .before .before .before .before .before .before .before in
-    let w = span-within (g .args .s) (countsOf (g .args .least .now)) (countsOf (g .args .greatest .now)) _ (sym (c .before .before .before .faulty-span .ensures) ∙ c .before .o .given .1) in
+    let w = span-within (g .args .s) (countsOf (g .args .least .now)) (countsOf (g .args .greatest .now)) _
+    (sym (c .before .before .before .faulty-span .ensures) ∙ c .before .o .given .1) in
     record { fits = omega (arith, w, g .pre .1) }
 
 returns : tie.Need-returns
 unfolding typeRangeIn
-returns c = rw (sym (c .before .before .before .before .before .is-type .ensures) ∙ c .before .before .before .before .if1 .taken, sym (c .before .before .before .faulty-span .ensures) ∙ c .before .o .given .1)
+returns c = rw (
+  sym (c .before .before .before .before .before .is-type .ensures)
+      ∙ c .before .before .before .before .if1 .taken,
+  sym (c .before .before .before .faulty-span .ensures)
+      ∙ c .before .o .given .1,
+)
 
 returns-2 : tie.Need-returns-2
 unfolding typeRangeIn
 returns-2 c =
     let g = c .before .before .before .before .before .before .before .before .before .before .before in
     rw (
-      sym (c .before .before .before .before .before .before .before .is-type .ensures) ∙ c .before .before .before .before .before .before .if1 .taken,
-      sym (c .before .before .before .before .before .faulty-span .ensures) ∙ c .before .before .before .enum-told .given .1,
+      sym (c .before .before .before .before .before .before .before .is-type .ensures)
+          ∙ c .before .before .before .before .before .before .if1 .taken,
+      sym (c .before .before .before .before .before .faulty-span .ensures)
+          ∙ c .before .before .before .enum-told .given .1,
     )
     (ap Tr.Ranged
     (c .range-marked .ensures
-    ∙ range-all (g .args .frames .now) (g .args .s) (c .before .before .pending-marks .result) (g .args .least .now) (g .args .greatest .now) (g .args .n) (g .pre .0) (c .before .before .pending-marks .ensures)))
+    ∙ range-all (g .args .frames .now) (g .args .s) (c .before .before .pending-marks .result) (g .args .least .now)
+    (g .args .greatest .now) (g .args .n) (g .pre .0) (c .before .before .pending-marks .ensures)))
 
 returns-3 : tie.Need-returns-3
 unfolding typeRangeIn

@@ -1,4 +1,4 @@
--- `frame_at`: the test picks between the sixteen bytes and zeros. Assumes nothing.
+-- `frame_at`: the test picks between the sixteen bytes and zeros.
 use borrow.Author.Needs.{needs}
 use borrow.Author.Tests.{lt-ltb, le-ltb}
 use Rattle.frames.specs.Bytes.{frameAt}

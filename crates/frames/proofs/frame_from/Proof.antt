@@ -1,4 +1,4 @@
--- `frame_from`: each field is the byte at its place. Assumes nothing.
+-- `frame_from`: each field is the byte at its place.
 use borrow.Author.Needs.{needs}
 use native.Mathlib.Nat.{add-zero}
 use Rattle.frames.proofs.frame_from.Statement.{statement}

@@ -1,4 +1,4 @@
--- `put_frame`: the test picks between the frame put in its place and the buffer as it was. Assumes nothing.
+-- `put_frame`: the test picks between the frame put in its place and the buffer as it was.
 use borrow.Author.Needs.{needs}
 use borrow.Author.Tests.{lt-ltb, le-ltb}
 use Rattle.frames.specs.Bytes.{putFrame}

@@ -1,4 +1,4 @@
--- `put_from`: each store is in bounds, and the sixteen of them are the frame in its place. Assumes nothing.
+-- `put_from`: each store is in bounds, and the sixteen of them are the frame in its place.
 use borrow.Author.Needs.{needs}
 use native.Mathlib.Omega.{arith}
 use lib.ListN.{length-set}

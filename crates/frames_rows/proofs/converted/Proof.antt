@@ -1,4 +1,4 @@
--- `converted`: the test picks the case. Assumes nothing.
+-- `converted`: the test picks the case.
 use borrow.Author.Tests.{eq-eqb, ne-eqb}
 use Rattle.frames_rows.proofs.converted.Statement.{statement}
 use Rattle.frames_rows.proofs.converted.Tie as tie

@@ -1,4 +1,4 @@
--- `expression`: each arm knows its case, and what its calls ensure; the kind is known. Assumes nothing.
+-- `expression`: each arm knows its case, and what its calls ensure; the kind is known.
 use borrow.Author.Needs.{needs}
 use Rattle.frames_rows.proofs.expression.Statement.{statement}
 use Rattle.frames_rows.proofs.expression.Tie as tie
@@ -72,15 +72,15 @@ expression-spec =
     (λ c.
     rw (
       c .before .before .enum-told6 .given .1,
-      c .last .ensures,
-      c .before .second .ensures,
+      c .first-component .ensures,
+      c .before .count .ensures,
       c .before .before .before .before .named .ensures,
     ))
     (λ c. rw (c .enum-told7 .given .1, c .before .before .named .ensures))
-    (λ c. rw (c .before .enum-told8 .given .1, c .last2 .ensures, c .before .before .before .named .ensures))
+    (λ c. rw (c .before .enum-told8 .given .1, c .last .ensures, c .before .before .before .named .ensures))
     (λ c. rw (c .before .enum-told9 .given .1, c .from-number2 .ensures, c .before .before .before .named .ensures))
     (λ c. rw (c .before .enum-told10 .given .1, c .from-number3 .ensures, c .before .before .before .named .ensures))
-    (λ c. rw (c .before .enum-told11 .given .1, c .last3 .ensures))
+    (λ c. rw (c .before .enum-told11 .given .1, c .last2 .ensures))
     (λ c. rw (c .enum-told12 .given .1, c .before .before .named .ensures))
     (λ c. rw (c .enum-told13 .given .1, c .before .before .named .ensures))
     (λ c. rw (c .enum-told14 .given .1, c .before .before .named .ensures))
@@ -91,7 +91,7 @@ expression-spec =
     (λ c.
     rw (
       c .before .before .enum-told19 .given .1,
-      c .second2 .ensures,
+      c .right .ensures,
       c .before .from-number5 .ensures,
       c .before .before .before .before .named .ensures,
     ))

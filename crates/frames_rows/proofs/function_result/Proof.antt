@@ -1,4 +1,4 @@
--- `function_result`: the test picks the case. Assumes nothing.
+-- `function_result`: the test picks the case.
 use borrow.Author.Tests.{eq-eqb, ne-eqb}
 use Rattle.frames_rows.proofs.function_result.Statement.{statement}
 use Rattle.frames_rows.proofs.function_result.Tie as tie

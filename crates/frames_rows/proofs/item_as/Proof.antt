@@ -1,4 +1,4 @@
--- `item_as`: each arm knows its case, and what its calls ensure. Assumes nothing.
+-- `item_as`: each arm knows its case, and what its calls ensure.
 use Rattle.frames_rows.proofs.item_as.Statement.{statement}
 use Rattle.frames_rows.proofs.item_as.Tie as tie
 
@@ -19,11 +19,11 @@ item-as-spec =
     (λ c. c .match .keys8)
     (λ c. c .match .keys9)
     (λ c. rw (c .enum-told .given .1))
-    (λ c. rw (c .enum-told2 .given .1, c .before .before .named .ensures))
-    (λ c. rw (c .enum-told3 .given .1, c .before .before .named .ensures))
-    (λ c. rw (c .before .enum-told4 .given .1, c .from-number .ensures, c .before .before .before .named .ensures))
-    (λ c. rw (c .enum-told5 .given .1, c .before .before .named .ensures))
-    (λ c. rw (c .enum-told6 .given .1, c .before .before .named .ensures))
-    (λ c. rw (c .before .enum-told7 .given .1, c .function-result .ensures, c .before .before .before .named .ensures))
-    (λ c. rw (c .enum-told8 .given .1, c .before .before .named .ensures))
-    (λ c. rw (c .enum-told9 .given .1, c .before .before .named .ensures)))
+    (λ c. rw (c .enum-told2 .given .1, c .before .before .ty .ensures))
+    (λ c. rw (c .enum-told3 .given .1, c .before .before .ty .ensures))
+    (λ c. rw (c .before .enum-told4 .given .1, c .from-number .ensures, c .before .before .before .ty .ensures))
+    (λ c. rw (c .enum-told5 .given .1, c .before .before .ty .ensures))
+    (λ c. rw (c .enum-told6 .given .1, c .before .before .ty .ensures))
+    (λ c. rw (c .before .enum-told7 .given .1, c .function-result .ensures, c .before .before .before .ty .ensures))
+    (λ c. rw (c .enum-told8 .given .1, c .before .before .ty .ensures))
+    (λ c. rw (c .enum-told9 .given .1, c .before .before .ty .ensures)))

@@ -1,4 +1,4 @@
--- `item_of`: what `item_as` reads at the kind of byte 1. Assumes nothing.
+-- `item_of`: what `item_as` reads at the kind of byte 1.
 use borrow.Author.Needs.{needs}
 use Rattle.frames.specs.Forms.{itemOf}
 use Rattle.frames_rows.proofs.item_of.Statement.{statement}

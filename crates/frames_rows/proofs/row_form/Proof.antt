@@ -1,4 +1,4 @@
--- `row_form`: what `expression` reads at the kind of byte 1, if it is known. Assumes nothing.
+-- `row_form`: what `expression` reads at the kind of byte 1, if it is known.
 use Prim.Native.Nat.{ℕ}
 use mathlib.Core.Path.{_≡_}
 use mathlib.Core.List.{List, [], _∷_}
@@ -13,7 +13,8 @@ use Rattle.frames_rows.proofs.row_form.Tie as tie
 
 abbrev knownKinds : List ℕ
 knownKinds =
-    1 ∷ 2 ∷ 3 ∷ 4 ∷ 5 ∷ 6 ∷ 7 ∷ 8 ∷ 9 ∷ 10 ∷ 11 ∷ 12 ∷ 13 ∷ 14 ∷ 15 ∷ 16 ∷ 17 ∷ 18 ∷ 19 ∷ 20 ∷ 21 ∷ 22 ∷ 23 ∷ 24 ∷ 25 ∷ 26 ∷ 27 ∷ 28 ∷ 29 ∷
+    1 ∷ 2 ∷ 3 ∷ 4 ∷ 5 ∷ 6 ∷ 7 ∷ 8 ∷ 9 ∷ 10 ∷ 11 ∷ 12 ∷ 13 ∷ 14 ∷ 15 ∷ 16 ∷ 17 ∷ 18 ∷ 19 ∷ 20 ∷ 21 ∷ 22 ∷ 23 ∷ 24 ∷ 25
+    ∷ 26 ∷ 27 ∷ 28 ∷ 29 ∷
     30 ∷ 31 ∷ 32 ∷ 33 ∷ 34 ∷ []
 
 is-known : (k : RowKind) → OneOf knownKinds (tagOf the-type k) → k ≡ Rk.Unknown → ⊥

@@ -1,4 +1,4 @@
--- `alone`: each arm knows its case. Assumes nothing.
+-- `alone`: each arm knows its case.
 use borrow.Author.Needs.{needs}
 use Rattle.program_limit.proofs.alone.Statement.{statement}
 use Rattle.program_limit.proofs.alone.Tie as tie

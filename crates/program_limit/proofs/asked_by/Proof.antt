@@ -1,4 +1,4 @@
--- `asked_by`: each arm knows its case, and what its call ensures. Assumes nothing.
+-- `asked_by`: each arm knows its case, and what its call ensures.
 use borrow.Author.Needs.{needs}
 use Rattle.program_limit.proofs.asked_by.Statement.{statement}
 use Rattle.program_limit.proofs.asked_by.Tie as tie

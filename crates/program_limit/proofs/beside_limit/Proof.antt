@@ -1,4 +1,4 @@
--- `beside_limit`: each arm knows its case. Assumes nothing.
+-- `beside_limit`: each arm knows its case.
 use borrow.Author.Needs.{needs}
 use Rattle.program_limit.proofs.beside_limit.Statement.{statement}
 use Rattle.program_limit.proofs.beside_limit.Tie as tie

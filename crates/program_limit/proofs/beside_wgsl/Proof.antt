@@ -1,4 +1,4 @@
--- `beside_wgsl`: each arm knows its case. Assumes nothing.
+-- `beside_wgsl`: each arm knows its case.
 use borrow.Author.Needs.{needs}
 use Rattle.program_limit.proofs.beside_wgsl.Statement.{statement}
 use Rattle.program_limit.proofs.beside_wgsl.Tie as tie

@@ -1,4 +1,4 @@
--- `is_digit`: two tests. Assumes nothing.
+-- `is_digit`: two tests.
 use native.Mathlib.Omega.{arith}
 use borrow.Author.Tests.{le-leb, lt-leb}
 use Rattle.program_limit.proofs.is_digit.Statement.{statement}

@@ -1,4 +1,4 @@
--- `is_wgsl`: five tests. Assumes nothing.
+-- `is_wgsl`: five tests.
 use native.Mathlib.Omega.{arith}
 use lib.ListN.{length}
 use borrow.Author.Needs.{needs}

@@ -1,4 +1,4 @@
--- `next`: by the test. Assumes nothing.
+-- `next`: by the test.
 use native.Mathlib.Omega.{arith}
 use borrow.Author.Needs.{needs}
 use borrow.Author.Tests.{le-leb, lt-leb}

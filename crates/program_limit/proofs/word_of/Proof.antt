@@ -1,4 +1,4 @@
--- `word_of`: by the test, and by what its calls ensure. Assumes nothing.
+-- `word_of`: by the test, and by what its calls ensure.
 use mathlib.Core.Path.{sym, _∙_}
 use borrow.Author.Needs.{needs}
 use Rattle.program_limit.specs.Word.{wordOf}

@@ -1,4 +1,4 @@
--- `replay::all` is safe and ends: the number of turns that are left falls. Assumes nothing.
+-- `replay::all` is safe and ends: the number of turns that are left falls.
 use borrow.Author.Needs.{needs}
 use Rattle.replay.proofs.all.Statement.{statement}
 use Rattle.replay.proofs.all.Tie as tie

@@ -1,4 +1,4 @@
--- `replay::case` is safe and ends: what is replayed is a part of what was read. Assumes nothing.
+-- `replay::case` is safe and ends: what is replayed is a part of what was read.
 use mathlib.Core.Path.{sym}
 use lib.Seq.{length-take-le}
 use borrow.Author.Needs.{needs}

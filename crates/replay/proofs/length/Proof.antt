@@ -1,4 +1,4 @@
--- `replay::length` is safe and ends: five digits are read from within the 12 bytes, and the number stays small. Assumes nothing.
+-- `replay::length` is safe and ends: five digits are read from within the 12 bytes, and the number stays small.
 use Prim.Native.Nat.{_-_, _≤_}
 use borrow.Author.Needs.{needs}
 use Rattle.replay.proofs.length.Statement.{statement}

@@ -1,4 +1,4 @@
--- `replay::same` is safe and ends: each index is below both lengths, which are equal, and what is left falls. Assumes nothing.
+-- `replay::same` is safe and ends: each index is below both lengths, which are equal, and what is left falls.
 use Prim.Native.Nat.{_-_}
 use lib.ListN.{length}
 use borrow.Author.Needs.{needs}

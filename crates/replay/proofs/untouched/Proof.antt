@@ -1,4 +1,4 @@
--- `replay::untouched` is safe and ends: the loop reads below the length, and what is left of it falls. Assumes nothing.
+-- `replay::untouched` is safe and ends: the loop reads below the length, and what is left of it falls.
 use Prim.Native.Nat.{_-_}
 use lib.ListN.{length}
 use borrow.Author.Needs.{needs}

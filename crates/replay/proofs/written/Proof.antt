@@ -1,4 +1,4 @@
--- `replay::written` is safe and ends: the parts compared lie within the buffer and the lines. Assumes nothing.
+-- `replay::written` is safe and ends: the parts compared lie within the buffer and the lines.
 use mathlib.Core.Path.{sym}
 use lib.Seq.{length-take-le}
 use borrow.Author.Needs.{needs}

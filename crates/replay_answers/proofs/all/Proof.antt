@@ -1,4 +1,4 @@
--- `replay_answers::all` is safe and ends: the number of turns that are left falls. Assumes nothing.
+-- `replay_answers::all` is safe and ends: the number of turns that are left falls.
 use borrow.Author.Needs.{needs}
 use Rattle.replay_answers.proofs.all.Statement.{statement}
 use Rattle.replay_answers.proofs.all.Tie as tie

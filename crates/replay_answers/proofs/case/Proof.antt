@@ -1,4 +1,4 @@
--- `replay_answers::case` is safe and ends: the lines of the pairs are a part of what was read. Assumes nothing.
+-- `replay_answers::case` is safe and ends: the lines of the pairs are a part of what was read.
 use mathlib.Core.Path.{sym}
 use lib.Seq.{length-take-le}
 use borrow.Author.Needs.{needs}

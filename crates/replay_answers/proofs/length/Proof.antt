@@ -1,4 +1,4 @@
--- `replay_answers::length` is safe and ends: five digits are read from within the line, and the number stays small. Assumes nothing.
+-- `replay_answers::length` is safe and ends: five digits are read from within the line, and the number stays small.
 use Prim.Native.Nat.{_-_, _≤_}
 use borrow.Author.Needs.{needs}
 use Rattle.replay_answers.proofs.length.Statement.{statement}

@@ -1,4 +1,4 @@
--- `replay_answers::print_pairs` is safe and ends: the pairs that are left fall, and none is past the last. Assumes nothing.
+-- `replay_answers::print_pairs` is safe and ends: the pairs that are left fall, and none is past the last.
 use Prim.Native.Nat.{_-_}
 use borrow.Author.Needs.{needs}
 use Rattle.replay_answers.proofs.print_pairs.Statement.{statement}

@@ -1,4 +1,4 @@
--- `replay_texels::main` is safe and ends: the number of densities that are left falls. Assumes nothing.
+-- `replay_texels::main` is safe and ends: the number of densities that are left falls.
 use Prim.Native.Nat.{_-_, _≤_}
 use borrow.Author.Needs.{needs}
 use Rattle.replay_texels.proofs.main.Statement.{statement}

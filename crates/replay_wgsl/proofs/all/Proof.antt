@@ -1,4 +1,4 @@
--- `replay_wgsl::all` is safe and ends: the number of turns that are left falls. Assumes nothing.
+-- `replay_wgsl::all` is safe and ends: the number of turns that are left falls.
 use borrow.Author.Needs.{needs}
 use Rattle.replay_wgsl.proofs.all.Statement.{statement}
 use Rattle.replay_wgsl.proofs.all.Tie as tie

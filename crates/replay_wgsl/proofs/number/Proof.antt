@@ -1,4 +1,4 @@
--- `replay_wgsl::number` is safe and ends: five digits are read from within the line, and the number stays small. Assumes nothing.
+-- `replay_wgsl::number` is safe and ends: five digits are read from within the line, and the number stays small.
 use Prim.Native.Nat.{_-_, _≤_}
 use borrow.Author.Needs.{needs}
 use Rattle.replay_wgsl.proofs.number.Statement.{statement}

@@ -1,4 +1,4 @@
--- `replay_wgsl::one` is safe and ends: the buffer is longer than what is lent of it. Assumes nothing.
+-- `replay_wgsl::one` is safe and ends: the buffer is longer than what is lent of it.
 use mathlib.Core.Path.{_≡_, sym}
 use Prim.Native.Nat.{ℕ, _≤_}
 use native.Mathlib.Omega.{arith}
@@ -26,5 +26,6 @@ one-spec =
     (λ c. search needs)
     (λ c κs.
     let n = c .before .before .before .before .before .number2 .result in
-    rw (length-take-le {A = ℕ} n (replicate 20000 0) (rw (length-replicate {A = ℕ} 20000 0) (omega arith))) (omega arith))
+    rw (length-take-le {A = ℕ} n (replicate 20000 0) (rw (length-replicate {A = ℕ} 20000 0) (omega arith)))
+    (omega arith))
     (λ c. search needs))

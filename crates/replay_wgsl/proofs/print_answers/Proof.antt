@@ -1,8 +1,8 @@
--- `replay_wgsl::print_answers` is safe and ends: what is printed is a part of the buffer. Assumes nothing.
+-- `replay_wgsl::print_answers` is safe and ends: what is printed is a part of the buffer.
 use mathlib.Core.Path.{sym}
 use lib.Seq.{length-take-le}
 use borrow.Author.Needs.{needs}
-use Rattle.rule_file.proofs.Printed.{bytes-within}
+use Rattle.law_file.proofs.Printed.{bytes-within}
 use Rattle.replay_wgsl.proofs.print_answers.Statement.{statement}
 use Rattle.replay_wgsl.proofs.print_answers.Tie as tie
 

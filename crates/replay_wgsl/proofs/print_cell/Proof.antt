@@ -1,4 +1,4 @@
--- `replay_wgsl::print_cell` is safe and ends: the digits are a part of the line. Assumes nothing.
+-- `replay_wgsl::print_cell` is safe and ends: the digits are a part of the line.
 use mathlib.Core.Path.{sym}
 use lib.Seq.{length-take-le}
 use borrow.Author.Needs.{needs}

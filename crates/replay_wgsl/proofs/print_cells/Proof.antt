@@ -1,4 +1,4 @@
--- `replay_wgsl::print_cells` is safe and ends: every line is within, and the rows that are left fall. Assumes nothing.
+-- `replay_wgsl::print_cells` is safe and ends: every line is within, and the rows that are left fall.
 use Prim.Native.Nat.{_-_}
 use borrow.Author.Needs.{needs}
 use Rattle.replay_wgsl.proofs.print_cells.Statement.{statement}

@@ -1,4 +1,4 @@
--- `replay_wgsl::print_line` is safe and ends: the lines written are a part of the text. Assumes nothing.
+-- `replay_wgsl::print_line` is safe and ends: the lines written are a part of the text.
 use mathlib.Core.Path.{sym}
 use lib.Seq.{length-take-le}
 use borrow.Author.Needs.{needs}

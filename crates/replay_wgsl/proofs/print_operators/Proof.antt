@@ -1,4 +1,4 @@
--- `replay_wgsl::print_operators` is safe and ends: the operators that are left fall. Assumes nothing.
+-- `replay_wgsl::print_operators` is safe and ends: the operators that are left fall.
 use mathlib.Core.Path.{_≡_, refl, _∙_}
 use Prim.Native.Nat.{_-_, _≤_}
 use lib.ListN.{length}
@@ -22,6 +22,10 @@ print-operators-spec =
     (λ c κs. search needs)
     (λ c. search needs)
     (λ c. search needs)
-    (λ c. (search needs, c .before .before .print-operator .kept .0 ∙ c .before .before .before .before .before .loop .inv .1))
+    (λ c. (
+      search needs,
+      c .before .before .print-operator .kept .0
+          ∙ c .before .before .before .before .before .loop .inv .1,
+    ))
     (λ c. c .before .loop .inv .1)
     (λ c. search needs))

@@ -1,4 +1,4 @@
--- `replay_wgsl::print_table` is safe and ends: the frames lent are a part of the buffer. Assumes nothing.
+-- `replay_wgsl::print_table` is safe and ends: the frames lent are a part of the buffer.
 use mathlib.Core.Path.{sym}
 use lib.Seq.{length-take-le}
 use borrow.Author.Needs.{needs}

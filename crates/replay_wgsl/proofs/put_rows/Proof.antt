@@ -1,4 +1,4 @@
--- `replay_wgsl::put_rows` is safe and ends: the rows that are left fall. Assumes nothing.
+-- `replay_wgsl::put_rows` is safe and ends: the rows that are left fall.
 use mathlib.Core.Path.{_≡_, refl, _∙_}
 use native.Mathlib.Omega.{arith}
 use Prim.Native.Nat.{_-_, _≤_}
@@ -26,7 +26,10 @@ put-rows-spec =
     (λ c κs. search needs)
     (λ c. search needs)
     (λ c. search needs)
-    (λ c.
-    (search needs, c .before .before .put-frame .kept .0 ∙ c .before .before .before .before .before .before .loop .inv .1))
+    (λ c. (
+      search needs,
+      c .before .before .put-frame .kept .0
+          ∙ c .before .before .before .before .before .before .loop .inv .1,
+    ))
     (λ c. c .before .loop .inv .1)
     (λ c. search needs))

@@ -1,4 +1,4 @@
--- `replay_wgsl::same` is safe and ends: each index is below both lengths, and what is left falls. Assumes nothing.
+-- `replay_wgsl::same` is safe and ends: each index is below both lengths, and what is left falls.
 use Prim.Native.Nat.{_-_}
 use lib.ListN.{length}
 use borrow.Author.Needs.{needs}

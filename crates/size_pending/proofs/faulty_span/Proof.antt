@@ -1,4 +1,4 @@
--- `faulty_span`. The invariant: every override passed has a good span. Assumes nothing.
+-- `faulty_span`. The invariant: every override passed has a good span.
 use mathlib.Core.Path.{_≡_}
 use mathlib.Core.List.{List}
 use Prim.Native.Nat.{ℕ, _-_, _≤_}

@@ -1,4 +1,4 @@
--- `form_holds`: by the form. Assumes nothing.
+-- `form_holds`: by the form.
 use borrow.Author.Needs.{needs}
 use Rattle.size_pending.proofs.form_holds.Statement.{statement}
 use Rattle.size_pending.proofs.form_holds.Tie as tie

@@ -1,4 +1,4 @@
--- `inner_holds`: by the kind; every kind that has no arm holds none. Assumes nothing.
+-- `inner_holds`: by the kind; every kind that has no arm holds none.
 use mathlib.Core.Path.{_≡_}
 use mathlib.Core.Bool.{Bool, false}
 use mathlib.Core.List.{List, [], _∷_}
@@ -11,7 +11,8 @@ use Rattle.rule_ranges.specs.Pending.{innerHolds}
 use Rattle.size_pending.proofs.inner_holds.Statement.{statement}
 use Rattle.size_pending.proofs.inner_holds.Tie as tie
 
-rest : (fr : List ℕ) (s : Starts) (past : TypeNumber → Bool) → Others (kindsBut (7 ∷ 8 ∷ [])) (λ t. false ≡ innerHolds fr s past t)
+rest : (fr : List ℕ) (s : Starts) (past : TypeNumber → Bool)
+    → Others (kindsBut (7 ∷ 8 ∷ [])) (λ t. false ≡ innerHolds fr s past t)
 rest fr s past = of-each (search needs)
 
 pub inner-holds-spec : {M : Type 1} → statement M

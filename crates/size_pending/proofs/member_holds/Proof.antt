@@ -1,4 +1,4 @@
--- `member_holds`. The invariant: what was found of the members passed. Assumes nothing.
+-- `member_holds`. The invariant: what was found of the members passed.
 use mathlib.Core.Path.{_≡_, refl}
 use mathlib.Core.Bool.{Bool, false, _||_}
 use mathlib.Core.List.{List}
@@ -16,7 +16,8 @@ use Rattle.size_pending.proofs.member_holds.Statement.{statement}
 use Rattle.size_pending.proofs.member_holds.Tie as tie
 
 -- whether one of the i members passed is or holds a pending array
-record Inv (fr : List ℕ) (s : Starts) (marks : List Bool) (first : MemberNumber) (count : ℕ) (any : Bool) (i : ℕ) : Type 0 where
+record Inv (fr : List ℕ) (s : Starts) (marks : List Bool) (first : MemberNumber) (count : ℕ) (any : Bool)
+    (i : ℕ) : Type 0 where
   few : i ≤ count
   is : any ≡ memberHolds fr s (lookHolds marks) first i
 
@@ -56,4 +57,5 @@ member-holds-spec =
     })
     (λ c.
     let l = c .before .loop in
-    let e : l .i ≡ c .before .before .before .before .args .count = omega (arith, l .inv .few) in rw (← e) (l .inv .is)))
+    let e : l .i ≡ c .before .before .before .before .args .count = omega (arith, l .inv .few) in
+    rw (← e) (l .inv .is)))

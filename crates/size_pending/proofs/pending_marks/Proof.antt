@@ -1,4 +1,4 @@
--- `pending_marks`. The invariant: the types passed are marked, each from those before it. Assumes nothing.
+-- `pending_marks`. The invariant: the types passed are marked, each from those before it.
 use mathlib.Core.Path.{_≡_, refl, _∙_}
 use mathlib.Core.Bool.{Bool}
 use mathlib.Core.List.{List}
@@ -41,6 +41,7 @@ pending-marks-spec =
     record {
       few = omega arith;
       long = length-set (l .marks) (l .n) (c .form-holds .result) ∙ l .inv .long;
-      is = marks-more _ _ (l .marks) (l .n) (l .inv .is) _ _ (omega (arith, l .inv .long)) (c .form-holds .ensures) (c .before .before .type-at .ensures);
+      is = marks-more _ _ (l .marks) (l .n) (l .inv .is) _ _ (omega (arith, l .inv .long)) (c .form-holds .ensures)
+          (c .before .before .type-at .ensures);
     })
     (λ c. let l = c .before .loop in marks-end _ _ (l .marks) (l .n) 1024 (l .inv .is) (omega (arith, l .inv .few))))

@@ -1,4 +1,4 @@
--- `size_holds`: each size by its case. Assumes nothing.
+-- `size_holds`: each size by its case.
 use borrow.Author.Needs.{needs}
 use Rattle.size_pending.proofs.size_holds.Statement.{statement}
 use Rattle.size_pending.proofs.size_holds.Tie as tie

@@ -1,4 +1,4 @@
--- `span_ok`: the test of the definition. Assumes nothing.
+-- `span_ok`: the test of the definition.
 use borrow.Author.Needs.{needs}
 use Rattle.size_pending.proofs.span_ok.Statement.{statement}
 use Rattle.size_pending.proofs.span_ok.Tie as tie

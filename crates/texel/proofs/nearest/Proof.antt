@@ -1,4 +1,4 @@
--- `nearest`: by quotient and remainder, as `rounded` has it. Assumes nothing.
+-- `nearest`: by quotient and remainder, as `rounded` has it.
 use borrow.Author.Needs.{needs}
 use native.Mathlib.Omega.{arith}
 use mathlib.Core.Path.{sym, _∙_}

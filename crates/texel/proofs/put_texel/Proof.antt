@@ -1,4 +1,4 @@
--- `put_texel`: as `texel_of`, where the out-slice has room; two stores make the texel's two bytes. Assumes nothing.
+-- `put_texel`: as `texel_of`, where the out-slice has room; two stores make the texel's two bytes.
 use Prim.Native.Nat.{ℕ, _/_, _%_, _≤_, _<_}
 use native.Mathlib.Omega.{arith}
 use mathlib.Core.Path.{_≡_, refl, sym, ap, _∙_}
@@ -45,7 +45,8 @@ returns-2 c =
     let d = c .before .before .before .before .before .before .args .density in
     let t = c .before .given .given .0 .0 in
     let h : 2 ≤ length out = omega arith in
-    let e : Given t ≡ texelOf d = sym (c .before .given .given .1) ∙ c .before .before .before .texel-of .ensures .0 in (
+    let e : Given t ≡ texelOf d = sym (c .before .given .given .1)
+    ∙ c .before .before .before .texel-of .ensures .0 in (
       number out d (Given t) e h,
       stored out (t % 256) (t / 256) h ∙ bytes out d (Given t) e h,
     )

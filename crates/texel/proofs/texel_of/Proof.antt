@@ -1,4 +1,4 @@
--- `texel_of`: the nearest texel up to 10,000, which fits (`rounded-within`), and `Range` over it. Assumes nothing.
+-- `texel_of`: the nearest texel up to 10,000, which fits (`rounded-within`), and `Range` over it.
 use borrow.Author.Needs.{needs}
 use native.Mathlib.Omega.{arith}
 use Prim.Native.Nat.{_*_, _≤_, _<_}

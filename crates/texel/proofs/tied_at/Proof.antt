@@ -1,4 +1,4 @@
--- `tied_at`: the even one of q and the number after it. Assumes nothing.
+-- `tied_at`: the even one of q and the number after it.
 use borrow.Author.Needs.{needs}
 use native.Mathlib.Omega.{arith}
 use Rattle.texel.specs.Texel.{tied}

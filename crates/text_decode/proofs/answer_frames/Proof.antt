@@ -1,4 +1,4 @@
--- `text_decode::answer_frames`. The invariant: the sum of the lines passed, at most 2 for each. Assumes nothing.
+-- `text_decode::answer_frames`. The invariant: the sum of the lines passed, at most 2 for each.
 use mathlib.Core.Path.{_≡_}
 use mathlib.Core.List.{List}
 use Prim.Native.Nat.{ℕ, _*_, _-_, _≤_}

@@ -1,4 +1,4 @@
--- `text_decode::decode`. The invariant: the bytes of the lines passed are written, and the others are as they were. Assumes nothing.
+-- `text_decode::decode`. The invariant: the bytes of the lines passed are written, and the others are as they were.
 use mathlib.Core.Path.{_≡_, refl, sym, ap, _∙_}
 use mathlib.Core.List.{List, _++_}
 use Prim.Native.Nat.{ℕ, _+_, _*_, _-_, _≤_}
@@ -55,7 +55,8 @@ decode-spec =
     let f = c .before .before .before .frame-at .ensures ∙ line-frame (frameByte t (i .k)) _ line in
     record {
       few = omega arith;
-      bytes = rw a (put ∙ ap (putFrame (i .frames) (i .k)) f ∙ line-put t (s .args .frames .now) (i .frames) (i .k) (i .inv .bytes) (omega arith));
+      bytes = rw a (put ∙ ap (putFrame (i .frames) (i .k)) f
+          ∙ line-put t (s .args .frames .now) (i .frames) (i .k) (i .inv .bytes) (omega arith));
       long = ap length put ∙ put-length _ _ _ ∙ i .inv .long;
       wide = ap length line ∙ length-build _ 16;
     })

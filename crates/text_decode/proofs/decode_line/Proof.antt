@@ -1,4 +1,5 @@
--- `text_decode::decode_line`. The invariant: the bytes of the places passed are written, and the others are as they were. Assumes nothing.
+-- `text_decode::decode_line`. The invariant: the bytes of the places passed are written, and the others are as they
+-- were.
 use mathlib.Core.Path.{_≡_, refl}
 use mathlib.Core.List.{List, _++_}
 use Prim.Native.Nat.{ℕ, _-_, _≤_}
@@ -44,4 +45,5 @@ decode-line-spec =
     })
     (λ c. search needs)
     (λ c. let l = c .before .loop .inv in
-    line-full _ _ _ _ (le-antisymm (l .few) (c .loop-test .left)) (c .before .before .before .before .pre .2) (l .bytes)))
+    line-full _ _ _ _ (le-antisymm (l .few) (c .loop-test .left)) (c .before .before .before .before .pre .2)
+    (l .bytes)))

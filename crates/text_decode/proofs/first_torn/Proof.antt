@@ -1,4 +1,4 @@
--- `text_decode::first_torn`. The invariant: no line passed is torn. Assumes nothing.
+-- `text_decode::first_torn`. The invariant: no line passed is torn.
 use mathlib.Core.Path.{_≡_}
 use mathlib.Core.List.{List}
 use Prim.Native.Nat.{ℕ, _-_, _≤_}

@@ -1,4 +1,4 @@
--- `text_decode::is_digit`: the tests are those of the definition. Assumes nothing.
+-- `text_decode::is_digit`: the tests are those of the definition.
 use borrow.Author.Needs.{needs}
 use Rattle.text_decode.proofs.is_digit.Statement.{statement}
 use Rattle.text_decode.proofs.is_digit.Tie as tie

@@ -1,4 +1,4 @@
--- `text_decode::line_ok`. The invariant: whether every character passed is a digit. Assumes nothing.
+-- `text_decode::line_ok`. The invariant: whether every character passed is a digit.
 use mathlib.Core.Path.{_≡_, refl}
 use mathlib.Core.List.{List}
 use mathlib.Core.Bool.{Bool}
@@ -51,7 +51,11 @@ line-ok-spec =
     (λ c κs. search needs)
     (λ c. search needs)
     (λ c. search needs)
-    (λ c. record { few = omega arith; digits = all-and _ _ (c .before .before .before .loop .inv .digits) (c .is-digit .ensures) })
+    (λ c. record {
+      few = omega arith;
+      digits = all-and _ _ (c .before .before .before .loop .inv .digits)
+          (c .is-digit .ensures);
+    })
     (λ c. search needs)
     (λ c. search needs)
     (λ c. search needs)

@@ -1,4 +1,4 @@
--- `text_decode::too_short`: the tests in the order of the definition. Assumes nothing.
+-- `text_decode::too_short`: the tests in the order of the definition.
 use Prim.Native.Nat.{_*_}
 use native.Mathlib.Omega.{arith}
 use borrow.Author.Needs.{needs}
@@ -13,7 +13,11 @@ returns c = rw (← c .before .line-count .ensures, lt-ltb _ (16 * c .before .li
 
 returns-2 : tie.Need-returns-2
 unfolding tooShort
-returns-2 c = rw (c .enum-told .given .1, ← c .before .before .before .line-count .ensures, le-ltb _ _ (c .before .before .if1 .left))
+returns-2 c = rw (
+  c .enum-told .given .1,
+  ← c .before .before .before .line-count .ensures,
+  le-ltb _ _ (c .before .before .if1 .left),
+)
 
 returns-3 : tie.Need-returns-3
 unfolding tooShort

@@ -1,4 +1,4 @@
--- `text_decode::value`: the sum is the digit's value in each of the two ranges of digits. Assumes nothing.
+-- `text_decode::value`: the sum is the digit's value in each of the two ranges of digits.
 use mathlib.Core.Logic.{⊎-elim}
 use native.Mathlib.Omega.{arith}
 use borrow.Author.Needs.{needs}
@@ -12,7 +12,8 @@ returns : tie.Need-returns
 unfolding digitValue
 returns c =
     let x = c .args .c in
-    ⊎-elim (λ a. (rw (lt-ltb x 58 (a .1)) (omega arith), omega arith)) (λ b. (rw (le-ltb x 58 (omega arith)) (omega arith), omega arith)) (digit-cases x (c .pre))
+    ⊎-elim (λ a. (rw (lt-ltb x 58 (a .1)) (omega arith), omega arith))
+    (λ b. (rw (le-ltb x 58 (omega arith)) (omega arith), omega arith)) (digit-cases x (c .pre))
 
 pub value-spec : {M : Type 1} → statement M
 value-spec = tie.close (tie.spec (λ c. search needs) (λ c. search needs) returns)

@@ -1,4 +1,4 @@
--- `text_encode::digit`: the test picks the case of the definition. Assumes nothing.
+-- `text_encode::digit`: the test picks the case of the definition.
 use borrow.Author.Needs.{needs}
 use borrow.Author.Tests.{lt-ltb, le-ltb}
 use Rattle.text.specs.Hex.{digitOf}

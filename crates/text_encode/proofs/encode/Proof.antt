@@ -1,5 +1,5 @@
--- `text_encode::encode`. The invariant: the lines passed, and the digits of the bytes passed in this line, are written, and the
--- other characters are as they were. Assumes nothing.
+-- `text_encode::encode`. The invariant: the lines passed, and the digits of the bytes passed in this line, are written,
+-- and the other characters are as they were.
 use mathlib.Core.Path.{_≡_, refl, _∙_}
 use mathlib.Core.List.{List, _++_}
 use Prim.Native.Nat.{ℕ, _+_, _*_, _-_, _≤_}
@@ -46,7 +46,8 @@ digits-again c =
     let fr = c .before .before .before .before .before .before .before .before .before .args .frames .now in
     let l = c .before .before .before .digits-test .taken in
     let a : 33 * k + 2 * (i .j + 1) ≡ 33 * k + 2 * i .j + 1 + 1 = omega arith in
-    let first = build-turn (charOf fr) _ (i .text) _ _ (i .inv .bytes) (omega arith) (c .before .digit .ensures ∙ high-digit fr k (i .j) l) in
+    let first = build-turn (charOf fr) _ (i .text) _ _ (i .inv .bytes) (omega arith)
+    (c .before .digit .ensures ∙ high-digit fr k (i .j) l) in
     record {
       few = omega arith;
       bytes = rw a (build-turn (charOf fr) _ _ _ _ first (omega arith) (c .digit2 .ensures ∙ low-digit fr k (i .j) l));
@@ -60,10 +61,12 @@ lines-again c =
     let o = c .before .before .before .lines in
     let s = c .before .before .before .before .before .before .args in
     let a : 33 * (o .k + 1) ≡ 33 * o .k + 32 + 1 = omega arith in
-    let filled = ended _ (o .text) (s .text .now) (33 * o .k) (o .inv .bytes) (i .text) 32 (2 * i .j) (omega arith) (i .inv .bytes) in
+    let filled = ended _ (o .text) (s .text .now) (33 * o .k) (o .inv .bytes) (i .text) 32 (2 * i .j) (omega arith)
+    (i .inv .bytes) in
     record {
       few = omega arith;
-      bytes = rw a (build-turn (charOf (s .frames .now)) _ (i .text) _ _ filled (omega arith) (line-end (s .frames .now) (o .k)));
+      bytes = rw a (build-turn (charOf (s .frames .now)) _ (i .text) _ _ filled (omega arith)
+          (line-end (s .frames .now) (o .k)));
       long = simp length-set (i .inv .long ∙ o .inv .long);
     }
 
@@ -84,7 +87,11 @@ encode-spec =
     (λ c. omega arith)
     (λ c. omega arith)
     (λ c. omega arith)
-    (λ c κs. omega (arith, c .shared-slice-known2 .given (16 * c .before .before .before .before .lines .k + c .before .before .digits .j)))
+    (λ c κs. omega (
+      arith,
+      c .shared-slice-known2 .given
+          (16 * c .before .before .before .before .lines .k + c .before .before .digits .j),
+    ))
     (λ c. omega arith)
     (λ c. omega arith)
     (λ c. omega arith)

@@ -1,4 +1,4 @@
--- `measure`: no type is marked, so none goes by counts. Assumes nothing.
+-- `measure`: no type is marked, so none goes by counts.
 use mathlib.Core.Path.{_∙_}
 use borrow.Author.Needs.{needs}
 use Rattle.rule_ranges.proofs.Laws.{no-counts}

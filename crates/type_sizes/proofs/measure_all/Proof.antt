@@ -1,5 +1,5 @@
--- `measure_all`. The invariant: what the types passed fill stands at the front of the buffer, and the table holds what was
--- found. Assumes nothing.
+-- `measure_all`. The invariant: what the types passed fill stands at the front of the buffer, and the table holds what
+-- was found.
 use Prim.Native.Nat.{ℕ, _+_, _*_, _-_, _≤_}
 use native.Mathlib.Omega.{arith}
 use mathlib.Core.Path.{_≡_, refl, ap, _∙_}
@@ -50,18 +50,25 @@ loop-holds c =
 
 loop-again : tie.Need-loop-again Inv-loop μ-loop
 loop-again c =
-    let g = c .before .before .before .before .before .before .before .before .before .before .before .before .before .before .before .before .args in
+    let g = c .before .before .before .before .before .before .before .before .before .before .before .before .before
+    .before .before .before .args in
     let l = c .before .before .before .before .before .before .before .before .before .before .before .loop in
     let m = c .before .before .before .before .before .before .measured in
     let p = c .before .before .put-frame in
     let there = c .before .before .before .before .before .before .before .before .before .before .loop-test .taken in
-    let e = c .before .before .before .said-frame .ensures
+    let e = c .before .before .before .measure-frame .ensures
     ∙ ap (λ (x : Measure). sizeSaidFrame (measureSaid x)) (m .ensures .0 ∙ no-counts (g .frames .now) (g .s) _ _) in
     record {
       few = omega (arith, there);
       written =
-          one-more (sizeFrame (g .frames .now) (g .s)) (g .s) (g .out .now) (l .out) (p .last .0) (l .k) _ (l .inv .written)
-          (omega (arith, there, c .before .before .before .before .before .before .before .before .before .before .before .before .if2 .left)) e (p .ensures);
+          one-more (sizeFrame (g .frames .now) (g .s)) (g .s) (g .out .now) (l .out) (p .last .0) (l .k) _
+          (l .inv .written)
+          (omega (
+            arith,
+            there,
+            c .before .before .before .before .before .before .before .before .before .before .before .before .if2
+                .left,
+          )) e (p .ensures);
       long = ap length (p .ensures) ∙ put-length _ _ _ ∙ l .inv .long;
       known = m .ensures .1;
       wide = m .kept .1 .1 .1 .1 .0 ∙ l .inv .wide;
@@ -85,12 +92,26 @@ measure-all-spec =
     (λ c. search needs)
     (λ c. search needs)
     (λ c. search needs)
-    (λ c. omega (arith, c .before .before .before .loop-test .taken, c .before .before .before .before .before .before .if1 .left))
+    (λ c. omega (
+      arith,
+      c .before .before .before .loop-test .taken,
+      c .before .before .before .before .before .before .if1 .left,
+    ))
     (λ c κs. c .before .before .before .before .loop .inv .known)
     (λ c κs. search needs)
     (λ c κs. search needs)
-    (λ c. omega (arith, c .before .before .before .before .before .before .before .before .before .before .loop-test .taken, c .before .before .before .before .before .before .before .before .before .before .before .before .before .if1 .left))
-    (λ c. omega (arith, c .before .before .before .before .before .before .before .before .before .before .loop-test .taken))
+    (λ c. omega (
+      arith,
+      c .before .before .before .before .before .before .before .before .before .before .loop-test
+          .taken,
+      c .before .before .before .before .before .before .before .before .before .before .before .before
+          .before .if1 .left,
+    ))
+    (λ c. omega (
+      arith,
+      c .before .before .before .before .before .before .before .before .before .before .loop-test
+          .taken,
+    ))
     loop-again
     (λ c. c .before .loop .inv .long)
     returns-3)

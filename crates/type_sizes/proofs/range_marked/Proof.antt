@@ -1,4 +1,4 @@
--- `range_marked`: the two measures. Assumes nothing.
+-- `range_marked`: the two measures.
 use borrow.Author.Needs.{needs}
 use Rattle.type_sizes.proofs.range_marked.Statement.{statement}
 use Rattle.type_sizes.proofs.range_marked.Tie as tie

@@ -1,4 +1,4 @@
--- `range_of`: each case of the two. Assumes nothing.
+-- `range_of`: each case of the two.
 use mathlib.Core.Path.{_≡_, refl}
 use borrow.Author.Needs.{needs}
 use Rattle.ir.specs.declared.TypeNumber.{TypeNumber}

@@ -1,4 +1,4 @@
--- `type_size`: number 6 where the test says that there is no such type. Assumes nothing.
+-- `type_size`: number 6 where the test says that there is no such type.
 use mathlib.Core.Path.{sym, _∙_}
 use Rattle.rule_sizes.specs.Sizes.{typeSizeIn}
 use borrow.Author.Needs.{needs}

@@ -1,4 +1,4 @@
--- `component_at`: the frame of that place. Assumes nothing.
+-- `component_at`: the frame of that place.
 use native.Mathlib.Nat.{add-assoc}
 use borrow.Author.Needs.{needs}
 use Rattle.archive_access.proofs.families.component_at.Statement.{statement}

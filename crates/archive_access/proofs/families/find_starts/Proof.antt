@@ -1,4 +1,4 @@
--- `find_starts`: each call begins where the one before it ended, and every frame before that is lower. Assumes nothing.
+-- `find_starts`: each call begins where the one before it ended, and every frame before that is lower.
 use Prim.Native.Nat.{zero-le}
 use lib.Dec.{lit≤}
 use Rattle.scan.proofs.Laws.{lowest-zero}

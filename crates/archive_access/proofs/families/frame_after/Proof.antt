@@ -1,4 +1,4 @@
--- `frame_after`: below the count the frame of that place, and from the count on every place has zeros. Assumes nothing.
+-- `frame_after`: below the count the frame of that place, and from the count on every place has zeros.
 use Prim.Native.Nat.{ℕ, _≤_}
 use native.Mathlib.Omega.{arith}
 use mathlib.Core.Path.{_≡_, _∙_}
@@ -23,4 +23,5 @@ frame-after-spec =
     (λ c κs. tt)
     (λ c κs. tt)
     (λ c. search needs)
-    (λ c. c .frame-at2 .ensures ∙ past-all (c .before .before .before .before .before .args .frames .now) _ _ (omega arith) (omega arith)))
+    (λ c. c .frame-at2 .ensures
+    ∙ past-all (c .before .before .before .before .before .args .frames .now) _ _ (omega arith) (omega arith)))

@@ -1,4 +1,4 @@
--- `is_item`: each arm knows its case, and what its calls ensure. Assumes nothing.
+-- `is_item`: each arm knows its case, and what its calls ensure.
 use borrow.Author.Needs.{needs}
 use Rattle.archive_access.proofs.families.is_item.Statement.{statement}
 use Rattle.archive_access.proofs.families.is_item.Tie as tie

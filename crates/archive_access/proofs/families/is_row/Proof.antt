@@ -1,4 +1,4 @@
--- `is_row`: each arm knows its case, and what its calls ensure. Assumes nothing.
+-- `is_row`: each arm knows its case, and what its calls ensure.
 use borrow.Author.Needs.{needs}
 use Rattle.archive_access.proofs.families.is_row.Statement.{statement}
 use Rattle.archive_access.proofs.families.is_row.Tie as tie

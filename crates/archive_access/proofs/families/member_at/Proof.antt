@@ -1,4 +1,4 @@
--- `member_at`: the frame of that place. Assumes nothing.
+-- `member_at`: the frame of that place.
 use native.Mathlib.Nat.{add-assoc}
 use borrow.Author.Needs.{needs}
 use Rattle.archive_access.proofs.families.member_at.Statement.{statement}

@@ -1,4 +1,4 @@
--- `row_at`: the frame of that number, where the test says that there is one. Assumes nothing.
+-- `row_at`: the frame of that number, where the test says that there is one.
 use borrow.Author.Needs.{needs}
 use Rattle.archive.specs.Access.{rowIn}
 use Rattle.archive_access.proofs.families.row_at.Statement.{statement}

@@ -1,4 +1,4 @@
--- `size_names`: each arm knows its case, and what its calls ensure. Assumes nothing.
+-- `size_names`: each arm knows its case, and what its calls ensure.
 use Rattle.archive_access.proofs.families.size_names.Statement.{statement}
 use Rattle.archive_access.proofs.families.size_names.Tie as tie
 

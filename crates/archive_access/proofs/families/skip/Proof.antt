@@ -1,4 +1,4 @@
--- `skip`. The invariant: every frame passed is of a lower rank, so the first that is not is the lowest. Assumes nothing.
+-- `skip`. The invariant: every frame passed is of a lower rank, so the first that is not is the lowest.
 use mathlib.Core.Path.{_≡_, refl, sym, ap, _∙_}
 use mathlib.Core.List.{List}
 use Prim.Native.Nat.{ℕ, _-_, _≤_}
@@ -37,14 +37,16 @@ returns c =
     let i = c .before .before .before .before .loop in
     let e = c .before .before .before .before .before .frame-count .ensures in
     let h = c .before .before .before .loop-test .taken in
-    ap (placeOr _) (lowest-hit _ (i .k) _ (omega (arith, h, e)) (i .inv .none) refl (rw (← ranked (c .before)) (le-ltb _ _ (c .if1 .left))))
+    ap (placeOr _) (lowest-hit _ (i .k) _ (omega (arith, h, e)) (i .inv .none) refl
+    (rw (← ranked (c .before)) (le-ltb _ _ (c .if1 .left))))
 
 returns-2 : tie.Need-returns-2 Inv-loop μ-loop
 unfolding start
 returns-2 c =
     let e = c .before .before .frame-count .ensures in
     let i = c .before .loop in
-    e ∙ ap (placeOr _) (lowest-none _ (i .k) _ (omega (arith, i .inv .few, e)) (omega (arith, c .loop-test .left, e)) (i .inv .none))
+    e ∙ ap (placeOr _) (lowest-none _ (i .k) _ (omega (arith, i .inv .few, e)) (omega (arith, c .loop-test .left, e))
+    (i .inv .none))
 
 pub skip-spec : {M : Type 1} → statement M
 skip-spec =
@@ -59,6 +61,10 @@ skip-spec =
     (λ c. search needs)
     (λ c. search needs)
     (λ c. let l = c .before .before .before .before .loop .inv in
-    record { few = search needs; none = lowest-more _ _ (l .none) refl (rw (← ranked (c .before)) (lt-ltb _ _ (c .if1 .taken))) })
+    record {
+      few = search needs;
+      none = lowest-more _ _ (l .none) refl
+          (rw (← ranked (c .before)) (lt-ltb _ _ (c .if1 .taken)));
+    })
     returns
     returns-2)

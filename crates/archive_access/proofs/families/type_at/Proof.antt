@@ -1,4 +1,4 @@
--- `type_at`: the frame of that number, where the test says that there is one. Assumes nothing.
+-- `type_at`: the frame of that number, where the test says that there is one.
 use borrow.Author.Needs.{needs}
 use Rattle.archive.specs.Access.{typeIn}
 use Rattle.archive_access.proofs.families.type_at.Statement.{statement}

@@ -1,4 +1,4 @@
--- `first_disorder`. The invariant: no frame passed is out of order. Assumes nothing.
+-- `first_disorder`. The invariant: no frame passed is out of order.
 use mathlib.Core.Path.{_≡_, refl, sym, ap, _∙_}
 use mathlib.Core.List.{List}
 use Prim.Native.Nat.{ℕ, _-_, _≤_}

@@ -1,4 +1,4 @@
--- `is_known`: the tests of the definition. Assumes nothing.
+-- `is_known`: the tests of the definition.
 use mathlib.Core.Path.{refl}
 use Rattle.archive_access.proofs.order.is_known.Statement.{statement}
 use Rattle.archive_access.proofs.order.is_known.Tie as tie

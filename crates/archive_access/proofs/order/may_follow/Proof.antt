@@ -1,4 +1,4 @@
--- `may_follow`: the tests of the definition. Assumes nothing.
+-- `may_follow`: the tests of the definition.
 use mathlib.Core.Path.{refl}
 use Rattle.archive_access.proofs.order.may_follow.Statement.{statement}
 use Rattle.archive_access.proofs.order.may_follow.Tie as tie

@@ -1,4 +1,4 @@
--- `order_ok`: the tests of the definition, on the frames that `frame_at` ensures. Assumes nothing.
+-- `order_ok`: the tests of the definition, on the frames that `frame_at` ensures.
 use Rattle.archive.specs.Order.{orderOk}
 use Rattle.archive_access.proofs.order.order_ok.Statement.{statement}
 use Rattle.archive_access.proofs.order.order_ok.Tie as tie

@@ -1,4 +1,4 @@
--- `rank_of`: the test picks the case. Assumes nothing.
+-- `rank_of`: the test picks the case.
 use borrow.Author.Needs.{needs}
 use borrow.Author.Tests.{eq-eqb, ne-eqb}
 use Rattle.archive_access.proofs.order.rank_of.Statement.{statement}

@@ -1,4 +1,4 @@
--- `convert_fits`: by the flag, which is 1, 0 or too large. Assumes nothing.
+-- `convert_fits`: by the flag, which is 1, 0 or too large.
 use Prim.Native.Nat.{ℕ, zero, suc}
 use native.Mathlib.Omega.{arith}
 use mathlib.Core.Path.{_≡_, refl}

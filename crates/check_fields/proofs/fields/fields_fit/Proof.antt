@@ -1,4 +1,4 @@
--- `fields_fit`: each arm knows the family, and what the tests of its layout ensure. Assumes nothing.
+-- `fields_fit`: each arm knows the family, and what the tests of its layout ensure.
 use borrow.Author.Needs.{needs}
 use mathlib.Core.Bool.{true, _&&_}
 use mathlib.Core.List.{[], _∷_}
@@ -41,7 +41,8 @@ returns-7 c =
     let f = c .before .args .f in
     past
     (true ∷ fitsAll (typeLayout (typeKindOf (f .b1))) f ∷ (eqb (f .b1) 0 && fitsAll memberLayout f) ∷ fitsAll
-    (itemLayout (itemKindOf (f .b1))) f ∷ fitsAll (rowLayout (rowKindOf (f .b1))) f ∷ (eqb (f .b1) 0 && fitsAll componentLayout f) ∷ [])
+    (itemLayout (itemKindOf (f .b1))) f ∷ fitsAll
+    (rowLayout (rowKindOf (f .b1))) f ∷ (eqb (f .b1) 0 && fitsAll componentLayout f) ∷ [])
     _ _ (c .match .rest)
 
 pub fields-fit-spec : {M : Type 1} → statement M

@@ -1,4 +1,4 @@
--- `item_fits`: in each arm the tests of the kind's layout, in its order; the arm of several kinds kind by kind. Assumes nothing.
+-- `item_fits`: in each arm the tests of the kind's layout, in its order; the arm of several kinds kind by kind.
 use mathlib.Core.Path.{refl}
 use mathlib.Core.List.{[], _∷_}
 use Rattle.ir.proofs.Keys.{of-item-kinds}
@@ -24,9 +24,14 @@ item-fits-spec =
     (λ c.
     let a = c .before .before .args in
     rw (c .zero-from-4 .ensures)
-    (of-item-kinds (λ k. fitsAll (itemLayout k) (a .f)) (1 ∷ 2 ∷ 4 ∷ 5 ∷ 7 ∷ 8 ∷ []) refl (a .kind) (c .before .match .keys2)))
+    (of-item-kinds (λ k. fitsAll (itemLayout k) (a .f)) (1 ∷ 2 ∷ 4 ∷ 5 ∷ 7 ∷ 8 ∷ []) refl (a .kind)
+    (c .before .match .keys2)))
     (λ c.
-    rw (c .before .before .before .before .enum-told2 .given .1, c .zero-from-8 .ensures, c .before .before .before .space-fits .ensures))
+    rw (
+      c .before .before .before .before .enum-told2 .given .1,
+      c .zero-from-8 .ensures,
+      c .before .before .before .space-fits .ensures,
+    ))
     (λ c.
     rw (
       c .before .before .before .before .before .before .enum-told3 .given .1,

@@ -1,4 +1,4 @@
--- `no_field`: every byte after the kind is zero. Assumes nothing.
+-- `no_field`: every byte after the kind is zero.
 use borrow.Author.Needs.{needs}
 use Rattle.check_fields.proofs.fields.no_field.Statement.{statement}
 use Rattle.check_fields.proofs.fields.no_field.Tie as tie

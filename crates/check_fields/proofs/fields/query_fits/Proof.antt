@@ -1,4 +1,4 @@
--- `query_fits`: the tests of the field. Assumes nothing.
+-- `query_fits`: the tests of the field.
 use borrow.Author.Needs.{needs}
 use Rattle.check_fields.proofs.fields.query_fits.Statement.{statement}
 use Rattle.check_fields.proofs.fields.query_fits.Tie as tie

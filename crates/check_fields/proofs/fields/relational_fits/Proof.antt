@@ -1,4 +1,4 @@
--- `relational_fits`: the tests of the field. Assumes nothing.
+-- `relational_fits`: the tests of the field.
 use borrow.Author.Needs.{needs}
 use Rattle.check_fields.proofs.fields.relational_fits.Statement.{statement}
 use Rattle.check_fields.proofs.fields.relational_fits.Tie as tie

@@ -1,4 +1,5 @@
--- `row_fits`: in each arm the tests of the kind's layout, in its order; an arm of several kinds, and the last, kind by kind. Assumes nothing.
+-- `row_fits`: in each arm the tests of the kind's layout, in its order; an arm of several kinds, and the last, kind by
+-- kind.
 use mathlib.Core.Path.{refl}
 use mathlib.Core.List.{[], _∷_}
 use Rattle.ir.proofs.Keys.{of-row-kinds}
@@ -40,14 +41,16 @@ row-fits-spec =
     (λ c κs. tt)
     (λ c κs. tt)
     (λ c κs. tt)
-    (λ c. let a = c .before .args in (of-row-kinds (λ k. fitsAll (rowLayout k) (a .f)) (0 ∷ 22 ∷ []) refl (a .kind) (c .match .keys1)))
+    (λ c. let a = c .before .args in
+    (of-row-kinds (λ k. fitsAll (rowLayout k) (a .f)) (0 ∷ 22 ∷ []) refl (a .kind) (c .match .keys1)))
     (λ c. rw (c .before .before .before .before .before .before .before .enum-told .given .1, c .zero-from-8 .ensures))
     (λ c. rw (c .before .before .before .enum-told2 .given .1, c .zero-8-11 .ensures))
     (λ c. rw (c .before .before .before .before .before .enum-told3 .given .1, c .zero-8-112 .ensures))
     (λ c.
     let a = c .before .before .before .before .before .before .args in
     rw (c .zero-from-82 .ensures, c .before .before .before .before .size-fits .ensures)
-    (of-row-kinds (λ k. fitsAll (rowLayout k) (a .f)) (8 ∷ 9 ∷ []) refl (a .kind) (c .before .before .before .before .before .match .keys5)))
+    (of-row-kinds (λ k. fitsAll (rowLayout k) (a .f)) (8 ∷ 9 ∷ []) refl (a .kind)
+    (c .before .before .before .before .before .match .keys5)))
     (λ c. rw (c .before .before .before .before .before .before .before .enum-told4 .given .1, c .zero-8-113 .ensures))
     (λ c. rw (c .before .before .before .before .before .enum-told5 .given .1, c .zero-from-83 .ensures))
     (λ c.
@@ -72,7 +75,8 @@ row-fits-spec =
     (λ c.
     let a = c .before .before .args in
     rw (c .no-field .ensures)
-    (of-row-kinds (λ k. fitsAll (rowLayout k) (a .f)) (27 ∷ 28 ∷ 29 ∷ 30 ∷ 31 ∷ []) refl (a .kind) (c .before .match .keys12)))
+    (of-row-kinds (λ k. fitsAll (rowLayout k) (a .f)) (27 ∷ 28 ∷ 29 ∷ 30 ∷ 31 ∷ []) refl (a .kind)
+    (c .before .match .keys12)))
     (λ c.
     rw (
       c .before .before .before .before .before .before .before .before .before .enum-told10 .given .1,
@@ -83,5 +87,6 @@ row-fits-spec =
     (λ c.
     let a = c .before .before .args in
     rw (c .zero-from-4 .ensures)
-    (of-row-kinds (λ k. fitsAll (rowLayout k) (a .f)) (2 ∷ 3 ∷ 4 ∷ 6 ∷ 11 ∷ 12 ∷ 13 ∷ 15 ∷ 17 ∷ 19 ∷ 20 ∷ 24 ∷ 25 ∷ 26 ∷ 32 ∷ 34 ∷ []) refl
+    (of-row-kinds (λ k. fitsAll (rowLayout k) (a .f))
+    (2 ∷ 3 ∷ 4 ∷ 6 ∷ 11 ∷ 12 ∷ 13 ∷ 15 ∷ 17 ∷ 19 ∷ 20 ∷ 24 ∷ 25 ∷ 26 ∷ 32 ∷ 34 ∷ []) refl
     (a .kind) (c .before .match .keys14))))

@@ -1,4 +1,4 @@
--- `array_size_fits`: the form picks the case. Assumes nothing.
+-- `array_size_fits`: the form picks the case.
 use borrow.Author.Tests.{ne-eqb}
 use Rattle.check_fields.proofs.types.array_size_fits.Statement.{statement}
 use Rattle.check_fields.proofs.types.array_size_fits.Tie as tie

@@ -1,4 +1,4 @@
--- `class_fits`: in each arm the class is the table's place; the last arm is past the table. Assumes nothing.
+-- `class_fits`: in each arm the class is the table's place; the last arm is past the table.
 use mathlib.Core.Bool.{_&&_}
 use mathlib.Core.List.{[], _∷_}
 use lib.Dec.{ltb, eqb}

@@ -1,4 +1,4 @@
--- `scalar_fits`: what its call ensures. Assumes nothing.
+-- `scalar_fits`: what its call ensures.
 use Rattle.check_fields.proofs.types.scalar_fits.Statement.{statement}
 use Rattle.check_fields.proofs.types.scalar_fits.Tie as tie
 

@@ -1,4 +1,4 @@
--- `space_fits`: the test picks the case. Assumes nothing.
+-- `space_fits`: the test picks the case.
 use borrow.Author.Tests.{ne-eqb}
 use Rattle.check_fields.proofs.types.space_fits.Statement.{statement}
 use Rattle.check_fields.proofs.types.space_fits.Tie as tie

@@ -1,4 +1,4 @@
--- `type_fits`: in each arm the tests of the kind's layout, in its order; an arm of several kinds kind by kind. Assumes nothing.
+-- `type_fits`: in each arm the tests of the kind's layout, in its order; an arm of several kinds kind by kind.
 use mathlib.Core.Bool.{and-true}
 use mathlib.Core.Path.{refl}
 use mathlib.Core.List.{[], _∷_}
@@ -81,7 +81,11 @@ type-fits-spec =
       c .before .before .before .before .before .cooperative-fits .ensures,
     ))
     (λ c.
-    rw (c .before .before .before .before .enum-told5 .given .1, c .zero-from-85 .ensures, c .before .before .before .space-fits .ensures))
+    rw (
+      c .before .before .before .before .enum-told5 .given .1,
+      c .zero-from-85 .ensures,
+      c .before .before .before .space-fits .ensures,
+    ))
     (λ c.
     rw (
       c .before .before .before .before .before .enum-told6 .given .1,
@@ -108,7 +112,8 @@ type-fits-spec =
     (λ c.
     let a = c .before .before .before .before .args in
     rw (c .zero-from-4 .ensures)
-    (of-type-kinds (λ k. fitsAll (typeLayout k) (a .f)) (11 ∷ 12 ∷ 13 ∷ []) refl (a .kind) (c .before .before .before .match .keys11)))
+    (of-type-kinds (λ k. fitsAll (typeLayout k) (a .f)) (11 ∷ 12 ∷ 13 ∷ []) refl (a .kind)
+    (c .before .before .before .match .keys11)))
     (λ c.
     rw (
       c .before .before .before .before .before .before .enum-told10 .given .1,

@@ -1,4 +1,4 @@
--- `zero_8_11`: the four tests. Assumes nothing.
+-- `zero_8_11`: the four tests.
 use mathlib.Core.Bool.{and-true}
 use Rattle.check_fields.proofs.types.zero_8_11.Statement.{statement}
 use Rattle.check_fields.proofs.types.zero_8_11.Tie as tie

@@ -1,4 +1,4 @@
--- `zero_from_12`: the four tests. Assumes nothing.
+-- `zero_from_12`: the four tests.
 use mathlib.Core.Bool.{and-true}
 use Rattle.check_fields.proofs.types.zero_from_12.Statement.{statement}
 use Rattle.check_fields.proofs.types.zero_from_12.Tie as tie

@@ -1,9 +1,9 @@
--- `explain_lines::answers::ending`: each way through the code is the definition's case. Assumes nothing.
+-- `explain_lines::answers::ending`: each way through the code is the definition's case.
 use mathlib.Core.Path.{_≡_, refl}
 use borrow.Author.Needs.{needs}
 use borrow.Author.Tests.{eq-eqb, ne-eqb}
 use Rattle.explain_lines.specs.ForProofs.{filled}
-use Rattle.explain_lines.specs.Answers.{ending}
+use Rattle.rule_explain.specs.Answers.{ending}
 use Rattle.explain_lines.proofs.lines.ending.Statement.{statement}
 use Rattle.explain_lines.proofs.lines.ending.Tie as tie
 
@@ -18,7 +18,11 @@ num-requires c κs = search needs
 
 returns : tie.Need-returns
 unfolding ending filled
-returns c = simp (eq-eqb _ _ (c .before .before .before .if1 .taken), c .num .ensures, c .before .before .named .ensures)
+returns c = simp (
+  eq-eqb _ _ (c .before .before .before .if1 .taken),
+  c .num .ensures,
+  c .before .before .named .ensures,
+)
 
 returns-2 : tie.Need-returns-2
 unfolding ending filled

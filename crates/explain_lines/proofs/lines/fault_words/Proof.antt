@@ -1,9 +1,9 @@
--- `explain_lines::answers::fault_words`: each way through the code is the definition's case. Assumes nothing.
+-- `explain_lines::answers::fault_words`: each way through the code is the definition's case.
 use mathlib.Core.Path.{_≡_, refl}
 use borrow.Author.Needs.{needs}
 use borrow.Author.Tests.{eq-eqb, ne-eqb}
 use Rattle.explain_lines.specs.ForProofs.{filled}
-use Rattle.explain_lines.specs.Answers.{faultWords}
+use Rattle.rule_explain.specs.Answers.{faultWords}
 use Rattle.explain_lines.proofs.lines.fault_words.Statement.{statement}
 use Rattle.explain_lines.proofs.lines.fault_words.Tie as tie
 

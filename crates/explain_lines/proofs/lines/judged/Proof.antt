@@ -1,14 +1,14 @@
--- `explain_lines::answers::judged`: each way through the code is the definition's case. Assumes nothing.
+-- `explain_lines::answers::judged`: each way through the code is the definition's case.
 use mathlib.Core.Path.{_≡_, refl, sym, _∙_}
 use borrow.Author.Needs.{needs}
 use borrow.Author.Tests.{eq-eqb, le-ltb, lt-ltb, ne-eqb}
 use Rattle.explain_lines.specs.ForProofs.{filled}
-use Rattle.explain_lines.specs.Answers.{judged}
+use Rattle.rule_explain.specs.Answers.{judgedWords}
 use Rattle.explain_lines.proofs.lines.judged.Statement.{statement}
 use Rattle.explain_lines.proofs.lines.judged.Tie as tie
 
 returns : tie.Need-returns
-unfolding judged filled
+unfolding judgedWords filled
 returns c = simp (eq-eqb _ _ (c .if1 .taken))
 
 index-requires : tie.Need-index-requires
@@ -18,7 +18,7 @@ num-requires : tie.Need-num-requires
 num-requires c κs = search needs
 
 returns-2 : tie.Need-returns-2
-unfolding judged filled
+unfolding judgedWords filled
 returns-2 c =
     simp (
       ne-eqb _ _ (c .before .before .before .before .if1 .left),
@@ -29,7 +29,7 @@ returns-2 c =
     )
 
 returns-3 : tie.Need-returns-3
-unfolding judged filled
+unfolding judgedWords filled
 returns-3 c =
     simp (
       ne-eqb _ _ (c .before .before .before .before .if1 .left),
@@ -55,7 +55,7 @@ num-requires-3 : tie.Need-num-requires-3
 num-requires-3 c κs = search needs
 
 returns-4 : tie.Need-returns-4
-unfolding judged filled
+unfolding judgedWords filled
 returns-4 c =
     simp (
       ne-eqb _ _ (c .before .before .before .before .before .before .before .before .if1 .left),
@@ -70,7 +70,7 @@ returns-4 c =
     )
 
 returns-5 : tie.Need-returns-5
-unfolding judged filled
+unfolding judgedWords filled
 returns-5 c =
     simp (
       ne-eqb _ _ (c .before .before .before .before .before .before .before .if1 .left),
@@ -84,7 +84,7 @@ returns-5 c =
     )
 
 returns-6 : tie.Need-returns-6
-unfolding judged filled
+unfolding judgedWords filled
 returns-6 c =
     simp (
       ne-eqb _ _ (c .before .before .before .before .before .before .before .if1 .left),

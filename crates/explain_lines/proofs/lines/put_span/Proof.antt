@@ -1,4 +1,4 @@
--- `explain_lines::lines::put_span`: the pieces of the line, written. Assumes nothing.
+-- `explain_lines::lines::put_span`: the pieces of the line, written.
 use mathlib.Core.Path.{_≡_, refl, ap, _∙_}
 use mathlib.Core.List.{List, [], _∷_}
 use Prim.Native.Nat.{ℕ, _+_, _*_, _≤_}
@@ -7,11 +7,11 @@ use native.Mathlib.Omega.{arith}
 use lib.ListN.{length}
 use borrow.Author.Needs.{needs}
 use borrow.Author.Tests.{lt-ltb, le-ltb}
-use Rattle.explain_words.specs.Words as W
-use Rattle.explain_words.specs.Lines.{num, spelled}
+use Rattle.rule_explain.specs.Words as W
+use Rattle.rule_explain.specs.Lines.{num, spelled}
 use Rattle.explain_words.specs.ForProofs.{written}
 use Rattle.explain_words.proofs.Writing.{pieces-fit}
-use Rattle.explain_lines.specs.Sizes.{spanWords, spanOf}
+use Rattle.rule_explain.specs.Sizes.{spanWords, spanOf}
 use Rattle.explain_lines.specs.LinesForProofs.{madeIn, madeLong}
 use Rattle.explain_lines.proofs.lines.put_span.Statement.{statement}
 use Rattle.explain_lines.proofs.lines.put_span.Tie as tie

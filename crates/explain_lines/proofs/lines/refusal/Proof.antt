@@ -1,9 +1,9 @@
--- `explain_lines::answers::refusal`: each way through the code is the definition's case. Assumes nothing.
+-- `explain_lines::answers::refusal`: each way through the code is the definition's case.
 use mathlib.Core.Path.{_≡_, refl}
 use borrow.Author.Needs.{needs}
 use borrow.Author.Tests.{eq-eqb, le-ltb, lt-ltb, ne-eqb}
 use Rattle.explain_lines.specs.ForProofs.{filled}
-use Rattle.explain_lines.specs.Answers.{refusal}
+use Rattle.rule_explain.specs.Answers.{refusal}
 use Rattle.explain_lines.proofs.lines.refusal.Statement.{statement}
 use Rattle.explain_lines.proofs.lines.refusal.Tie as tie
 

@@ -1,15 +1,20 @@
--- `explain_lines::lines::size_words`: each way through the code is the definition's case. Assumes nothing.
+-- `explain_lines::lines::size_words`: each way through the code is the definition's case.
 use borrow.Author.Needs.{needs}
 use borrow.Author.Tests.{eq-eqb, ne-eqb}
 use Rattle.explain_lines.specs.ForProofs.{filled}
-use Rattle.explain_lines.specs.Sizes.{sizeWords}
+use Rattle.rule_explain.specs.Sizes.{sizeWords}
 use Rattle.explain_lines.proofs.lines.size_words.Statement.{statement}
 use Rattle.explain_lines.proofs.lines.size_words.Tie as tie
 
 returns : tie.Need-returns
 unfolding sizeWords filled
 returns c =
-    simp (eq-eqb _ _ (c .if1 .taken), c .before .before .num2 .ensures, c .before .before .before .third .ensures, c .before .before .before .before .num .ensures)
+    simp (
+      eq-eqb _ _ (c .if1 .taken),
+      c .before .before .num2 .ensures,
+      c .before .before .before .third .ensures,
+      c .before .before .before .before .num .ensures,
+    )
 
 returns-2 : tie.Need-returns-2
 unfolding sizeWords filled

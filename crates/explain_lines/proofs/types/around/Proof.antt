@@ -1,7 +1,7 @@
--- `explain_lines::types::around`: each way through the code is the definition's case. Assumes nothing.
+-- `explain_lines::types::around`: each way through the code is the definition's case.
 use mathlib.Core.Path.{_≡_, refl}
 use borrow.Author.Needs.{needs}
-use Rattle.explain_lines.specs.Types.{around}
+use Rattle.rule_explain.specs.Types.{around}
 use Rattle.explain_lines.proofs.types.around.Statement.{statement}
 use Rattle.explain_lines.proofs.types.around.Tie as tie
 

@@ -1,4 +1,4 @@
--- `explain_lines::types::by_number`: by what `num` ensures. Assumes nothing.
+-- `explain_lines::types::by_number`: by what `num` ensures.
 use borrow.Author.Needs.{needs}
 use Rattle.explain_lines.proofs.types.by_number.Statement.{statement}
 use Rattle.explain_lines.proofs.types.by_number.Tie as tie

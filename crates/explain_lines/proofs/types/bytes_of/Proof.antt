@@ -1,4 +1,4 @@
--- `explain_lines::types::bytes_of`: by its one test. Assumes nothing.
+-- `explain_lines::types::bytes_of`: by its one test.
 use Rattle.explain_lines.proofs.types.bytes_of.Statement.{statement}
 use Rattle.explain_lines.proofs.types.bytes_of.Tie as tie
 

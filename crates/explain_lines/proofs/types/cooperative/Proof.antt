@@ -1,7 +1,7 @@
--- `explain_lines::types::cooperative`: each way through the code is the definition's case. Assumes nothing.
+-- `explain_lines::types::cooperative`: each way through the code is the definition's case.
 use mathlib.Core.Path.{_≡_, refl}
 use borrow.Author.Needs.{needs}
-use Rattle.explain_lines.specs.Types.{cooperative}
+use Rattle.rule_explain.specs.Types.{cooperativeWords}
 use Rattle.explain_lines.specs.ForProofs.{filled}
 use Rattle.explain_lines.proofs.types.cooperative.Statement.{statement}
 use Rattle.explain_lines.proofs.types.cooperative.Tie as tie
@@ -22,7 +22,7 @@ plain-requires : tie.Need-plain-requires
 plain-requires c κs = search needs
 
 returns : tie.Need-returns
-unfolding cooperative filled
+unfolding cooperativeWords filled
 returns c =
     simp (
       c .plain .ensures,

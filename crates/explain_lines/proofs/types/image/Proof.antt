@@ -1,8 +1,8 @@
--- `explain_lines::types::image`: each way through the code is the definition's case. Assumes nothing.
+-- `explain_lines::types::image`: each way through the code is the definition's case.
 use mathlib.Core.Path.{_≡_, refl}
 use borrow.Author.Needs.{needs}
 use borrow.Author.Tests.{eq-eqb, ne-eqb}
-use Rattle.explain_lines.specs.Types.{image}
+use Rattle.rule_explain.specs.Types.{image}
 use Rattle.explain_lines.specs.ForProofs.{filled}
 use Rattle.explain_lines.proofs.types.image.Statement.{statement}
 use Rattle.explain_lines.proofs.types.image.Tie as tie

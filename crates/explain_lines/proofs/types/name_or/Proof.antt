@@ -1,4 +1,4 @@
--- `explain_lines::types::name_or`: by its one test. Assumes nothing.
+-- `explain_lines::types::name_or`: by its one test.
 use Rattle.explain_lines.proofs.types.name_or.Statement.{statement}
 use Rattle.explain_lines.proofs.types.name_or.Tie as tie
 

@@ -1,5 +1,5 @@
--- `explain_lines::types::named`: the tests are those of the table of names, from its end on. Assumes nothing.
-use Rattle.explain_lines.specs.Types.{named}
+-- `explain_lines::types::named`: the tests are those of the table of names, from its end on.
+use Rattle.rule_explain.specs.Types.{named}
 use Rattle.explain_lines.proofs.types.named.Statement.{statement}
 use Rattle.explain_lines.proofs.types.named.Tie as tie
 

@@ -1,8 +1,8 @@
--- `explain_lines::types::pick`: each way through the code is the definition's case. Assumes nothing.
+-- `explain_lines::types::pick`: each way through the code is the definition's case.
 use mathlib.Core.Path.{_≡_, refl}
 use borrow.Author.Needs.{needs}
 use borrow.Author.Tests.{le-ltb, lt-ltb}
-use Rattle.explain_lines.specs.Types.{picked}
+use Rattle.rule_explain.specs.Types.{picked}
 use Rattle.explain_lines.proofs.types.pick.Statement.{statement}
 use Rattle.explain_lines.proofs.types.pick.Tie as tie
 

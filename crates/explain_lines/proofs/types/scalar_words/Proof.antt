@@ -1,8 +1,8 @@
--- `explain_lines::types::scalar_words`: each way through the code is the definition's case. Assumes nothing.
+-- `explain_lines::types::scalar_words`: each way through the code is the definition's case.
 use mathlib.Core.Path.{_≡_, refl, sym, _∙_}
 use borrow.Author.Needs.{needs}
 use borrow.Author.Tests.{eq-eqb, ne-eqb}
-use Rattle.explain_lines.specs.Types.{scalarWords}
+use Rattle.rule_explain.specs.Types.{scalarWords}
 use Rattle.explain_lines.proofs.types.scalar_words.Statement.{statement}
 use Rattle.explain_lines.proofs.types.scalar_words.Tie as tie
 

@@ -1,4 +1,4 @@
--- `explain_lines::types::unknown`: each way through the code is the definition's case. Assumes nothing.
+-- `explain_lines::types::unknown`: each way through the code is the definition's case.
 use mathlib.Core.Path.{_≡_, refl}
 use borrow.Author.Needs.{needs}
 use Rattle.explain_lines.specs.ForProofs.{filled}

@@ -1,8 +1,8 @@
--- `explain_lines::types::whole`: each way through the code is the definition's case. Assumes nothing.
+-- `explain_lines::types::whole`: each way through the code is the definition's case.
 use mathlib.Core.Path.{_≡_, refl, sym, _∙_}
 use borrow.Author.Needs.{needs}
 use borrow.Author.Tests.{eq-eqb, ne-eqb}
-use Rattle.explain_lines.specs.Types.{whole}
+use Rattle.rule_explain.specs.Types.{whole}
 use Rattle.explain_lines.specs.ForProofs.{filled}
 use Rattle.explain_lines.proofs.types.whole.Statement.{statement}
 use Rattle.explain_lines.proofs.types.whole.Tie as tie
@@ -19,8 +19,12 @@ pointer-requires c κs = search needs
 returns : tie.Need-returns
 unfolding whole filled
 returns c =
-    simp
-    (eq-eqb _ _ (c .before .before .before .if1 .taken), c .pointer .ensures, c .before .within .ensures, c .before .before .named .ensures)
+    simp (
+      eq-eqb _ _ (c .before .before .before .if1 .taken),
+      c .pointer .ensures,
+      c .before .within .ensures,
+      c .before .before .named .ensures,
+    )
 
 vector-requires : tie.Need-vector-requires
 vector-requires c κs = search needs
@@ -219,8 +223,10 @@ returns-11 : tie.Need-returns-11
 unfolding whole filled
 returns-11 c =
     simp (
-      ne-eqb _ _ (c .before .before .before .before .before .before .before .before .before .before .before .before .before .if1 .left),
-      ne-eqb _ _ (c .before .before .before .before .before .before .before .before .before .before .before .before .if2 .left),
+      ne-eqb _ _ (c .before .before .before .before .before .before .before .before .before .before .before .before
+          .before .if1 .left),
+      ne-eqb _ _ (c .before .before .before .before .before .before .before .before .before .before .before .before .if2
+          .left),
       ne-eqb _ _ (c .before .before .before .before .before .before .before .before .before .before .before .if3 .left),
       ne-eqb _ _ (c .before .before .before .before .before .before .before .before .before .before .if4 .left),
       ne-eqb _ _ (c .before .before .before .before .before .before .before .before .before .if5 .left),
@@ -241,7 +247,8 @@ returns-12 : tie.Need-returns-12
 unfolding whole filled
 returns-12 c =
     simp (
-      ne-eqb _ _ (c .before .before .before .before .before .before .before .before .before .before .before .before .if1 .left),
+      ne-eqb _ _ (c .before .before .before .before .before .before .before .before .before .before .before .before .if1
+          .left),
       ne-eqb _ _ (c .before .before .before .before .before .before .before .before .before .before .before .if2 .left),
       ne-eqb _ _ (c .before .before .before .before .before .before .before .before .before .before .if3 .left),
       ne-eqb _ _ (c .before .before .before .before .before .before .before .before .before .if4 .left),

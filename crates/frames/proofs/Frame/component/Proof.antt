@@ -1,4 +1,4 @@
--- `Frame::component`: the number that `named` ensures. Assumes nothing.
+-- `Frame::component`: the number that `operand` ensures.
 use borrow.Author.Needs.{needs}
 use Rattle.frames.specs.Forms.{componentOf}
 use Rattle.frames.proofs.Frame.component.Statement.{statement}
@@ -6,7 +6,7 @@ use Rattle.frames.proofs.Frame.component.Tie as tie
 
 returns : tie.Need-returns
 unfolding componentOf
-returns c = rw (c .named .ensures)
+returns c = rw (c .operand .ensures)
 
 pub component-spec : {M : Type 1} → statement M
 component-spec =

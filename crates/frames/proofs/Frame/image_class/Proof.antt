@@ -1,4 +1,4 @@
--- `Frame::image_class`: in each arm the class is the table's place; the last arm is past the table. Assumes nothing.
+-- `Frame::image_class`: in each arm the class is the table's place; the last arm is past the table.
 use borrow.Author.Needs.{needs}
 use mathlib.Core.List.{[], _∷_}
 use Rattle.ir.proofs.Tables.{past}
@@ -21,6 +21,7 @@ image-class-spec =
     (λ c.
     let f = c .before .args .self in
     past
-    (Ic.Sampled (scalarKindOf (f .b5)) (flagOf (f .b6)) ∷ Ic.Depth (flagOf (f .b6)) ∷ Ic.External ∷ Ic.Storage (storageFormatOf (f .b5))
+    (Ic.Sampled (scalarKindOf (f .b5)) (flagOf (f .b6)) ∷ Ic.Depth (flagOf (f .b6)) ∷ Ic.External ∷ Ic.Storage
+    (storageFormatOf (f .b5))
     (accessOf (f .b7)) ∷ [])
     _ _ (c .match .rest)))

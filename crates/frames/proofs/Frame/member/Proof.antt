@@ -1,4 +1,4 @@
--- `Frame::member`: the numbers that `named` and `last` ensure. Assumes nothing.
+-- `Frame::member`: the numbers that `ty` and `last` ensure.
 use borrow.Author.Needs.{needs}
 use Rattle.frames.specs.Forms.{memberOf}
 use Rattle.frames.proofs.Frame.member.Statement.{statement}
@@ -6,7 +6,7 @@ use Rattle.frames.proofs.Frame.member.Tie as tie
 
 returns : tie.Need-returns
 unfolding memberOf
-returns c = rw (c .last .ensures, c .before .named .ensures)
+returns c = rw (c .last .ensures, c .before .ty .ensures)
 
 pub member-spec : {M : Type 1} → statement M
 member-spec =

@@ -1,4 +1,4 @@
--- `Frame::scalar`: the kind that byte 4 stands for. Assumes nothing.
+-- `Frame::scalar`: the kind that byte 4 stands for.
 use borrow.Author.Needs.{needs}
 use Rattle.frames.proofs.Frame.scalar.Statement.{statement}
 use Rattle.frames.proofs.Frame.scalar.Tie as tie

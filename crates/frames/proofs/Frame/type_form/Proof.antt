@@ -1,4 +1,4 @@
--- `Frame::type_form`: what `inner` reads at the kind of byte 1, if it is known. Assumes nothing.
+-- `Frame::type_form`: what `inner` reads at the kind of byte 1, if it is known.
 use Prim.Native.Nat.{ℕ}
 use mathlib.Core.Path.{_≡_}
 use mathlib.Core.List.{List, [], _∷_}
@@ -26,4 +26,5 @@ unfolding typeOf
 returns-2 c = rw (c .inner .ensures, c .before .before .from-number .ensures)
 
 pub type-form-spec : {M : Type 1} → statement M
-type-form-spec = tie.close (tie.spec (λ c κs. tt) (λ c. c .match .keys1) (λ c κs. is-known _ (c .match .keys2)) returns returns-2)
+type-form-spec = tie.close
+    (tie.spec (λ c κs. tt) (λ c. c .match .keys1) (λ c κs. is-known _ (c .match .keys2)) returns returns-2)

@@ -1,4 +1,4 @@
--- `array_size`: the form picks the case. Assumes nothing.
+-- `array_size`: the form picks the case.
 use borrow.Author.Tests.{ne-eqb}
 use Rattle.frames.proofs.read.array_size.Statement.{statement}
 use Rattle.frames.proofs.read.array_size.Tie as tie

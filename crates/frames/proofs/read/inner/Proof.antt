@@ -1,4 +1,4 @@
--- `inner`: each arm knows its case, and what its calls ensure; the kind is known. Assumes nothing.
+-- `inner`: each arm knows its case, and what its calls ensure; the kind is known.
 use Rattle.frames.proofs.read.inner.Statement.{statement}
 use Rattle.frames.proofs.read.inner.Tie as tie
 
@@ -68,7 +68,7 @@ inner-spec =
       c .before .before .before .from-number4 .ensures,
     ))
     (λ c. rw (c .before .enum-told6 .given .1, c .scalar5 .ensures))
-    (λ c. rw (c .before .before .enum-told7 .given .1, c .from-number7 .ensures, c .before .named .ensures))
+    (λ c. rw (c .before .before .enum-told7 .given .1, c .from-number7 .ensures, c .before .ty .ensures))
     (λ c.
     rw (
       c .before .before .before .enum-told8 .given .1,
@@ -82,12 +82,20 @@ inner-spec =
       c .last .ensures,
       c .before .array-size .ensures,
       c .before .before .third .ensures,
-      c .before .before .before .named2 .ensures,
+      c .before .before .before .ty2 .ensures,
     ))
     (λ c.
-    rw
-    (c .before .before .before .enum-told10 .given .1, c .last2 .ensures, c .before .second .ensures, c .before .before .named3 .ensures))
-    (λ c. rw (c .before .before .before .enum-told11 .given .1, c .before .image-class .ensures, c .before .before .from-number9 .ensures))
+    rw (
+      c .before .before .before .enum-told10 .given .1,
+      c .last2 .ensures,
+      c .before .count .ensures,
+      c .before .before .first-member .ensures,
+    ))
+    (λ c. rw (
+      c .before .before .before .enum-told11 .given .1,
+      c .before .image-class .ensures,
+      c .before .before .from-number9 .ensures,
+    ))
     (λ c. rw (c .before .enum-told12 .given .1))
     (λ c. rw (c .before .enum-told13 .given .1))
     (λ c. rw (c .before .enum-told14 .given .1))
@@ -96,5 +104,5 @@ inner-spec =
       c .before .before .before .enum-told15 .given .1,
       c .array-size2 .ensures,
       c .before .third2 .ensures,
-      c .before .before .named4 .ensures,
+      c .before .before .ty3 .ensures,
     )))

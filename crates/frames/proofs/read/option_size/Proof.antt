@@ -1,4 +1,4 @@
--- `option_size`: the test picks the case. Assumes nothing.
+-- `option_size`: the test picks the case.
 use borrow.Author.Needs.{needs}
 use borrow.Author.Tests.{eq-eqb, ne-eqb}
 use Rattle.frames.proofs.read.option_size.Statement.{statement}

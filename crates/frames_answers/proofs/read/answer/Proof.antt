@@ -1,4 +1,4 @@
--- `answer`: each arm knows the family, and what its calls ensure. Assumes nothing.
+-- `answer`: each arm knows the family, and what its calls ensure.
 use borrow.Author.Needs.{needs}
 use borrow.Author.Tests.{ne-eqb}
 use Rattle.frames.specs.ForProofs.{answerOf}

@@ -1,4 +1,4 @@
--- `refusal`: in each arm the refusal is the table's place; the last arm is outside the table. Assumes nothing.
+-- `refusal`: in each arm the refusal is the table's place; the last arm is outside the table.
 use borrow.Author.Needs.{needs}
 use borrow.Author.Tests.{ne-eqb}
 use Rattle.frames.specs.ForProofs.{refusals}

@@ -1,4 +1,4 @@
--- `unresolved`: the family says it. Assumes nothing.
+-- `unresolved`: the family says it.
 use borrow.Author.Needs.{needs}
 use borrow.Author.Tests.{eq-eqb, ne-eqb}
 use Rattle.frames.specs.ForProofs.{unresolvedOf}

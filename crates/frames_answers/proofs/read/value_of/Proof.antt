@@ -1,4 +1,4 @@
--- `value_of`: each arm knows its case. Assumes nothing.
+-- `value_of`: each arm knows its case.
 use borrow.Author.Needs.{needs}
 use Rattle.frames_answers.proofs.read.value_of.Statement.{statement}
 use Rattle.frames_answers.proofs.read.value_of.Tie as tie

@@ -1,4 +1,4 @@
--- `array_frame`: the bytes that its calls ensure. Assumes nothing.
+-- `array_frame`: the bytes that its calls ensure.
 use borrow.Author.Needs.{needs}
 use Rattle.frames_answers.proofs.types.array_frame.Statement.{statement}
 use Rattle.frames_answers.proofs.types.array_frame.Tie as tie

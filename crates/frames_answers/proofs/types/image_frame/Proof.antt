@@ -1,4 +1,4 @@
--- `image_frame`: each arm knows its class, and what its calls ensure. Assumes nothing.
+-- `image_frame`: each arm knows its class, and what its calls ensure.
 use borrow.Author.Needs.{needs}
 use Rattle.frames_answers.proofs.types.image_frame.Statement.{statement}
 use Rattle.frames_answers.proofs.types.image_frame.Tie as tie

@@ -1,4 +1,4 @@
--- `number_frame`: the bytes that its calls ensure. Assumes nothing.
+-- `number_frame`: the bytes that its calls ensure.
 use borrow.Author.Needs.{needs}
 use Rattle.frames_answers.proofs.types.number_frame.Statement.{statement}
 use Rattle.frames_answers.proofs.types.number_frame.Tie as tie

@@ -1,4 +1,4 @@
--- `pointer_frame`: the bytes that its calls ensure. Assumes nothing.
+-- `pointer_frame`: the bytes that its calls ensure.
 use borrow.Author.Needs.{needs}
 use Rattle.frames_answers.proofs.types.pointer_frame.Statement.{statement}
 use Rattle.frames_answers.proofs.types.pointer_frame.Tie as tie

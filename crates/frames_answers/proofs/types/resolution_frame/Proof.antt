@@ -1,4 +1,4 @@
--- `resolution_frame`: each arm knows its case, and what its call ensures. Assumes nothing.
+-- `resolution_frame`: each arm knows its case, and what its call ensures.
 use borrow.Author.Needs.{needs}
 use Rattle.frames_answers.proofs.types.resolution_frame.Statement.{statement}
 use Rattle.frames_answers.proofs.types.resolution_frame.Tie as tie

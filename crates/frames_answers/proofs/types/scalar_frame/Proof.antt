@@ -1,4 +1,4 @@
--- `scalar_frame`: the bytes that its calls ensure. Assumes nothing.
+-- `scalar_frame`: the bytes that its calls ensure.
 use borrow.Author.Needs.{needs}
 use Rattle.frames_answers.proofs.types.scalar_frame.Statement.{statement}
 use Rattle.frames_answers.proofs.types.scalar_frame.Tie as tie

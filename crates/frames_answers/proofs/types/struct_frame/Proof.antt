@@ -1,4 +1,4 @@
--- `struct_frame`: the bytes that its calls ensure. Assumes nothing.
+-- `struct_frame`: the bytes that its calls ensure.
 use borrow.Author.Needs.{needs}
 use Rattle.frames_answers.proofs.types.struct_frame.Statement.{statement}
 use Rattle.frames_answers.proofs.types.struct_frame.Tie as tie

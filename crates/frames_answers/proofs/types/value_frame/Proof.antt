@@ -1,4 +1,4 @@
--- `value_frame`: each arm knows its case, and what its calls ensure. Assumes nothing.
+-- `value_frame`: each arm knows its case, and what its calls ensure.
 use borrow.Author.Needs.{needs}
 use Rattle.frames_answers.proofs.types.value_frame.Statement.{statement}
 use Rattle.frames_answers.proofs.types.value_frame.Tie as tie

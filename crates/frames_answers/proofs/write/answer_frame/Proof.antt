@@ -1,4 +1,4 @@
--- `answer_frame`: each arm knows its case, and what its call ensures. Assumes nothing.
+-- `answer_frame`: each arm knows its case, and what its call ensures.
 use borrow.Author.Needs.{needs}
 use Rattle.frames_answers.proofs.write.answer_frame.Statement.{statement}
 use Rattle.frames_answers.proofs.write.answer_frame.Tie as tie

@@ -1,4 +1,4 @@
--- `outcome_frame`: each arm knows its case, and what `refused` ensures. Assumes nothing.
+-- `outcome_frame`: each arm knows its case, and what `refused` ensures.
 use borrow.Author.Needs.{needs}
 use Rattle.frames_answers.proofs.write.outcome_frame.Statement.{statement}
 use Rattle.frames_answers.proofs.write.outcome_frame.Tie as tie

@@ -1,4 +1,4 @@
--- `refusal_frame`: each arm knows its case, and what `refused` ensures. Assumes nothing.
+-- `refusal_frame`: each arm knows its case, and what `refused` ensures.
 use borrow.Author.Needs.{needs}
 use Rattle.frames_answers.proofs.write.refusal_frame.Statement.{statement}
 use Rattle.frames_answers.proofs.write.refusal_frame.Tie as tie

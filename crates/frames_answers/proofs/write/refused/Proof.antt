@@ -1,4 +1,4 @@
--- `refused`: the bytes of its numbers, and of the flag. Assumes nothing.
+-- `refused`: the bytes of its numbers, and of the flag.
 use borrow.Author.Needs.{needs}
 use Rattle.frames_answers.proofs.write.refused.Statement.{statement}
 use Rattle.frames_answers.proofs.write.refused.Tie as tie

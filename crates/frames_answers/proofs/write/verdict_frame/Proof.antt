@@ -1,4 +1,4 @@
--- `verdict_frame`: each arm knows its case, and what `judged` ensures. Assumes nothing.
+-- `verdict_frame`: each arm knows its case, and what `judged` ensures.
 use borrow.Author.Needs.{needs}
 use Rattle.frames_answers.proofs.write.verdict_frame.Statement.{statement}
 use Rattle.frames_answers.proofs.write.verdict_frame.Tie as tie

@@ -1,59 +1,20 @@
--- `gelmusko_compose_verdict`: as `compose_verdict`, where the out-slice has room; the number handed on gives what the number handed in asks for. Assumes nothing.
-use mathlib.Core.Path.{ap, _∙_}
-use Rattle.rule_rows.specs.declared.Pass.{Pass}
-use Rattle.rule_file.specs.Typing.{composeVerdict, verdictSaid, answersAfterVerdict}
-use Rattle.gelmusko.proofs.Laws.{is-small, has-room, not-put, judged-clamped, said-clamped}
-use Rattle.frames.specs.Bytes.{putFrame}
-use lib.ListN.{length}
+-- `gelmusko_compose_verdict`: as `compose_verdict`, where the out-slice has room; the number handed on gives what the
+-- number handed in asks for.
+use mathlib.Core.Path.{_∙_}
 use Rattle.frames.specs.Out.{oneFrame}
 use Rattle.rule_file.specs.Exported.{oneNumber}
+use Rattle.gelmusko.proofs.Laws.{judged-clamped, said-clamped}
+use Rattle.gelmusko.proofs.Room.{too-small-rows, handed-rows}
 use borrow.Author.Needs.{needs}
 use Rattle.gelmusko.proofs.rows.gelmusko_compose_verdict.Statement.{statement}
 use Rattle.gelmusko.proofs.rows.gelmusko_compose_verdict.Tie as tie
-
-returns : tie.Need-returns
-returns c = (
-  c .no-room .ensures ∙ is-small (c .before .before .before .before .before .before .args .out .now) _ _ (c .before .if1 .taken),
-  (
-    is-small (c .before .before .before .before .before .before .args .out .now) _ _ (c .before .if1 .taken),
-    (
-      is-small (c .before .before .before .before .before .before .args .out .now) _ _ (c .before .if1 .taken),
-      not-put (c .before .before .before .before .before .before .args .out .now) _ (c .before .if1 .taken),
-    ),
-  ),
-)
-
-returns-2 : tie.Need-returns-2
-returns-2 c =
-    let g = c .before .before .before .before .before .before .before .before .before .before .before .before .before .before .before .before .before .before .args in
-    let room = c .before .before .before .before .before .before .before .before .before .before .before .before .before .if1 .left in
-    let by = c .before .before .before .before .before .before .before .before .before .before .before .pass-of in
-    let n = c .before .before .before .before .before .before .before .before .before .before .before .before .clamped in
-    let p = c .before .before .put-verdict .ensures in
-    let e = c .before .before .before .before .before .before .before .before .compose-verdict .ensures in
-    let said =
-    e .1 .0
-    ∙ said-clamped (by .result) (g .limit) (g .text .now) (length (g .frames .now)) (length (g .answers .now)) (g .row) (n .result) (n .ensures)
-    ∙ ap (λ (pass : Pass). verdictSaid (record { 0 = g .row }) (composeVerdict pass (g .limit) (g .text .now) (length (g .frames .now)) (length (g .answers .now)) (record { 0 = g .row }))) (by .ensures) in (
-      p .0 ∙ ap oneNumber said ∙ has-room (g .out .now) _ _ room,
-      (
-        e .1 .1 .0 ∙ has-room (g .out .now) _ _ room,
-        (
-          e .1 .1 .1
-              ∙ judged-clamped (by .result) (g .limit) (g .text .now) (length (g .frames .now)) (g .answers .now) (g .row) (n .result) (n .ensures)
-              ∙ ap (λ (pass : Pass). answersAfterVerdict pass (g .limit) (g .text .now) (length (g .frames .now)) (g .answers .now) (record { 0 = g .row })) (by .ensures)
-              ∙ has-room (g .out .now) _ _ room,
-          p .1 ∙ ap (putFrame (g .out .now) 0) (ap oneFrame said),
-        ),
-      ),
-    )
 
 pub gelmusko-compose-verdict-spec : {M : Type 1} → statement M
 gelmusko-compose-verdict-spec =
     tie.close
     (tie.spec
     (λ c κs. tt)
-    returns
+    (λ c. too-small-rows (c .no-room .ensures) (c .before .if1 .taken) _ _ _ _)
     (λ c κs. tt)
     (λ c κs. tt)
     (λ c κs. tt)
@@ -61,4 +22,13 @@ gelmusko-compose-verdict-spec =
     (λ c. search needs)
     (λ c. search needs)
     (λ c. search needs)
-    returns-2)
+    (λ c.
+    let e = rw (c .before .before .before .before .before .before .before .before .before .before .before .pass-of
+    .ensures) at
+    (c .before .before .before .before .before .before .before .before .compose-verdict .ensures) in
+    let n = c .before .before .before .before .before .before .before .before .before .before .before .before .clamped
+    .ensures in
+    handed-rows oneNumber oneFrame _ (c .before .before .put-verdict .ensures)
+    (e .1 .0 ∙ said-clamped _ _ _ _ _ _ _ n) (e .1 .1 .0) (e .1 .1 .1 ∙ judged-clamped _ _ _ _ _ _ _ n)
+    (c .before .before .before .before .before .before .before .before .before .before .before .before .before .if1
+    .left) _ _ _))

@@ -1,4 +1,4 @@
--- `AddressSpace::access`: each arm knows its case. Assumes nothing.
+-- `AddressSpace::access`: each arm knows its case.
 use borrow.Author.Needs.{needs}
 use Rattle.ir.proofs.AddressSpace.access.Statement.{statement}
 use Rattle.ir.proofs.AddressSpace.access.Tie as tie

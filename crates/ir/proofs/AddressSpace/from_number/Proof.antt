@@ -1,4 +1,4 @@
--- `AddressSpace::from_number`: in each arm the number is the table's place; the last arm is past the table. Assumes nothing.
+-- `AddressSpace::from_number`: in each arm the number is the table's place; the last arm is past the table.
 use borrow.Author.Needs.{needs}
 use Rattle.ir.specs.Numbers.{spaces}
 use Rattle.ir.proofs.Tables.{past}

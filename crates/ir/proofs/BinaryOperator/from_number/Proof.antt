@@ -1,4 +1,4 @@
--- `BinaryOperator::from_number`: in each arm the number is the table's place; the last arm is past the table. Assumes nothing.
+-- `BinaryOperator::from_number`: in each arm the number is the table's place; the last arm is past the table.
 use Rattle.ir.specs.Numbers.{binaryOperators}
 use Rattle.ir.proofs.Tables.{past}
 use Rattle.ir.proofs.BinaryOperator.from_number.Statement.{statement}

@@ -1,4 +1,4 @@
--- `CooperativeRole::from_number`: in each arm the number is the table's place; the last arm is past the table. Assumes nothing.
+-- `CooperativeRole::from_number`: in each arm the number is the table's place; the last arm is past the table.
 use Rattle.ir.specs.Numbers.{cooperativeRoles}
 use Rattle.ir.proofs.Tables.{past}
 use Rattle.ir.proofs.CooperativeRole.from_number.Statement.{statement}

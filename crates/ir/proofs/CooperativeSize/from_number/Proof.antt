@@ -1,4 +1,4 @@
--- `CooperativeSize::from_number`: the test picks the case. Assumes nothing.
+-- `CooperativeSize::from_number`: the test picks the case.
 use borrow.Author.Tests.{eq-eqb, ne-eqb}
 use Rattle.ir.proofs.CooperativeSize.from_number.Statement.{statement}
 use Rattle.ir.proofs.CooperativeSize.from_number.Tie as tie

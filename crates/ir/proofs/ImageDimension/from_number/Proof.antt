@@ -1,4 +1,4 @@
--- `ImageDimension::from_number`: in each arm the number is the table's place; the last arm is past the table. Assumes nothing.
+-- `ImageDimension::from_number`: in each arm the number is the table's place; the last arm is past the table.
 use mathlib.Core.Path.{refl}
 use Rattle.ir.specs.Numbers.{imageDimensions}
 use Rattle.ir.proofs.Tables.{outside}

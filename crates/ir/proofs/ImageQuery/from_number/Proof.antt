@@ -1,4 +1,4 @@
--- `ImageQuery::from_number`: in each arm the number is the table's place; the last arm is past the table. Assumes nothing.
+-- `ImageQuery::from_number`: in each arm the number is the table's place; the last arm is past the table.
 use Rattle.ir.specs.Numbers.{imageQueries}
 use Rattle.ir.proofs.Tables.{past}
 use Rattle.ir.proofs.ImageQuery.from_number.Statement.{statement}

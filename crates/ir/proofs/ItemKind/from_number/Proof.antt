@@ -1,4 +1,4 @@
--- `ItemKind::from_number`: in each arm the number is the table's place; the last arm is past the table. Assumes nothing.
+-- `ItemKind::from_number`: in each arm the number is the table's place; the last arm is past the table.
 use Rattle.ir.specs.Numbers.{itemKinds}
 use Rattle.ir.proofs.Tables.{past}
 use Rattle.ir.proofs.ItemKind.from_number.Statement.{statement}

@@ -1,4 +1,4 @@
--- `Literal::from_number`: in each arm the number is the table's place; the last arm is past the table. Assumes nothing.
+-- `Literal::from_number`: in each arm the number is the table's place; the last arm is past the table.
 use Rattle.ir.specs.Numbers.{literals}
 use Rattle.ir.proofs.Tables.{past}
 use Rattle.ir.proofs.Literal.from_number.Statement.{statement}

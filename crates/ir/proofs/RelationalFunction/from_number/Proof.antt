@@ -1,4 +1,4 @@
--- `RelationalFunction::from_number`: in each arm the number is the table's place; the last arm is past the table. Assumes nothing.
+-- `RelationalFunction::from_number`: in each arm the number is the table's place; the last arm is past the table.
 use Rattle.ir.specs.Numbers.{relationalFunctions}
 use Rattle.ir.proofs.Tables.{past}
 use Rattle.ir.proofs.RelationalFunction.from_number.Statement.{statement}

@@ -1,4 +1,4 @@
--- `RowKind::from_number`: in each arm the number is the table's place; the last arm is past the table. Assumes nothing.
+-- `RowKind::from_number`: in each arm the number is the table's place; the last arm is past the table.
 use Rattle.ir.specs.Numbers.{rowKinds}
 use Rattle.ir.proofs.Tables.{past}
 use Rattle.ir.proofs.RowKind.from_number.Statement.{statement}

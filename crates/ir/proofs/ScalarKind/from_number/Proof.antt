@@ -1,4 +1,4 @@
--- `ScalarKind::from_number`: in each arm the number is the table's place; the last arm is past the table. Assumes nothing.
+-- `ScalarKind::from_number`: in each arm the number is the table's place; the last arm is past the table.
 use Rattle.ir.specs.Numbers.{scalarKinds}
 use Rattle.ir.proofs.Tables.{past}
 use Rattle.ir.proofs.ScalarKind.from_number.Statement.{statement}

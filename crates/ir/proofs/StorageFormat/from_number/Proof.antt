@@ -1,4 +1,4 @@
--- `StorageFormat::from_number`: in each arm the number is the table's place; the last arm is past the table. Assumes nothing.
+-- `StorageFormat::from_number`: in each arm the number is the table's place; the last arm is past the table.
 use Rattle.ir.specs.Numbers.{storageFormats}
 use Rattle.ir.proofs.Tables.{past}
 use Rattle.ir.proofs.StorageFormat.from_number.Statement.{statement}

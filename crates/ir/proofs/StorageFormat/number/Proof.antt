@@ -1,4 +1,4 @@
--- `StorageFormat::number`: each arm knows its case. Assumes nothing.
+-- `StorageFormat::number`: each arm knows its case.
 use borrow.Author.Needs.{needs}
 use Rattle.ir.proofs.StorageFormat.number.Statement.{statement}
 use Rattle.ir.proofs.StorageFormat.number.Tie as tie

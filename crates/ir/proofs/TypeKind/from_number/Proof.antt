@@ -1,4 +1,4 @@
--- `TypeKind::from_number`: in each arm the number is the table's place; the last arm is past the table. Assumes nothing.
+-- `TypeKind::from_number`: in each arm the number is the table's place; the last arm is past the table.
 use Rattle.ir.specs.Numbers.{typeKinds}
 use Rattle.ir.proofs.Tables.{past}
 use Rattle.ir.proofs.TypeKind.from_number.Statement.{statement}

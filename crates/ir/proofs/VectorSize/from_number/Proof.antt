@@ -1,4 +1,4 @@
--- `VectorSize::from_number`: in each arm the number is the table's place; the last arm is past the table. Assumes nothing.
+-- `VectorSize::from_number`: in each arm the number is the table's place; the last arm is past the table.
 use mathlib.Core.Path.{refl}
 use Rattle.ir.specs.Numbers.{vectorSizes}
 use Rattle.ir.proofs.Tables.{outside}

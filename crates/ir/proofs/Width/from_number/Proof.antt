@@ -1,4 +1,4 @@
--- `Width::from_number`: the tests pick the case. Assumes nothing.
+-- `Width::from_number`: the tests pick the case.
 use borrow.Author.Tests.{eq-eqb, ne-eqb}
 use Rattle.ir.proofs.Width.from_number.Statement.{statement}
 use Rattle.ir.proofs.Width.from_number.Tie as tie

@@ -1,4 +1,4 @@
--- `Width::is_number`: its tests are the definition's. Assumes nothing.
+-- `Width::is_number`: its tests are the definition's.
 use mathlib.Core.Path.{refl}
 use Rattle.ir.proofs.Width.is_number.Statement.{statement}
 use Rattle.ir.proofs.Width.is_number.Tie as tie

@@ -1,4 +1,4 @@
--- `take_counts` is safe and ends: the tables keep their lengths, and each argument is looked at once. Assumes nothing.
+-- `take_counts` is safe and ends: the tables keep their lengths, and each argument is looked at once.
 use mathlib.Core.Path.{_≡_, refl, _∙_}
 use mathlib.Core.List.{List}
 use Prim.Native.Nat.{ℕ, _-_}

@@ -1,4 +1,4 @@
--- `both`: each case of the two. Assumes nothing.
+-- `both`: each case of the two.
 use borrow.Author.Needs.{needs}
 use Rattle.program_limit.proofs.counts.both.Statement.{statement}
 use Rattle.program_limit.proofs.counts.both.Tie as tie

@@ -1,4 +1,4 @@
--- `counts_of`: by the first dash, which is a byte of the word. Assumes nothing.
+-- `counts_of`: by the first dash, which is a byte of the word.
 use Prim.Native.Nat.{ℕ, _+_, _≤_, _<_}
 use native.Mathlib.Omega.{arith}
 use mathlib.Core.Path.{_≡_, sym, _∙_}
@@ -24,7 +24,8 @@ returns c =
     let w = c .before .before .before .before .before .before .before .before .before .before .args .word .now in
     let k = c .before .before .before .before .before .before .k .given .0 .0 in
     rw (
-      sym (c .before .before .before .before .before .before .before .before .first-dash .ensures) ∙ c .before .before .before .before .before .before .k .given .1,
+      sym (c .before .before .before .before .before .before .before .before .first-dash .ensures)
+          ∙ c .before .before .before .before .before .before .k .given .1,
       c .both .ensures,
       c .before .count-of2 .ensures,
       c .before .before .before .count-of .ensures,
@@ -41,11 +42,28 @@ counts-of-spec =
     (tie.spec
     (λ c κs. search needs)
     (λ c. search needs)
-    (λ c. sym (length-take-le _ _ (omega (arith, inside (c .before .before .before .before .before .before .args .word .now) _ _ (c .before .before .before .before .first-dash .ensures) (c .before .before .k .given .1)))))
+    (λ c. sym (length-take-le _ _
+    (omega (
+      arith,
+      inside (c .before .before .before .before .before .before .args .word .now) _ _
+          (c .before .before .before .before .first-dash .ensures) (c .before .before .k .given .1),
+    ))))
     (λ c κs. search needs)
-    (λ c. omega (arith, inside (c .before .before .before .before .before .before .before .args .word .now) _ _ (c .before .before .before .before .before .first-dash .ensures) (c .before .before .before .k .given .1)))
-    (λ c. omega (arith, inside (c .before .before .before .before .before .before .before .args .word .now) _ _ (c .before .before .before .before .before .first-dash .ensures) (c .before .before .before .k .given .1)))
-    (λ c. omega (arith, inside (c .before .before .before .before .before .before .before .args .word .now) _ _ (c .before .before .before .before .before .first-dash .ensures) (c .before .before .before .k .given .1)))
+    (λ c. omega (
+      arith,
+      inside (c .before .before .before .before .before .before .before .args .word .now) _ _
+          (c .before .before .before .before .before .first-dash .ensures) (c .before .before .before .k .given .1),
+    ))
+    (λ c. omega (
+      arith,
+      inside (c .before .before .before .before .before .before .before .args .word .now) _ _
+          (c .before .before .before .before .before .first-dash .ensures) (c .before .before .before .k .given .1),
+    ))
+    (λ c. omega (
+      arith,
+      inside (c .before .before .before .before .before .before .before .args .word .now) _ _
+          (c .before .before .before .before .before .first-dash .ensures) (c .before .before .before .k .given .1),
+    ))
     (λ c. search needs)
     (λ c κs. search needs)
     (λ c κs. search needs)

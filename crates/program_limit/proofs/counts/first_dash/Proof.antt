@@ -1,4 +1,4 @@
--- `first_dash`. The invariant: no byte passed is a dash. Assumes nothing.
+-- `first_dash`. The invariant: no byte passed is a dash.
 use mathlib.Core.Path.{_≡_, refl, ap}
 use mathlib.Core.Bool.{Bool, true, false, cond}
 use mathlib.Core.List.{List}
@@ -41,7 +41,8 @@ first-dash-spec =
     (λ c. let w = c .before .before .before .before .args .word .now in let l = c .before .before .before .loop in
     record {
       few = omega (arith, c .before .before .loop-test .taken);
-      none = lowest-more (noDash w) (l .k) (l .inv .none) refl (ap (λ (b : Bool). cond b false true) (ne-eqb _ 45 (c .if1 .left)));
+      none = lowest-more (noDash w) (l .k) (l .inv .none) refl
+          (ap (λ (b : Bool). cond b false true) (ne-eqb _ 45 (c .if1 .left)));
     })
     (λ c. let w = c .before .before .args .word .now in let l = c .before .loop in
     lowest-none (noDash w) (l .k) (length w) (l .inv .few) (c .loop-test .left) (l .inv .none)))

@@ -1,4 +1,4 @@
--- `access_component`: each arm knows its case, and what its calls ensure. Assumes nothing.
+-- `access_component`: each arm knows its case, and what its calls ensure.
 use Rattle.row_access.proofs.access.access_component.Statement.{statement}
 use Rattle.row_access.proofs.access.access_component.Tie as tie
 

@@ -1,4 +1,4 @@
--- `access_into`: each arm knows its case, and what its calls ensure; the other kinds case by case. Assumes nothing.
+-- `access_into`: each arm knows its case, and what its calls ensure; the other kinds case by case.
 use mathlib.Core.Path.{_≡_, _∙_}
 use mathlib.Core.Bool.{false}
 use borrow.Author.Needs.{needs}
@@ -12,7 +12,8 @@ use Rattle.row_access.proofs.access.access_into.Statement.{statement}
 use Rattle.row_access.proofs.access.access_into.Tie as tie
 
 -- the other kinds
-rest : (a : RowNumber) → Others (kindsBut (1 ∷ 2 ∷ 6 ∷ 7 ∷ 13 ∷ [])) (λ t. told (accessInto a (Ti.RayQuery false)) ≡ told (accessInto a t))
+rest : (a : RowNumber)
+    → Others (kindsBut (1 ∷ 2 ∷ 6 ∷ 7 ∷ 13 ∷ [])) (λ t. told (accessInto a (Ti.RayQuery false)) ≡ told (accessInto a t))
 rest a = of-each (search needs)
 
 pub access-into-spec : {M : Type 1} → statement M
@@ -35,4 +36,5 @@ access-into-spec =
     (λ c. rw (c .before .before .t3 .given .1, c .access-component .ensures))
     (λ c. rw (c .before .before .t4 .given .1, c .numbered .ensures))
     (λ c. rw (c .before .before .t5 .given .1, c .numbered2 .ensures))
-    (λ c. c .invalid-access .ensures ∙ rest (c .before .before .args .base) .at (c .before .before .args .t) (c .before .match .keys6)))
+    (λ c. c .invalid-access .ensures
+    ∙ rest (c .before .before .args .base) .at (c .before .before .args .t) (c .before .match .keys6)))

@@ -1,4 +1,4 @@
--- `access_through`: each arm knows its case, and what its calls ensure; the other kinds case by case. Assumes nothing.
+-- `access_through`: each arm knows its case, and what its calls ensure; the other kinds case by case.
 use mathlib.Core.Path.{_≡_, _∙_}
 use mathlib.Core.Bool.{false}
 use borrow.Author.Needs.{needs}
@@ -14,7 +14,8 @@ use Rattle.row_access.proofs.access.access_through.Tie as tie
 
 -- the other kinds
 rest : (a : TypeNumber) (b : AddressSpace)
-    → Others (kindsBut (1 ∷ 2 ∷ 7 ∷ 13 ∷ [])) (λ t. told (accessThrough a b (Ti.RayQuery false)) ≡ told (accessThrough a b t))
+    → Others (kindsBut (1 ∷ 2 ∷ 7 ∷ 13 ∷ []))
+    (λ t. told (accessThrough a b (Ti.RayQuery false)) ≡ told (accessThrough a b t))
 rest a b = of-each (search needs)
 
 pub access-through-spec : {M : Type 1} → statement M
@@ -36,4 +37,5 @@ access-through-spec =
     (λ c. rw (c .before .before .t4 .given .1, c .pointer-type2 .ensures))
     (λ c.
     c .invalid-sub-access .ensures
-    ∙ rest (c .before .before .args .ty) (c .before .before .args .space) .at (c .before .before .args .t) (c .before .match .keys5)))
+    ∙ rest (c .before .before .args .ty) (c .before .before .args .space) .at (c .before .before .args .t)
+    (c .before .match .keys5)))

@@ -1,4 +1,4 @@
--- `splat_of`: each arm knows its case, and what its calls ensure; the other kinds case by case. Assumes nothing.
+-- `splat_of`: each arm knows its case, and what its calls ensure; the other kinds case by case.
 use mathlib.Core.Path.{_≡_, _∙_}
 use mathlib.Core.Bool.{false}
 use borrow.Author.Needs.{needs}
@@ -13,7 +13,8 @@ use Rattle.row_access.proofs.access.splat_of.Statement.{statement}
 use Rattle.row_access.proofs.access.splat_of.Tie as tie
 
 -- the other kinds
-rest : (a : VectorSize) (b : RowNumber) → Others (kindsBut (0 ∷ [])) (λ t. told (splatOf a b (Ti.RayQuery false)) ≡ told (splatOf a b t))
+rest : (a : VectorSize) (b : RowNumber)
+    → Others (kindsBut (0 ∷ [])) (λ t. told (splatOf a b (Ti.RayQuery false)) ≡ told (splatOf a b t))
 rest a b = of-each (search needs)
 
 pub splat-of-spec : {M : Type 1} → statement M
@@ -26,4 +27,5 @@ splat-of-spec =
     (λ c. rw (c .before .before .t .given .1, c .vector-type .ensures))
     (λ c.
     c .invalid-scalar .ensures
-    ∙ rest (c .before .before .args .size) (c .before .before .args .value) .at (c .before .before .args .t) (c .before .match .keys2)))
+    ∙ rest (c .before .before .args .size) (c .before .before .args .value) .at (c .before .before .args .t)
+    (c .before .match .keys2)))

@@ -1,4 +1,4 @@
--- `swizzle_of`: each arm knows its case, and what its calls ensure; the other kinds case by case. Assumes nothing.
+-- `swizzle_of`: each arm knows its case, and what its calls ensure; the other kinds case by case.
 use mathlib.Core.Path.{_≡_, _∙_}
 use mathlib.Core.Bool.{false}
 use borrow.Author.Needs.{needs}
@@ -27,4 +27,5 @@ swizzle-of-spec =
     (λ c. rw (c .before .before .t .given .1, c .vector-type .ensures))
     (λ c.
     c .invalid-vector .ensures
-    ∙ rest (c .before .before .args .size) (c .before .before .args .vector) .at (c .before .before .args .t) (c .before .match .keys2)))
+    ∙ rest (c .before .before .args .size) (c .before .before .args .vector) .at (c .before .before .args .t)
+    (c .before .match .keys2)))

@@ -1,4 +1,4 @@
--- `index_component`: each arm knows its case, and what its calls ensure. Assumes nothing.
+-- `index_component`: each arm knows its case, and what its calls ensure.
 use Rattle.row_access.proofs.access_index.index_component.Statement.{statement}
 use Rattle.row_access.proofs.access_index.index_component.Tie as tie
 

@@ -1,4 +1,4 @@
--- `index_into`: each arm knows its case, and what its calls ensure; the other kinds case by case. Assumes nothing.
+-- `index_into`: each arm knows its case, and what its calls ensure; the other kinds case by case.
 use Prim.Native.Nat.{ℕ}
 use mathlib.Core.Path.{_≡_, _∙_}
 use mathlib.Core.Bool.{false}
@@ -16,7 +16,9 @@ use Rattle.row_access.proofs.access_index.index_into.Tie as tie
 
 -- the other kinds
 rest : (a : List ℕ) (b : Starts) (c : RowNumber) (d : ℕ)
-    → Others (kindsBut (1 ∷ 2 ∷ 6 ∷ 7 ∷ 8 ∷ 13 ∷ [])) (λ t. told (indexInto c d (memberTypes a b (Ti.RayQuery false)) (Ti.RayQuery false)) ≡ told (indexInto c d (memberTypes a b t) t))
+    → Others (kindsBut (1 ∷ 2 ∷ 6 ∷ 7 ∷ 8 ∷ 13 ∷ []))
+    (λ t. told (indexInto c d (memberTypes a b (Ti.RayQuery false)) (Ti.RayQuery false))
+    ≡ told (indexInto c d (memberTypes a b t) t))
 rest a b c d = of-each (search needs)
 
 pub index-into-spec : {M : Type 1} → statement M
@@ -44,5 +46,6 @@ index-into-spec =
     (λ c. rw (c .before .before .t6 .given .1, c .numbered2 .ensures))
     (λ c.
     c .invalid-access .ensures
-    ∙ rest (c .before .before .before .args .frames .now) (c .before .before .before .args .s) (c .before .before .before .args .base)
+    ∙ rest (c .before .before .before .args .frames .now) (c .before .before .before .args .s)
+    (c .before .before .before .args .base)
     (c .before .before .before .args .index) .at (c .before .before .before .args .t) (c .before .match .keys7)))

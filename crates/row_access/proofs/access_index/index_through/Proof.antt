@@ -1,4 +1,4 @@
--- `index_through`: each arm knows its case, and what its calls ensure; the other kinds case by case. Assumes nothing.
+-- `index_through`: each arm knows its case, and what its calls ensure; the other kinds case by case.
 use Prim.Native.Nat.{ℕ}
 use mathlib.Core.Path.{_≡_, _∙_}
 use mathlib.Core.Bool.{false}
@@ -18,7 +18,9 @@ use Rattle.row_access.proofs.access_index.index_through.Tie as tie
 
 -- the other kinds
 rest : (a : List ℕ) (b : Starts) (c : RowNumber) (d : ℕ) (e : TypeNumber) (f : AddressSpace)
-    → Others (kindsBut (1 ∷ 2 ∷ 7 ∷ 8 ∷ 13 ∷ [])) (λ t. told (indexThrough c d e f (memberTypes a b (Ti.RayQuery false)) (Ti.RayQuery false)) ≡ told (indexThrough c d e f (memberTypes a b t) t))
+    → Others (kindsBut (1 ∷ 2 ∷ 7 ∷ 8 ∷ 13 ∷ []))
+    (λ t. told (indexThrough c d e f (memberTypes a b (Ti.RayQuery false)) (Ti.RayQuery false))
+    ≡ told (indexThrough c d e f (memberTypes a b t) t))
 rest a b c d e f = of-each (search needs)
 
 pub index-through-spec : {M : Type 1} → statement M
@@ -43,6 +45,8 @@ index-through-spec =
     (λ c. rw (c .before .before .t5 .given .1, c .pointer-type2 .ensures))
     (λ c.
     c .invalid-sub-access .ensures
-    ∙ rest (c .before .before .before .args .frames .now) (c .before .before .before .args .s) (c .before .before .before .args .base)
-    (c .before .before .before .args .index) (c .before .before .before .args .ty) (c .before .before .before .args .space) .at
+    ∙ rest (c .before .before .before .args .frames .now) (c .before .before .before .args .s)
+    (c .before .before .before .args .base)
+    (c .before .before .before .args .index) (c .before .before .before .args .ty)
+    (c .before .before .before .args .space) .at
     (c .before .before .before .args .t) (c .before .match .keys6)))

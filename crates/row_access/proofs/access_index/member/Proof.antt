@@ -1,4 +1,4 @@
--- `member`: below the count the member of that place, and past them none. Assumes nothing.
+-- `member`: below the count the member of that place, and past them none.
 use Prim.Native.Nat.{ℕ}
 use mathlib.Core.Path.{sym, ap, _∙_}
 use mathlib.Core.Option.{Option}
@@ -29,4 +29,5 @@ member-spec =
     c .out-of-bounds .ensures
     ∙ sym
     (ap (λ (o : Option TypeNumber). told (member (g .base) (g .index) o))
-    (listed-past (λ (i : ℕ). memberIn (g .frames .now) (g .s) (g .first) i .ty) (g .count) (g .index) (c .before .if1 .left)))))
+    (listed-past (λ (i : ℕ). memberIn (g .frames .now) (g .s) (g .first) i .ty) (g .count) (g .index)
+    (c .before .if1 .left)))))

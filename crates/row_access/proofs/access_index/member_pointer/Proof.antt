@@ -1,4 +1,4 @@
--- `member_pointer`: below the count the pointer to the member of that place, and past them none. Assumes nothing.
+-- `member_pointer`: below the count the pointer to the member of that place, and past them none.
 use Prim.Native.Nat.{ℕ}
 use mathlib.Core.Path.{sym, ap, _∙_}
 use mathlib.Core.Option.{Option}
@@ -29,4 +29,5 @@ member-pointer-spec =
     c .out-of-bounds .ensures
     ∙ sym
     (ap (λ (o : Option TypeNumber). told (memberPointer (g .base) (g .index) (g .space) o))
-    (listed-past (λ (i : ℕ). memberIn (g .frames .now) (g .s) (g .first) i .ty) (g .count) (g .index) (c .before .if1 .left)))))
+    (listed-past (λ (i : ℕ). memberIn (g .frames .now) (g .s) (g .first) i .ty) (g .count) (g .index)
+    (c .before .if1 .left)))))

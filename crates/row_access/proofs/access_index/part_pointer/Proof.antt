@@ -1,4 +1,4 @@
--- `part_pointer`: by the test. Assumes nothing.
+-- `part_pointer`: by the test.
 use borrow.Author.Tests.{lt-ltb, le-ltb}
 use borrow.Author.Needs.{needs}
 use Rattle.row_access.proofs.access_index.part_pointer.Statement.{statement}

@@ -1,4 +1,5 @@
--- `cooperative_load`: its operand is a pointer whose base is seen or unknown, or another type, or the row ends with what ended the look. Assumes nothing.
+-- `cooperative_load`: its operand is a pointer whose base is seen or unknown, or another type, or the row ends with
+-- what ended the look.
 use mathlib.Core.Path.{sym, ap, _∙_}
 use Rattle.ir.specs.TypeMethods.{scalarIn, pointerBase}
 use Rattle.rule_rows.specs.Results.{cooperativeOf, baseScalar}
@@ -26,23 +27,27 @@ cooperative-load-spec =
     (λ c κs. tt)
     (λ c.
     let g =
-    c .before .before .before .before .before .before .before .before .before .before .before .before .before .before .before .before
+    c .before .before .before .before .before .before .before .before .before .before .before .before .before .before
+    .before .before
     .args in
     rw (c .cooperative-of .ensures, c .before .scalar .ensures)
     (base-through (g .frames .now) (g .s) (g .answers .now) (g .places .now) (g .here) (g .pointer)
     (λ b p x. cooperativeOf (g .columns) (g .rows) (g .role) (g .pointer) (scalarIn (x .inner)))
     (λ x. cooperativeOf (g .columns) (g .rows) (g .role) (g .pointer) (baseScalar (pointerBase (x .inner))))
-    (sym (c .before .before .before .before .before .before .before .before .before .before .before .before .look-into .ensures)
+    (sym (c .before .before .before .before .before .before .before .before .before .before .before .before .look-into
+    .ensures)
     ∙ c .before .before .before .before .before .before .before .before .before .before .t .given .1
     ∙ ap Seen (c .before .before .before .before .before .before .before .t2 .given .1))
     (sym (c .before .before .before .before .before .type-at .ensures) ∙ c .before .before .before .inner .given .1)))
     (λ c.
-    let g = c .before .before .before .before .before .before .before .before .before .before .before .before .before .args in
+    let g = c .before .before .before .before .before .before .before .before .before .before .before .before .before
+    .args in
     base-unknown (g .frames .now) (g .s) (g .answers .now) (g .places .now) (g .here) (g .pointer)
     (λ b p x. cooperativeOf (g .columns) (g .rows) (g .role) (g .pointer) (scalarIn (x .inner)))
     (λ x. cooperativeOf (g .columns) (g .rows) (g .role) (g .pointer) (baseScalar (pointerBase (x .inner))))
     (sym (c .before .before .before .before .before .before .before .before .before .look-into .ensures)
-    ∙ c .before .before .before .before .before .before .before .t .given .1 ∙ ap Seen (c .before .before .before .before .t2 .given .1))
+    ∙ c .before .before .before .before .before .before .before .t .given .1
+    ∙ ap Seen (c .before .before .before .before .t2 .given .1))
     (sym (c .before .before .type-at .ensures) ∙ c .enum-told .given .1))
     (λ c.
     let g = c .before .before .before .before .before .before .before .before .before .before .before .args in

@@ -1,4 +1,4 @@
--- `splat`: its operand is seen, or the row ends with what ended the look. Assumes nothing.
+-- `splat`: its operand is seen, or the row ends with what ended the look.
 use mathlib.Core.Path.{sym, _∙_}
 use Rattle.rule_rows.specs.Access.{splatOf}
 use Rattle.row_operands.proofs.Steps.{type-seen, type-ended}
@@ -17,10 +17,12 @@ splat-spec =
     (λ c.
     let g = c .before .before .before .before .before .before .before .before .args in
     c .splat-of .ensures
-    ∙ type-seen (g .frames .now) (g .s) (g .answers .now) (g .places .now) (g .here) (g .value) (splatOf (g .size) (g .value))
+    ∙ type-seen (g .frames .now) (g .s) (g .answers .now) (g .places .now) (g .here) (g .value)
+    (splatOf (g .size) (g .value))
     (sym (c .before .before .before .before .look-into .ensures) ∙ c .before .before .inner .given .1))
     (λ c.
     let g = c .before .before .before .before .before .before .before .before .args in
     c .ended .ensures
-    ∙ type-ended (g .frames .now) (g .s) (g .answers .now) (g .places .now) (g .here) (g .value) (splatOf (g .size) (g .value))
+    ∙ type-ended (g .frames .now) (g .s) (g .answers .now) (g .places .now) (g .here) (g .value)
+    (splatOf (g .size) (g .value))
     (sym (c .before .before .before .before .look-into .ensures) ∙ c .before .before .end .given .1)))

@@ -1,4 +1,4 @@
--- `gathered_of`: each arm knows its case, and what its calls ensure; the other kinds case by case. Assumes nothing.
+-- `gathered_of`: each arm knows its case, and what its calls ensure; the other kinds case by case.
 use mathlib.Core.Path.{_≡_, _∙_}
 use mathlib.Core.Bool.{false}
 use borrow.Author.Needs.{needs}
@@ -12,7 +12,8 @@ use Rattle.row_images.proofs.by_form.gathered_of.Statement.{statement}
 use Rattle.row_images.proofs.by_form.gathered_of.Tie as tie
 
 -- the other kinds
-rest : (a : RowNumber) → Others (kindsBut (9 ∷ [])) (λ t. told (gatheredOf a (Ti.RayQuery false)) ≡ told (gatheredOf a t))
+rest : (a : RowNumber)
+    → Others (kindsBut (9 ∷ [])) (λ t. told (gatheredOf a (Ti.RayQuery false)) ≡ told (gatheredOf a t))
 rest a = of-each (search needs)
 
 pub gathered-of-spec : {M : Type 1} → statement M
@@ -24,4 +25,5 @@ gathered-of-spec =
     (λ c κs. tt)
     (λ c κs. tt)
     (λ c. rw (c .before .before .before .t .given .1, c .vector-type .ensures, c .before .gathered-scalar .ensures))
-    (λ c. c .invalid-image .ensures ∙ rest (c .before .before .args .image) .at (c .before .before .args .t) (c .before .match .keys2)))
+    (λ c. c .invalid-image .ensures
+    ∙ rest (c .before .before .args .image) .at (c .before .before .args .t) (c .before .match .keys2)))

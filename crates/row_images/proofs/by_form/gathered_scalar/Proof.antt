@@ -1,4 +1,4 @@
--- `gathered_scalar`: each arm knows its case, and what its calls ensure. Assumes nothing.
+-- `gathered_scalar`: each arm knows its case, and what its calls ensure.
 use Rattle.row_images.proofs.by_form.gathered_scalar.Statement.{statement}
 use Rattle.row_images.proofs.by_form.gathered_scalar.Tie as tie
 

@@ -1,4 +1,4 @@
--- `image_size_of`: each arm knows its case, and what its calls ensure; the other kinds case by case. Assumes nothing.
+-- `image_size_of`: each arm knows its case, and what its calls ensure; the other kinds case by case.
 use mathlib.Core.Path.{_≡_, _∙_}
 use mathlib.Core.Bool.{false}
 use borrow.Author.Needs.{needs}
@@ -12,7 +12,8 @@ use Rattle.row_images.proofs.by_form.image_size_of.Statement.{statement
 use Rattle.row_images.proofs.by_form.image_size_of.Tie as tie
 
 -- the other kinds
-rest : (a : RowNumber) → Others (kindsBut (9 ∷ [])) (λ t. told (imageSizeOf a (Ti.RayQuery false)) ≡ told (imageSizeOf a t))
+rest : (a : RowNumber)
+    → Others (kindsBut (9 ∷ [])) (λ t. told (imageSizeOf a (Ti.RayQuery false)) ≡ told (imageSizeOf a t))
 rest a = of-each (search needs)
 
 pub image-size-of-spec : {M : Type 1} → statement M
@@ -23,4 +24,5 @@ image-size-of-spec =
     (λ c κs. tt)
     (λ c κs. tt)
     (λ c. rw (c .before .before .t .given .1, c .size-of .ensures))
-    (λ c. c .invalid-image .ensures ∙ rest (c .before .before .args .image) .at (c .before .before .args .t) (c .before .match .keys2)))
+    (λ c. c .invalid-image .ensures
+    ∙ rest (c .before .before .args .image) .at (c .before .before .args .t) (c .before .match .keys2)))

@@ -1,4 +1,4 @@
--- `sampled_class`: each arm knows its case, and what its calls ensure. Assumes nothing.
+-- `sampled_class`: each arm knows its case, and what its calls ensure.
 use Rattle.row_images.proofs.by_form.sampled_class.Statement.{statement}
 use Rattle.row_images.proofs.by_form.sampled_class.Tie as tie
 

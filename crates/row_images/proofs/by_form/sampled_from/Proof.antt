@@ -1,4 +1,4 @@
--- `sampled_from`: each arm knows its case, and what its calls ensure; the other kinds case by case. Assumes nothing.
+-- `sampled_from`: each arm knows its case, and what its calls ensure; the other kinds case by case.
 use mathlib.Core.Path.{_≡_, _∙_}
 use mathlib.Core.Bool.{false}
 use borrow.Author.Needs.{needs}
@@ -23,4 +23,5 @@ sampled-from-spec =
     (λ c κs. tt)
     (λ c κs. tt)
     (λ c. rw (c .before .before .t .given .1, c .sampled-class .ensures))
-    (λ c. c .invalid-image .ensures ∙ rest (c .before .before .args .image) .at (c .before .before .args .t) (c .before .match .keys2)))
+    (λ c. c .invalid-image .ensures
+    ∙ rest (c .before .before .args .image) .at (c .before .before .args .t) (c .before .match .keys2)))

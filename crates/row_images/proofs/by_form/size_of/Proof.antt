@@ -1,4 +1,4 @@
--- `size_of`: each arm knows its case, and what its calls ensure. Assumes nothing.
+-- `size_of`: each arm knows its case, and what its calls ensure.
 use Rattle.row_images.proofs.by_form.size_of.Statement.{statement}
 use Rattle.row_images.proofs.by_form.size_of.Tie as tie
 

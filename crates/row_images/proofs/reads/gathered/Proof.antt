@@ -1,4 +1,4 @@
--- `gathered`: its operand is seen, or the row ends with what ended the look. Assumes nothing.
+-- `gathered`: its operand is seen, or the row ends with what ended the look.
 use mathlib.Core.Path.{sym, _∙_}
 use Rattle.rule_rows.specs.Images.{gatheredOf}
 use Rattle.row_operands.proofs.Steps.{type-seen, type-ended}

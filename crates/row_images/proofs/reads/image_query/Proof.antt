@@ -1,4 +1,4 @@
--- `image_query`: each query has its rule; the arm of several queries query by query. Assumes nothing.
+-- `image_query`: each query has its rule; the arm of several queries query by query.
 use mathlib.Core.Path.{refl, sym, ap, _∙_}
 use mathlib.Core.List.{[], _∷_}
 use Rattle.ir.proofs.Keys.{of-image-queries}

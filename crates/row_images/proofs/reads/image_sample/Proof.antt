@@ -1,4 +1,4 @@
--- `image_sample`: by the flag. Assumes nothing.
+-- `image_sample`: by the flag.
 use Rattle.row_images.proofs.reads.image_sample.Statement.{statement}
 use Rattle.row_images.proofs.reads.image_sample.Tie as tie
 

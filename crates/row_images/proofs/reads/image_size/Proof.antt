@@ -1,4 +1,4 @@
--- `image_size`: its operand is seen, or the row ends with what ended the look. Assumes nothing.
+-- `image_size`: its operand is seen, or the row ends with what ended the look.
 use mathlib.Core.Path.{sym, _∙_}
 use Rattle.rule_rows.specs.Images.{imageSizeOf}
 use Rattle.row_operands.proofs.Steps.{type-seen, type-ended}
@@ -22,5 +22,6 @@ image-size-spec =
     (λ c.
     let g = c .before .before .before .before .before .before .before .before .args in
     c .ended .ensures
-    ∙ type-ended (g .frames .now) (g .s) (g .answers .now) (g .places .now) (g .here) (g .image) (imageSizeOf (g .image))
+    ∙ type-ended (g .frames .now) (g .s) (g .answers .now) (g .places .now) (g .here) (g .image)
+    (imageSizeOf (g .image))
     (sym (c .before .before .before .before .look-into .ensures) ∙ c .before .before .end .given .1)))

@@ -1,4 +1,4 @@
--- `sampled`: its operand is seen, or the row ends with what ended the look. Assumes nothing.
+-- `sampled`: its operand is seen, or the row ends with what ended the look.
 use mathlib.Core.Path.{sym, _∙_}
 use Rattle.row_operands.proofs.Steps.{sampled-seen, sampled-ended}
 use Rattle.row_images.proofs.reads.sampled.Statement.{statement}

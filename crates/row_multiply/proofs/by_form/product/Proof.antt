@@ -1,5 +1,5 @@
 -- `product`: a branch knows the kinds of both types, or of the one that decides. Past the last branch no pair of kinds
--- is left that has a product: a branch that was passed by tells what the left kind, or the right, is not. Assumes nothing.
+-- is left that has a product: a branch that was passed by tells what the left kind, or the right, is not.
 use mathlib.Core.Path.{_≡_, sym, subst, _∙_}
 use mathlib.Core.Bool.{not}
 use mathlib.Core.List.{[], _∷_}
@@ -37,7 +37,8 @@ by-scalar : (a b : TypeAnswer) (k : Scalar) → Others (kindsBut (0 ∷ [])) (λ
 by-scalar a b k = of-each (search needs)
 
 -- what has no product on the right of a vector, a matrix, a cooperative matrix and every other type
-vector-rest : (a : TypeAnswer) → Others (kindsBut (0 ∷ 1 ∷ 2 ∷ [])) (λ r. vectorTimes a r ≡ refused IncompatibleOperands)
+vector-rest : (a : TypeAnswer)
+    → Others (kindsBut (0 ∷ 1 ∷ 2 ∷ [])) (λ r. vectorTimes a r ≡ refused IncompatibleOperands)
 vector-rest a = of-each (search needs)
 
 matrix-rest : (a : TypeAnswer) → Others (kindsBut (0 ∷ 1 ∷ 2 ∷ []))
@@ -146,7 +147,8 @@ product-spec =
     let j = c .before .before .before in
     let g = j .before .before .before .before .before .before .before .before .before .args in
     rw (c .enum-told16 .given .1)
-    (by-scalar a b (c .enum-told16 .given .0 .0) .at (g .left) (subst (Not 0) (kept j) (c .before .before .match19 .keys2))))
+    (by-scalar a b (c .enum-told16 .given .0 .0) .at (g .left)
+    (subst (Not 0) (kept j) (c .before .before .match19 .keys2))))
     (λ c. c .match21 .keys1)
     (λ c. c .match22 .keys1)
     (λ c a b.

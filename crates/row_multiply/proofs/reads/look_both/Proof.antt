@@ -1,4 +1,4 @@
--- `look_both`: the left is seen, or shows no form. Assumes nothing.
+-- `look_both`: the left is seen, or shows no form.
 use mathlib.Core.Path.{sym, _∙_}
 use Rattle.rule_rows.specs.Operators.{product}
 use Rattle.row_operands.proofs.TwoOperands.{left-unseen}

@@ -1,4 +1,4 @@
--- `look_right`: both are seen, or the row ends with what ended the look into the right. Assumes nothing.
+-- `look_right`: both are seen, or the row ends with what ended the look into the right.
 use mathlib.Core.Path.{sym, _∙_}
 use Rattle.rule_rows.specs.Operators.{product}
 use Rattle.row_operands.proofs.TwoOperands.{right-unseen}

@@ -1,4 +1,4 @@
--- `times`: each arm knows its case. Assumes nothing.
+-- `times`: each arm knows its case.
 use Rattle.row_multiply.proofs.reads.times.Statement.{statement}
 use Rattle.row_multiply.proofs.reads.times.Tie as tie
 

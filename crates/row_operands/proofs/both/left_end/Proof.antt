@@ -1,4 +1,4 @@
--- `left_end`: by the answer. Assumes nothing.
+-- `left_end`: by the answer.
 use mathlib.Core.Path.{sym, ap, _∙_}
 use Rattle.rule_rows.specs.Answered.{toResult}
 use Rattle.rule_rows.specs.OverBuffer.{answerIn}

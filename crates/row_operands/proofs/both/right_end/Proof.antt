@@ -1,4 +1,4 @@
--- `right_end`: by the answer. Assumes nothing.
+-- `right_end`: by the answer.
 use mathlib.Core.Path.{sym, ap, _∙_}
 use Rattle.rule_rows.specs.Answered.{toResult}
 use Rattle.row_operands.specs.Past.{rightEnd}

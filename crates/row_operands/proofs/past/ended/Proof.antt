@@ -1,4 +1,4 @@
--- `ended`: the answer, as a result. Assumes nothing.
+-- `ended`: the answer, as a result.
 use mathlib.Core.Path.{_≡_, refl, ap, _∙_}
 use Rattle.answers.specs.declared.Unresolved.{Unresolved}
 use Rattle.answers.specs.declared.Unresolved.the-variants as Un
@@ -13,4 +13,5 @@ as-result (Un.Refused e) = refl
 as-result (Un.Newer r) = refl
 
 pub ended-spec : {M : Type 1} → statement M
-ended-spec = tie.close (tie.spec (λ c κs. tt) (λ c. ap toResult (c .answer .ensures) ∙ as-result (c .before .args .end)))
+ended-spec = tie.close
+    (tie.spec (λ c κs. tt) (λ c. ap toResult (c .answer .ensures) ∙ as-result (c .before .args .end)))

@@ -1,4 +1,4 @@
--- `look_by`: each arm knows the family, and what its calls ensure. Assumes nothing.
+-- `look_by`: each arm knows the family, and what its calls ensure.
 use Prim.Native.Nat.{ℕ}
 use mathlib.Core.Path.{_≡_, refl, sym, ap, _∙_}
 use mathlib.Core.List.{List}
@@ -19,7 +19,8 @@ use Rattle.row_operands.specs.Past.{seenBy, lookedBy}
 use Rattle.row_operands.proofs.past.look_by.Statement.{statement}
 use Rattle.row_operands.proofs.past.look_by.Tie as tie
 
-value-by : (fr : List ℕ) (s : Starts) (here : RowNumber) (form : TypeForm) → seenBy s here form ≡ lookedBy fr s here (valueOf form)
+value-by : (fr : List ℕ) (s : Starts) (here : RowNumber) (form : TypeForm) → seenBy s here form
+    ≡ lookedBy fr s here (valueOf form)
 value-by fr s here (Tf.Known t) = refl
 value-by fr s here Tf.Unknown = refl
 
@@ -34,7 +35,12 @@ nine f q = rw q
 returns : tie.Need-returns
 unfolding answerOf
 returns c =
-    rw (c .look-at .ensures, c .before .type-at .ensures, c .before .before .named .ensures, c .before .before .before .match .keys1)
+    rw (
+      c .look-at .ensures,
+      c .before .type-at .ensures,
+      c .before .before .named .ensures,
+      c .before .before .before .match .keys1,
+    )
 
 returns-2 : tie.Need-returns-2
 unfolding answerOf

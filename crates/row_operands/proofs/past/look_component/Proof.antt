@@ -1,4 +1,4 @@
--- `look_component`: a look goes by three of the places where families begin. Assumes nothing.
+-- `look_component`: a look goes by three of the places where families begin.
 use mathlib.Core.Path.{_∙_}
 use Rattle.row_operands.proofs.ByFrame.{few-look}
 use Rattle.row_operands.proofs.past.look_component.Statement.{statement}

@@ -1,4 +1,4 @@
--- `look_in`: by the frame of the operand's answer, where the table has a place for it. Assumes nothing.
+-- `look_in`: by the frame of the operand's answer, where the table has a place for it.
 use native.Mathlib.Omega.{arith}
 use borrow.Author.Needs.{needs}
 use borrow.Author.Tests.{lt-ltb, le-ltb}

@@ -1,4 +1,4 @@
--- `look_into`: a look goes by three of the places where families begin. Assumes nothing.
+-- `look_into`: a look goes by three of the places where families begin.
 use mathlib.Core.Path.{_∙_}
 use Rattle.row_operands.proofs.ByFrame.{few-look}
 use Rattle.row_operands.proofs.past.look_into.Statement.{statement}

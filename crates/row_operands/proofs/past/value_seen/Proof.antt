@@ -1,4 +1,4 @@
--- `value_seen`: each arm knows its case, and what its calls ensure. Assumes nothing.
+-- `value_seen`: each arm knows its case, and what its calls ensure.
 use Rattle.row_operands.proofs.past.value_seen.Statement.{statement}
 use Rattle.row_operands.proofs.past.value_seen.Tie as tie
 

@@ -1,4 +1,4 @@
--- `plain_form`: each arm knows the kind. Assumes nothing.
+-- `plain_form`: each arm knows the kind.
 use borrow.Author.Tests.{ne-eqb}
 use Rattle.frames.specs.Forms.{typeOf}
 use Rattle.row_operands.specs.Plain.{plainOf}

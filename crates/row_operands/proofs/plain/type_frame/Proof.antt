@@ -1,4 +1,4 @@
--- `type_frame`: the frame of that number, where the test says that there is one. Assumes nothing.
+-- `type_frame`: the frame of that number, where the test says that there is one.
 use borrow.Author.Needs.{needs}
 use Rattle.row_operands.proofs.plain.type_frame.Statement.{statement}
 use Rattle.row_operands.proofs.plain.type_frame.Tie as tie

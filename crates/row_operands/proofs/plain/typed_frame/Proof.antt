@@ -1,4 +1,4 @@
--- `typed_frame`: by the family. Assumes nothing.
+-- `typed_frame`: by the family.
 use borrow.Author.Tests.{eq-eqb, ne-eqb}
 use Rattle.row_operands.proofs.plain.typed_frame.Statement.{statement}
 use Rattle.row_operands.proofs.plain.typed_frame.Tie as tie
@@ -17,5 +17,14 @@ typed-frame-spec =
       c .type-frame .ensures,
       c .before .named .ensures,
     ))
-    (λ c. rw (c .before .before .before .struct-known .given .1, ne-eqb _ _ (c .before .before .if1 .left), eq-eqb _ _ (c .if2 .taken)))
-    (λ c. rw (c .before .before .before .before .struct-known .given .1, ne-eqb _ _ (c .before .before .before .if1 .left), ne-eqb _ _ (c .before .if2 .left), c .no-frame .ensures)))
+    (λ c. rw (
+      c .before .before .before .struct-known .given .1,
+      ne-eqb _ _ (c .before .before .if1 .left),
+      eq-eqb _ _ (c .if2 .taken),
+    ))
+    (λ c. rw (
+      c .before .before .before .before .struct-known .given .1,
+      ne-eqb _ _ (c .before .before .before .if1 .left),
+      ne-eqb _ _ (c .before .if2 .left),
+      c .no-frame .ensures,
+    )))

@@ -1,4 +1,4 @@
--- `bools_of`: each arm knows its case, and what its calls ensure; the other kinds case by case. Assumes nothing.
+-- `bools_of`: each arm knows its case, and what its calls ensure; the other kinds case by case.
 use mathlib.Core.Path.{_≡_, _∙_}
 use mathlib.Core.Bool.{false}
 use borrow.Author.Needs.{needs}

@@ -1,4 +1,4 @@
--- `cast_of`: each arm knows its case, and what its calls ensure; the other kinds case by case. Assumes nothing.
+-- `cast_of`: each arm knows its case, and what its calls ensure; the other kinds case by case.
 use mathlib.Core.Path.{_≡_, _∙_}
 use mathlib.Core.Bool.{false}
 use borrow.Author.Needs.{needs}
@@ -14,7 +14,8 @@ use Rattle.row_operators.proofs.by_form.cast_of.Tie as tie
 
 -- the other kinds
 rest : (kind : ScalarKind) (convert : OptionBytes)
-    → Others (kindsBut (0 ∷ 1 ∷ 2 ∷ [])) (λ t. told (castOf kind convert (Ti.RayQuery false)) ≡ told (castOf kind convert t))
+    → Others (kindsBut (0 ∷ 1 ∷ 2 ∷ []))
+    (λ t. told (castOf kind convert (Ti.RayQuery false)) ≡ told (castOf kind convert t))
 rest kind convert = of-each (search needs)
 
 pub cast-of-spec : {M : Type 1} → statement M
@@ -36,4 +37,5 @@ cast-of-spec =
     (λ c. rw (c .before .before .before .t3 .given .1, c .matrix-type .ensures, c .before .width-or3 .ensures))
     (λ c.
     c .incompatible-operands .ensures
-    ∙ rest (c .before .before .args .kind) (c .before .before .args .convert) .at (c .before .before .args .t) (c .before .match .keys4)))
+    ∙ rest (c .before .before .args .kind) (c .before .before .args .convert) .at (c .before .before .args .t)
+    (c .before .match .keys4)))

@@ -1,4 +1,4 @@
--- `logical_of`: each arm knows its case, and what its calls ensure; the other kinds case by case. Assumes nothing.
+-- `logical_of`: each arm knows its case, and what its calls ensure; the other kinds case by case.
 use mathlib.Core.Path.{_≡_, _∙_}
 use mathlib.Core.Bool.{false}
 use borrow.Author.Needs.{needs}
@@ -24,8 +24,12 @@ logical-of-spec =
     (λ c κs. tt)
     (λ c κs. tt)
     (λ c.
-    rw
-    (c .before .before .before .before .t .given .1, c .scalar-type .ensures, ← c .before .before .equals .ensures, c .before .if1 .taken))
+    rw (
+      c .before .before .before .before .t .given .1,
+      c .scalar-type .ensures,
+      ← c .before .before .equals .ensures,
+      c .before .if1 .taken,
+    ))
     (λ c.
     rw (
       c .before .before .before .before .t .given .1,

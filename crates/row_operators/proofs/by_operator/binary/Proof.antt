@@ -1,4 +1,4 @@
--- `binary`: each operator has its rule; an arm of several operators operator by operator. Assumes nothing.
+-- `binary`: each operator has its rule; an arm of several operators operator by operator.
 use mathlib.Core.Path.{refl, sym, ap, _∙_}
 use mathlib.Core.List.{[], _∷_}
 use Rattle.rule_rows.specs.Operators.{binary}
@@ -22,7 +22,8 @@ binary-spec =
     let g = c .before .before .before .before .before .args in
     ap toResult (c .past .ensures) ∙ sym (same-run (g .frames .now) (g .s) (g .answers .now) (g .places .now) (g .left))
     ∙ ap (ruled (g .frames .now) (g .s) (g .answers .now) (g .places .now))
-    (of-binary-operators (λ o. binary (g .here) o (g .left) (g .right)) (0 ∷ 1 ∷ 3 ∷ 4 ∷ 11 ∷ 12 ∷ 13 ∷ 16 ∷ 17 ∷ []) refl (g .op)
+    (of-binary-operators (λ o. binary (g .here) o (g .left) (g .right))
+    (0 ∷ 1 ∷ 3 ∷ 4 ∷ 11 ∷ 12 ∷ 13 ∷ 16 ∷ 17 ∷ []) refl (g .op)
     (c .before .match .keys1)))
     (λ c. rw (c .before .enum-told .given .1, c .multiply .ensures))
     (λ c.
@@ -35,4 +36,5 @@ binary-spec =
     let g = c .before .before .before .before .before .args in
     c .logical .ensures
     ∙ ap (ruled (g .frames .now) (g .s) (g .answers .now) (g .places .now))
-    (of-binary-operators (λ o. binary (g .here) o (g .left) (g .right)) (14 ∷ 15 ∷ []) refl (g .op) (c .before .match .keys4))))
+    (of-binary-operators (λ o. binary (g .here) o (g .left) (g .right)) (14 ∷ 15 ∷ []) refl (g .op)
+    (c .before .match .keys4))))

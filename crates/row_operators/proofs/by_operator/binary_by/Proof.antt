@@ -1,4 +1,4 @@
--- `binary_by`: each pass has its rule. Assumes nothing.
+-- `binary_by`: each pass has its rule.
 use Rattle.row_operators.proofs.by_operator.binary_by.Statement.{statement}
 use Rattle.row_operators.proofs.by_operator.binary_by.Tie as tie
 

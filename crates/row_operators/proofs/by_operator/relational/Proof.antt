@@ -1,4 +1,4 @@
--- `relational`: an arm of two functions function by function. Assumes nothing.
+-- `relational`: an arm of two functions function by function.
 use mathlib.Core.Path.{refl, sym, ap, _∙_}
 use mathlib.Core.List.{[], _∷_}
 use Rattle.ir.proofs.Keys.{of-relational-functions}
@@ -18,9 +18,11 @@ relational-spec =
     let g = c .before .before .before .before .before .args in
     c .scalar-type .ensures ∙ sym (done-run (g .frames .now) (g .s) (g .answers .now) (g .places .now) _)
     ∙ ap (ruled (g .frames .now) (g .s) (g .answers .now) (g .places .now))
-    (of-relational-functions (λ f. relational (g .here) f (g .argument)) (0 ∷ 1 ∷ []) refl (g .fun) (c .before .match .keys1)))
+    (of-relational-functions (λ f. relational (g .here) f (g .argument)) (0 ∷ 1 ∷ []) refl (g .fun)
+    (c .before .match .keys1)))
     (λ c.
     let g = c .before .before .before .before .before .args in
     c .bools .ensures
     ∙ ap (ruled (g .frames .now) (g .s) (g .answers .now) (g .places .now))
-    (of-relational-functions (λ f. relational (g .here) f (g .argument)) (2 ∷ 3 ∷ []) refl (g .fun) (c .before .match .keys2))))
+    (of-relational-functions (λ f. relational (g .here) f (g .argument)) (2 ∷ 3 ∷ []) refl (g .fun)
+    (c .before .match .keys2))))

@@ -1,4 +1,4 @@
--- `bools`: its operand is seen, or the row ends with what ended the look. Assumes nothing.
+-- `bools`: its operand is seen, or the row ends with what ended the look.
 use mathlib.Core.Path.{sym, _∙_}
 use Rattle.rule_rows.specs.Operators.{boolsOf}
 use Rattle.row_operands.proofs.Steps.{type-seen, type-ended}

@@ -1,4 +1,4 @@
--- `logical`: its operand is seen, or the row ends with what ended the look. Assumes nothing.
+-- `logical`: its operand is seen, or the row ends with what ended the look.
 use mathlib.Core.Path.{sym, _∙_}
 use Rattle.rule_rows.specs.Operators.{logicalOf}
 use Rattle.row_operands.proofs.Steps.{type-seen, type-ended}

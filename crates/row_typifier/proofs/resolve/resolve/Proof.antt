@@ -1,4 +1,4 @@
--- `resolve`: each arm is what its row's function ensures. Assumes nothing.
+-- `resolve`: each arm is what its row's function ensures.
 use Prim.Native.Nat.{ℕ}
 use mathlib.Core.Path.{_≡_, refl, sym, ap, _∙_}
 use mathlib.Core.List.{List}
@@ -19,12 +19,14 @@ use Rattle.row_typifier.proofs.resolve.resolve.Statement.{statement}
 use Rattle.row_typifier.proofs.resolve.resolve.Tie as tie
 
 -- an arm: the expression is d, and of d the answer is x
-arm : (pass : Pass) (fr : List ℕ) (s : Starts) (an pl : List ℕ) (here : RowNumber) {x : Result Typed} {e d : Expression} → e ≡ d
+arm : (pass : Pass) (fr : List ℕ) (s : Starts) (an pl : List ℕ) (here : RowNumber) {x : Result Typed} {e d : Expression}
+    → e ≡ d
     → x ≡ ruledShown pass fr s an pl here (shown fr s d) → x ≡ ruledShown pass fr s an pl here (shown fr s e)
 arm pass fr s an pl here h q = q ∙ sym (ap (λ (e : Expression). ruledShown pass fr s an pl here (shown fr s e)) h)
 
 -- a rule that reads nothing
-ends : (fr : List ℕ) (s : Starts) (an pl : List ℕ) {x : Result Typed} {t : Typed} → x ≡ told t → x ≡ ruled fr s an pl (done t)
+ends : (fr : List ℕ) (s : Starts) (an pl : List ℕ) {x : Result Typed} {t : Typed} → x ≡ told t → x
+    ≡ ruled fr s an pl (done t)
 ends fr s an pl q = q ∙ sym (done-run fr s an pl _)
 
 -- a rule that gives its operand's answer

@@ -1,4 +1,4 @@
--- `type_row`: the row is of a known kind, or newer. Assumes nothing.
+-- `type_row`: the row is of a known kind, or newer.
 use mathlib.Core.Path.{sym, ap, _∙_}
 use Rattle.ir.specs.declared.RowForm.{RowForm}
 use Rattle.rule.specs.Things.{seeRow}
@@ -22,7 +22,8 @@ type-row-spec =
     (row-run (g .frames .now) (g .s) (g .answers .now) (g .places .now) (g .pass) (g .row)
     ∙ ap
     (λ (o : RowForm).
-    ruledShown (g .pass) (g .frames .now) (g .s) (g .answers .now) (g .places .now) (g .row) (seeRow (g .frames .now) (g .s) o))
+    ruledShown (g .pass) (g .frames .now) (g .s) (g .answers .now) (g .places .now) (g .row)
+    (seeRow (g .frames .now) (g .s) o))
     (sym (c .before .before .before .before .row-at .ensures) ∙ c .before .before .e .given .1)))
     (λ c.
     let g = c .before .before .before .before .before .before .args in
@@ -30,5 +31,6 @@ type-row-spec =
     (row-run (g .frames .now) (g .s) (g .answers .now) (g .places .now) (g .pass) (g .row)
     ∙ ap
     (λ (o : RowForm).
-    ruledShown (g .pass) (g .frames .now) (g .s) (g .answers .now) (g .places .now) (g .row) (seeRow (g .frames .now) (g .s) o))
+    ruledShown (g .pass) (g .frames .now) (g .s) (g .answers .now) (g .places .now) (g .row)
+    (seeRow (g .frames .now) (g .s) o))
     (sym (c .before .before .row-at .ensures) ∙ c .enum-told .given .1))))

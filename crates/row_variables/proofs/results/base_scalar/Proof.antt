@@ -1,4 +1,4 @@
--- `base_scalar`: each arm knows its case, and what its calls ensure. Assumes nothing.
+-- `base_scalar`: each arm knows its case, and what its calls ensure.
 use Rattle.row_variables.proofs.results.base_scalar.Statement.{statement}
 use Rattle.row_variables.proofs.results.base_scalar.Tie as tie
 

@@ -1,4 +1,4 @@
--- `call_result`: each arm knows its case, and what its calls ensure. Assumes nothing.
+-- `call_result`: each arm knows its case, and what its calls ensure.
 use Rattle.row_variables.proofs.results.call_result.Statement.{statement}
 use Rattle.row_variables.proofs.results.call_result.Tie as tie
 

@@ -1,4 +1,4 @@
--- `cooperative_of`: each arm knows its case, and what its calls ensure. Assumes nothing.
+-- `cooperative_of`: each arm knows its case, and what its calls ensure.
 use Rattle.row_variables.proofs.results.cooperative_of.Statement.{statement}
 use Rattle.row_variables.proofs.results.cooperative_of.Tie as tie
 

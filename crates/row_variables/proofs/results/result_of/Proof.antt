@@ -1,4 +1,4 @@
--- `result_of`: each arm knows its case, and what its calls ensure. Assumes nothing.
+-- `result_of`: each arm knows its case, and what its calls ensure.
 use Rattle.row_variables.proofs.results.result_of.Statement.{statement}
 use Rattle.row_variables.proofs.results.result_of.Tie as tie
 

@@ -1,4 +1,4 @@
--- `special`: each arm knows its case, and what its calls ensure. Assumes nothing.
+-- `special`: each arm knows its case, and what its calls ensure.
 use Rattle.row_variables.proofs.results.special.Statement.{statement}
 use Rattle.row_variables.proofs.results.special.Tie as tie
 

@@ -1,4 +1,4 @@
--- `value_scalar`: each arm knows its case, and what its calls ensure. Assumes nothing.
+-- `value_scalar`: each arm knows its case, and what its calls ensure.
 use Rattle.row_variables.proofs.results.value_scalar.Statement.{statement}
 use Rattle.row_variables.proofs.results.value_scalar.Tie as tie
 

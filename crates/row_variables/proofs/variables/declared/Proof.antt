@@ -1,4 +1,4 @@
--- `declared`: each arm knows its case, and what its calls ensure. Assumes nothing.
+-- `declared`: each arm knows its case, and what its calls ensure.
 use Rattle.row_variables.proofs.variables.declared.Statement.{statement}
 use Rattle.row_variables.proofs.variables.declared.Tie as tie
 

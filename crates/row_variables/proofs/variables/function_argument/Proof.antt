@@ -1,4 +1,4 @@
--- `function_argument`: each arm knows its case, and what its calls ensure. Assumes nothing.
+-- `function_argument`: each arm knows its case, and what its calls ensure.
 use Rattle.row_variables.proofs.variables.function_argument.Statement.{statement}
 use Rattle.row_variables.proofs.variables.function_argument.Tie as tie
 

@@ -1,4 +1,4 @@
--- `global_variable`: each arm knows its case, and what its calls ensure. Assumes nothing.
+-- `global_variable`: each arm knows its case, and what its calls ensure.
 use Rattle.row_variables.proofs.variables.global_variable.Statement.{statement}
 use Rattle.row_variables.proofs.variables.global_variable.Tie as tie
 

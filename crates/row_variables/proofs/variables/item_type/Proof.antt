@@ -1,4 +1,4 @@
--- `item_type`: each arm knows its case, and what its calls ensure. Assumes nothing.
+-- `item_type`: each arm knows its case, and what its calls ensure.
 use Rattle.row_variables.proofs.variables.item_type.Statement.{statement}
 use Rattle.row_variables.proofs.variables.item_type.Tie as tie
 

@@ -1,4 +1,4 @@
--- `literal`: each arm knows its case, and what its calls ensure. Assumes nothing.
+-- `literal`: each arm knows its case, and what its calls ensure.
 use Rattle.row_variables.proofs.variables.literal.Statement.{statement}
 use Rattle.row_variables.proofs.variables.literal.Tie as tie
 

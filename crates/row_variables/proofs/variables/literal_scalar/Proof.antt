@@ -1,4 +1,4 @@
--- `literal_scalar`: each arm knows its case, and what its calls ensure. Assumes nothing.
+-- `literal_scalar`: each arm knows its case, and what its calls ensure.
 use Rattle.row_variables.proofs.variables.literal_scalar.Statement.{statement}
 use Rattle.row_variables.proofs.variables.literal_scalar.Tie as tie
 

@@ -1,4 +1,4 @@
--- `load_into`: by what the type points at. Assumes nothing.
+-- `load_into`: by what the type points at.
 use mathlib.Core.Path.{sym, ap, _∙_}
 use Rattle.ir.specs.declared.OptionTypeResolution.{OptionTypeResolution}
 use Rattle.rule.specs.Answers.{told}

@@ -1,4 +1,4 @@
--- `load_through`: each arm knows its case, and what its calls ensure; the other kinds case by case. Assumes nothing.
+-- `load_through`: each arm knows its case, and what its calls ensure; the other kinds case by case.
 use mathlib.Core.Path.{_≡_, _∙_}
 use mathlib.Core.Bool.{false}
 use borrow.Author.Needs.{needs}
@@ -12,7 +12,8 @@ use Rattle.row_variables.proofs.variables.load_through.Statement.{state
 use Rattle.row_variables.proofs.variables.load_through.Tie as tie
 
 -- the other kinds
-rest : (a : TypeNumber) → Others (kindsBut (4 ∷ [])) (λ t. told (loadThrough a (Ti.RayQuery false)) ≡ told (loadThrough a t))
+rest : (a : TypeNumber)
+    → Others (kindsBut (4 ∷ [])) (λ t. told (loadThrough a (Ti.RayQuery false)) ≡ told (loadThrough a t))
 rest a = of-each (search needs)
 
 pub load-through-spec : {M : Type 1} → statement M
@@ -23,4 +24,5 @@ load-through-spec =
     (λ c κs. tt)
     (λ c κs. tt)
     (λ c. rw (c .before .before .t .given .1, c .scalar-type .ensures))
-    (λ c. c .numbered .ensures ∙ rest (c .before .before .args .base) .at (c .before .before .args .t) (c .before .match .keys2)))
+    (λ c. c .numbered .ensures
+    ∙ rest (c .before .before .args .base) .at (c .before .before .args .t) (c .before .match .keys2)))

@@ -1,4 +1,4 @@
--- `local_variable`: each arm knows its case, and what its calls ensure. Assumes nothing.
+-- `local_variable`: each arm knows its case, and what its calls ensure.
 use Rattle.row_variables.proofs.variables.local_variable.Statement.{statement}
 use Rattle.row_variables.proofs.variables.local_variable.Tie as tie
 

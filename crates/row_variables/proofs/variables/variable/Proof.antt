@@ -1,4 +1,4 @@
--- `variable`: each arm knows its case, and what its calls ensure. Assumes nothing.
+-- `variable`: each arm knows its case, and what its calls ensure.
 use Rattle.row_variables.proofs.variables.variable.Statement.{statement}
 use Rattle.row_variables.proofs.variables.variable.Tie as tie
 

@@ -1,4 +1,4 @@
--- `matrices_result`: an arm of several operators operator by operator. Assumes nothing.
+-- `matrices_result`: an arm of several operators operator by operator.
 use mathlib.Core.Path.{refl, _∙_}
 use mathlib.Core.List.{[], _∷_}
 use Rattle.rule.specs.Answers.{told}
@@ -19,11 +19,13 @@ matrices-result-spec =
     (λ c.
     let g = c .before .before .args in
     c .matrices-sum .ensures
-    ∙ of-binary-operators (λ o. told (orMismatch (matricesResult o (g .c) (g .r) (g .s) (g .d) (g .q) (g .t)))) (0 ∷ 1 ∷ [])
+    ∙ of-binary-operators (λ o. told (orMismatch (matricesResult o (g .c) (g .r) (g .s) (g .d) (g .q) (g .t))))
+    (0 ∷ 1 ∷ [])
     refl (g .op) (c .before .match .keys1))
     (λ c. rw (c .before .enum-told .given .1, c .matrices-times .ensures))
     (λ c.
     let g = c .before .before .args in
     c .mismatch .ensures
-    ∙ of-binary-operators (λ o. told (orMismatch (matricesResult o (g .c) (g .r) (g .s) (g .d) (g .q) (g .t)))) (3 ∷ 4 ∷ 5 ∷ 6 ∷ 7 ∷ 8 ∷ 9 ∷ 10 ∷ 11 ∷ 12 ∷ 13 ∷ 14 ∷ 15 ∷ 16 ∷ 17 ∷ [])
+    ∙ of-binary-operators (λ o. told (orMismatch (matricesResult o (g .c) (g .r) (g .s) (g .d) (g .q) (g .t))))
+    (3 ∷ 4 ∷ 5 ∷ 6 ∷ 7 ∷ 8 ∷ 9 ∷ 10 ∷ 11 ∷ 12 ∷ 13 ∷ 14 ∷ 15 ∷ 16 ∷ 17 ∷ [])
     refl (g .op) (c .before .match .keys3)))

@@ -1,4 +1,4 @@
--- `matrices_sum`: what its tests ensure. Assumes nothing.
+-- `matrices_sum`: what its tests ensure.
 use Rattle.row_wgsl.proofs.by_operator.matrices_sum.Statement.{statement}
 use Rattle.row_wgsl.proofs.by_operator.matrices_sum.Tie as tie
 

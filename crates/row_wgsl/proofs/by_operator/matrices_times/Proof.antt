@@ -1,4 +1,4 @@
--- `matrices_times`: what its tests ensure. Assumes nothing.
+-- `matrices_times`: what its tests ensure.
 use Rattle.row_wgsl.proofs.by_operator.matrices_times.Statement.{statement}
 use Rattle.row_wgsl.proofs.by_operator.matrices_times.Tie as tie
 

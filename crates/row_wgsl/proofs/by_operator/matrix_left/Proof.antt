@@ -1,4 +1,4 @@
--- `matrix_left`: each arm knows its case. Assumes nothing.
+-- `matrix_left`: each arm knows its case.
 use Rattle.row_wgsl.proofs.by_operator.matrix_left.Statement.{statement}
 use Rattle.row_wgsl.proofs.by_operator.matrix_left.Tie as tie
 

@@ -1,4 +1,4 @@
--- `matrix_times`: by the size, and what its tests ensure. Assumes nothing.
+-- `matrix_times`: by the size, and what its tests ensure.
 use Rattle.row_wgsl.proofs.by_operator.matrix_times.Statement.{statement}
 use Rattle.row_wgsl.proofs.by_operator.matrix_times.Tie as tie
 

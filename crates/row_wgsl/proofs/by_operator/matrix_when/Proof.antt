@@ -1,4 +1,4 @@
--- `matrix_when`: by the test. Assumes nothing.
+-- `matrix_when`: by the test.
 use Rattle.row_wgsl.proofs.by_operator.matrix_when.Statement.{statement}
 use Rattle.row_wgsl.proofs.by_operator.matrix_when.Tie as tie
 

@@ -1,4 +1,4 @@
--- `plain_left`: each arm knows its case. Assumes nothing.
+-- `plain_left`: each arm knows its case.
 use Rattle.row_wgsl.proofs.by_operator.plain_left.Statement.{statement}
 use Rattle.row_wgsl.proofs.by_operator.plain_left.Tie as tie
 

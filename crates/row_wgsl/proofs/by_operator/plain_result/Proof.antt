@@ -1,4 +1,4 @@
--- `plain_result`: the three parts make the result. Assumes nothing.
+-- `plain_result`: the three parts make the result.
 use mathlib.Core.Path.{ap, _∙_}
 use Rattle.rule.specs.Answers.{told}
 use Rattle.rule_rows.specs.Operators.{orMismatch}

@@ -1,4 +1,4 @@
--- `plain_scalar`: an arm of several operators operator by operator. Assumes nothing.
+-- `plain_scalar`: an arm of several operators operator by operator.
 use mathlib.Core.Path.{refl}
 use mathlib.Core.List.{[], _∷_}
 use Rattle.row_operands.proofs.Operators.{of-binary-operators}
@@ -15,4 +15,5 @@ plain-scalar-spec =
     of-binary-operators (λ o. scalarOf o (g .s)) (5 ∷ 6 ∷ 7 ∷ 8 ∷ 9 ∷ 10 ∷ 14 ∷ 15 ∷ []) refl (g .op) (c .match .keys1))
     (λ c.
     let g = c .before .args in
-    of-binary-operators (λ o. scalarOf o (g .s)) (0 ∷ 1 ∷ 2 ∷ 3 ∷ 4 ∷ 11 ∷ 12 ∷ 13 ∷ 16 ∷ 17 ∷ []) refl (g .op) (c .match .keys2)))
+    of-binary-operators (λ o. scalarOf o (g .s)) (0 ∷ 1 ∷ 2 ∷ 3 ∷ 4 ∷ 11 ∷ 12 ∷ 13 ∷ 16 ∷ 17 ∷ []) refl (g .op)
+    (c .match .keys2)))

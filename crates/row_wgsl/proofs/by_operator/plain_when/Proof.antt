@@ -1,4 +1,4 @@
--- `plain_when`: by the test, then by the size. Assumes nothing.
+-- `plain_when`: by the test, then by the size.
 use Rattle.row_wgsl.proofs.by_operator.plain_when.Statement.{statement}
 use Rattle.row_wgsl.proofs.by_operator.plain_when.Tie as tie
 
@@ -12,5 +12,9 @@ plain-when-spec =
     (λ c κs. tt)
     (λ c κs. tt)
     (λ c. rw (c .before .enum-told .given .1, c .before .before .before .if1 .taken, c .scalar-type .ensures))
-    (λ c. rw (c .before .before .size .given .1, c .before .before .before .before .if1 .taken, c .vector-type .ensures))
+    (λ c. rw (
+      c .before .before .size .given .1,
+      c .before .before .before .before .if1 .taken,
+      c .vector-type .ensures,
+    ))
     (λ c. rw (c .before .if1 .left, c .mismatch .ensures)))

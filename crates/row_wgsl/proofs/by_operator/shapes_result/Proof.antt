@@ -1,4 +1,4 @@
--- `shapes_result`: each arm knows its case. Assumes nothing.
+-- `shapes_result`: each arm knows its case.
 use Rattle.row_wgsl.proofs.by_operator.shapes_result.Statement.{statement}
 use Rattle.row_wgsl.proofs.by_operator.shapes_result.Tie as tie
 

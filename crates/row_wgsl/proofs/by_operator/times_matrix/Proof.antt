@@ -1,4 +1,4 @@
--- `times_matrix`: by the size, and what its tests ensure. Assumes nothing.
+-- `times_matrix`: by the size, and what its tests ensure.
 use Rattle.row_wgsl.proofs.by_operator.times_matrix.Statement.{statement}
 use Rattle.row_wgsl.proofs.by_operator.times_matrix.Tie as tie
 

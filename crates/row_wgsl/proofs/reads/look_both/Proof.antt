@@ -1,4 +1,4 @@
--- `look_both`: the left is seen, or shows no form. Assumes nothing.
+-- `look_both`: the left is seen, or shows no form.
 use mathlib.Core.Path.{sym, _∙_}
 use Rattle.rule_rows.specs.Operators.{wgslOf}
 use Rattle.row_operands.proofs.TwoOperands.{left-unseen}
@@ -11,12 +11,17 @@ look-both-spec =
     (tie.spec
     (λ c κs. tt)
     (λ c. c .match .keys1)
-    (λ c κs. (sym (c .before .before .before .look-into .ensures) ∙ c .before .x .given .1, c .before .before .before .before .before .before .before .pre))
+    (λ c κs. (
+      sym (c .before .before .before .look-into .ensures)
+          ∙ c .before .x .given .1,
+      c .before .before .before .before .before .before .before .pre,
+    ))
     (λ c. c .match .keys2)
     (λ c κs. tt)
     (λ c. c .look-right .ensures)
     (λ c.
     let g = c .before .before .before .before .before .before .before .args in
     c .left-end .ensures
-    ∙ left-unseen (wgslOf (g .op)) (g .frames .now) (g .s) (g .here) (g .answers .now) (g .places .now) (g .left) (g .right)
+    ∙ left-unseen (wgslOf (g .op)) (g .frames .now) (g .s) (g .here) (g .answers .now) (g .places .now) (g .left)
+    (g .right)
     (sym (c .before .before .before .look-into .ensures) ∙ c .before .enum-told .given .1)))

@@ -1,5 +1,4 @@
 -- `look_right`: both are seen, and no line has their types; or the row ends with what ended the look into the right.
--- Assumes nothing.
 use mathlib.Core.Path.{sym, ap, _∙_}
 use Rattle.rule.specs.Answers.{told}
 use Rattle.rule_rows.specs.Operators.{orMismatch, wgslOf}
@@ -21,10 +20,13 @@ look-right-spec =
     let p = c .before .before .before .before .before .before .before .pre in
     let q = sym (c .before .before .before .look-into .ensures) ∙ c .before .enum-told .given .1 in
     c .mismatch .ensures
-    ∙ both-seen (wgslOf (g .op)) (g .frames .now) (g .s) (g .here) (g .answers .now) (g .places .now) (g .left) (g .right) (p .0) q _
+    ∙ both-seen (wgslOf (g .op)) (g .frames .now) (g .s) (g .here) (g .answers .now) (g .places .now) (g .left)
+    (g .right) (p .0) q _
     (λ a b u v. sym (ap (λ t. told (orMismatch t)) (p .1 _ _ (p .0) q))))
     (λ c.
     let g = c .before .before .before .before .before .before .before .before .args in
     c .ended .ensures
-    ∙ right-unseen (wgslOf (g .op)) (g .frames .now) (g .s) (g .here) (g .answers .now) (g .places .now) (g .left) (g .right)
-    (c .before .before .before .before .before .before .before .before .pre .0) (sym (c .before .before .before .before .look-into .ensures) ∙ c .before .before .end .given .1)))
+    ∙ right-unseen (wgslOf (g .op)) (g .frames .now) (g .s) (g .here) (g .answers .now) (g .places .now) (g .left)
+    (g .right)
+    (c .before .before .before .before .before .before .before .before .pre .0)
+    (sym (c .before .before .before .before .look-into .ensures) ∙ c .before .before .end .given .1)))

@@ -1,5 +1,5 @@
 -- `wgsl_binary`: the frames of both answers show forms; or one shows none, so no line has its type, and both are looked
--- into. Assumes nothing.
+-- into.
 use mathlib.Core.Path.{_∙_}
 use Rattle.rule_rows.specs.Operators.{wgslOf}
 use Rattle.rule_rows.specs.Wgsl.{shapeOf}
@@ -26,18 +26,41 @@ wgsl-binary-spec =
     (λ c κs. tt)
     (λ c. c .match2 .keys2)
     (λ c κs x y p q.
-    let g = c .before .before .before .before .before .before .before .before .before .before .before .before .before .before .args in
-    right-other (g .op) (shapeOf x) (shapeOf y) (unshown (g .frames .now) (g .s) (g .here) (g .answers .now) (g .places .now) (g .right) y (c .before .before .before .before .before .before .before .before .before .past-frame2 .ensures) (c .before .before .before .typed-frame2 .ensures) (c .before .before .plain-form2 .ensures) (c .enum-told .given .1) q))
+    let g = c .before .before .before .before .before .before .before .before .before .before .before .before .before
+    .before .args in
+    right-other (g .op) (shapeOf x) (shapeOf y)
+    (unshown (g .frames .now) (g .s) (g .here) (g .answers .now) (g .places .now) (g .right) y
+    (c .before .before .before .before .before .before .before .before .before .past-frame2 .ensures)
+    (c .before .before .before .typed-frame2 .ensures) (c .before .before .plain-form2 .ensures)
+    (c .enum-told .given .1) q))
     (λ c. c .match .keys2)
     (λ c κs x y p q.
     let g = c .before .before .before .before .before .before .before .before .before .args in
-    left-other (g .op) (shapeOf x) (shapeOf y) (unshown (g .frames .now) (g .s) (g .here) (g .answers .now) (g .places .now) (g .left) x (c .before .before .before .before .before .past-frame .ensures) (c .before .before .before .typed-frame .ensures) (c .before .before .plain-form .ensures) (c .enum-told2 .given .1) p))
+    left-other (g .op) (shapeOf x) (shapeOf y)
+    (unshown (g .frames .now) (g .s) (g .here) (g .answers .now) (g .places .now) (g .left) x
+    (c .before .before .before .before .before .past-frame .ensures)
+    (c .before .before .before .typed-frame .ensures) (c .before .before .plain-form .ensures)
+    (c .enum-told2 .given .1) p))
     (λ c.
-    let g = c .before .before .before .before .before .before .before .before .before .before .before .before .before .before .before .before .before .before .args in
+    let g = c .before .before .before .before .before .before .before .before .before .before .before .before .before
+    .before .before .before .before .before .args in
     c .shapes-result .ensures
-    ∙ both-seen (wgslOf (g .op)) (g .frames .now) (g .s) (g .here) (g .answers .now) (g .places .now) (g .left) (g .right)
-    (shown-seen (g .frames .now) (g .s) (g .here) (g .answers .now) (g .places .now) (g .left) (c .before .before .before .before .before .before .before .before .before .before .before .before .before .before .past-frame .ensures) (c .before .before .before .before .before .before .before .before .before .before .before .before .typed-frame .ensures) (c .before .before .before .before .before .before .before .before .before .before .before .plain-form .ensures) (c .before .before .before .before .before .before .before .before .before .x .given .1))
-    (shown-seen (g .frames .now) (g .s) (g .here) (g .answers .now) (g .places .now) (g .right) (c .before .before .before .before .before .before .before .before .before .before .before .before .before .past-frame2 .ensures) (c .before .before .before .before .before .before .before .typed-frame2 .ensures) (c .before .before .before .before .before .before .plain-form2 .ensures) (c .before .before .before .before .y .given .1)) _
+    ∙ both-seen (wgslOf (g .op)) (g .frames .now) (g .s) (g .here) (g .answers .now) (g .places .now) (g .left)
+    (g .right)
+    (shown-seen (g .frames .now) (g .s) (g .here) (g .answers .now) (g .places .now) (g .left)
+    (c .before .before .before .before .before .before .before .before .before .before .before .before .before
+    .before .past-frame .ensures)
+    (c .before .before .before .before .before .before .before .before .before .before .before .before
+    .typed-frame .ensures)
+    (c .before .before .before .before .before .before .before .before .before .before .before
+    .plain-form .ensures)
+    (c .before .before .before .before .before .before .before .before .before .x .given
+    .1))
+    (shown-seen (g .frames .now) (g .s) (g .here) (g .answers .now) (g .places .now) (g .right)
+    (c .before .before .before .before .before .before .before .before .before .before .before .before .before
+    .past-frame2 .ensures) (c .before .before .before .before .before .before .before .typed-frame2 .ensures)
+    (c .before .before .before .before .before .before .plain-form2 .ensures)
+    (c .before .before .before .before .y .given .1)) _
     (λ a b u v. rw (c .before .shape-of2 .ensures, c .before .before .shape-of .ensures)))
     (λ c. c .look-both .ensures)
     (λ c. c .look-both2 .ensures))

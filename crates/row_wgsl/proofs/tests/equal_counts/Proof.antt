@@ -1,4 +1,4 @@
--- `equal_counts`: each arm knows its case. Assumes nothing.
+-- `equal_counts`: each arm knows its case.
 use borrow.Author.Needs.{needs}
 use Rattle.row_wgsl.proofs.tests.equal_counts.Statement.{statement}
 use Rattle.row_wgsl.proofs.tests.equal_counts.Tie as tie
@@ -17,4 +17,8 @@ equal-counts-spec =
     (λ c. search needs)
     (λ c. search needs)
     (λ c. search needs)
-    (λ c. rw (c .before .before .before .before .before .n .given .1, c .before .before .m .given .1, c .equal-sizes .ensures)))
+    (λ c. rw (
+      c .before .before .before .before .before .n .given .1,
+      c .before .before .m .given .1,
+      c .equal-sizes .ensures,
+    )))

@@ -1,4 +1,4 @@
--- `equal_sizes`: what the two numbers are. Assumes nothing.
+-- `equal_sizes`: what the two numbers are.
 use Rattle.row_wgsl.proofs.tests.equal_sizes.Statement.{statement}
 use Rattle.row_wgsl.proofs.tests.equal_sizes.Tie as tie
 

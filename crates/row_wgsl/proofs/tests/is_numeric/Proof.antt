@@ -1,4 +1,4 @@
--- `is_numeric`: what its two tests ensure. Assumes nothing.
+-- `is_numeric`: what its two tests ensure.
 use Rattle.row_wgsl.proofs.tests.is_numeric.Statement.{statement}
 use Rattle.row_wgsl.proofs.tests.is_numeric.Tie as tie
 

@@ -1,4 +1,4 @@
--- `like_or_mixed`: each arm knows its case. Assumes nothing.
+-- `like_or_mixed`: each arm knows its case.
 use borrow.Author.Needs.{needs}
 use Rattle.row_wgsl.proofs.tests.like_or_mixed.Statement.{statement}
 use Rattle.row_wgsl.proofs.tests.like_or_mixed.Tie as tie
@@ -14,4 +14,8 @@ like-or-mixed-spec =
     (λ c κs. tt)
     (λ c. search needs)
     (λ c. search needs)
-    (λ c. rw (c .before .before .before .before .before .n .given .1, c .before .before .m .given .1, c .equal-sizes .ensures)))
+    (λ c. rw (
+      c .before .before .before .before .before .n .given .1,
+      c .before .before .m .given .1,
+      c .equal-sizes .ensures,
+    )))

@@ -1,4 +1,4 @@
--- `shape_of`: each arm knows its case; the other kinds case by case. Assumes nothing.
+-- `shape_of`: each arm knows its case; the other kinds case by case.
 use mathlib.Core.Path.{_≡_}
 use mathlib.Core.Bool.{false}
 use mathlib.Core.List.{[], _∷_}

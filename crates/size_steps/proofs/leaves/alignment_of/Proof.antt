@@ -1,4 +1,4 @@
--- `alignment_of`: by the number. Assumes nothing.
+-- `alignment_of`: by the number.
 use borrow.Author.Tests.{eq-eqb, ne-eqb}
 use Rattle.size_steps.proofs.leaves.alignment_of.Statement.{statement}
 use Rattle.size_steps.proofs.leaves.alignment_of.Tie as tie

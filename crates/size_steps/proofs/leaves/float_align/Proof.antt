@@ -1,4 +1,4 @@
--- `float_align`: the tests of the definition. Assumes nothing.
+-- `float_align`: the tests of the definition.
 use mathlib.Core.Path.{sym, _∙_}
 use borrow.Author.Needs.{needs}
 use Rattle.size_steps.proofs.leaves.float_align.Statement.{statement}

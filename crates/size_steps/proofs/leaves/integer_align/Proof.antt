@@ -1,4 +1,4 @@
--- `integer_align`: the tests of the definition. Assumes nothing.
+-- `integer_align`: the tests of the definition.
 use borrow.Author.Needs.{needs}
 use Rattle.size_steps.proofs.leaves.integer_align.Statement.{statement}
 use Rattle.size_steps.proofs.leaves.integer_align.Tie as tie

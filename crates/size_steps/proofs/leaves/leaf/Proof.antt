@@ -1,4 +1,4 @@
--- `leaf`: by its kind; every kind that has no arm is outside the list. Assumes nothing.
+-- `leaf`: by its kind; every kind that has no arm is outside the list.
 use mathlib.Core.Path.{_≡_, _∙_}
 use mathlib.Core.Bool.{false}
 use mathlib.Core.List.{[], _∷_}
@@ -34,4 +34,5 @@ leaf-spec =
     (λ c. rw (c .before .before .before .t2 .given .1, c .vector-measure .ensures, c .before .number-align2 .ensures))
     (λ c. rw (c .before .before .before .t3 .given .1, c .matrix-measure .ensures, c .before .float-align .ensures))
     (λ c. rw (c .before .before .before .t4 .given .1, c .scalar-measure2 .ensures, c .before .integer-align .ensures))
-    (λ c. c .unmeasured .ensures ∙ rest (c .before .before .args .n) .at (c .before .before .args .t) (c .before .match .keys5)))
+    (λ c. c .unmeasured .ensures
+    ∙ rest (c .before .before .args .n) .at (c .before .before .args .t) (c .before .match .keys5)))

@@ -1,4 +1,4 @@
--- `matrix_bytes`: the columns are few and small. Assumes nothing.
+-- `matrix_bytes`: the columns are few and small.
 use Rattle.size_steps.proofs.Small.{column-fits, matrix-fits}
 use borrow.Author.Needs.{needs}
 use Rattle.size_steps.proofs.leaves.matrix_bytes.Statement.{statement}
@@ -10,7 +10,6 @@ matrix-bytes-spec =
     (tie.spec
     (λ c κs. search needs)
     (λ c κs. search needs)
-    (λ c. search needs)
     (λ c κs. search needs)
     (λ c κs. search needs)
     (λ c. search needs)
@@ -24,7 +23,8 @@ matrix-bytes-spec =
       c .before .round-up .ensures,
       c .before .before .vector-bytes .ensures,
       c .before .before .before .vector-align .ensures,
-    ) (matrix-fits (c .before .before .before .before .args .c) (c .before .before .before .before .args .r) (c .before .before .before .before .args .a)))
+    ) (matrix-fits (c .before .before .before .before .args .c) (c .before .before .before .before .args .r)
+    (c .before .before .before .before .args .a)))
     (λ c. rw (
       c .number .ensures,
       c .before .round-up .ensures,

@@ -1,4 +1,4 @@
--- `matrix_measure`: by the alignment, where there is one. Assumes nothing.
+-- `matrix_measure`: by the alignment, where there is one.
 use borrow.Author.Needs.{needs}
 use Rattle.size_steps.proofs.leaves.matrix_measure.Statement.{statement}
 use Rattle.size_steps.proofs.leaves.matrix_measure.Tie as tie

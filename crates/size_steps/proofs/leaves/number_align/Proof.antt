@@ -1,4 +1,4 @@
--- `number_align`: by what the integers give. Assumes nothing.
+-- `number_align`: by what the integers give.
 use mathlib.Core.Path.{sym, _∙_}
 use borrow.Author.Needs.{needs}
 use Rattle.size_steps.proofs.leaves.number_align.Statement.{statement}

@@ -1,4 +1,4 @@
--- `round_up`: each alignment by its own numbers. Assumes nothing.
+-- `round_up`: each alignment by its own numbers.
 use borrow.Author.Needs.{needs}
 use Rattle.size_steps.proofs.leaves.round_up.Statement.{statement}
 use Rattle.size_steps.proofs.leaves.round_up.Tie as tie

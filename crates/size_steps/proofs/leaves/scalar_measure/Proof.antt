@@ -1,4 +1,4 @@
--- `scalar_measure`: by the alignment, where there is one. Assumes nothing.
+-- `scalar_measure`: by the alignment, where there is one.
 use borrow.Author.Needs.{needs}
 use Rattle.size_steps.proofs.leaves.scalar_measure.Statement.{statement}
 use Rattle.size_steps.proofs.leaves.scalar_measure.Tie as tie

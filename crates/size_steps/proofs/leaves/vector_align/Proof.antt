@@ -1,4 +1,4 @@
--- `vector_align`: the product is small. Assumes nothing.
+-- `vector_align`: the product is small.
 use Rattle.size_steps.proofs.Small.{count-fits}
 use borrow.Author.Needs.{needs}
 use Rattle.size_steps.proofs.leaves.vector_align.Statement.{statement}

@@ -1,4 +1,4 @@
--- `vector_bytes`: the product is small. Assumes nothing.
+-- `vector_bytes`: the product is small.
 use Rattle.size_steps.proofs.Small.{vector-fits}
 use borrow.Author.Needs.{needs}
 use Rattle.size_steps.proofs.leaves.vector_bytes.Statement.{statement}

@@ -1,4 +1,4 @@
--- `vector_measure`: by the alignment, where there is one. Assumes nothing.
+-- `vector_measure`: by the alignment, where there is one.
 use borrow.Author.Needs.{needs}
 use Rattle.size_steps.proofs.leaves.vector_measure.Statement.{statement}
 use Rattle.size_steps.proofs.leaves.vector_measure.Tie as tie

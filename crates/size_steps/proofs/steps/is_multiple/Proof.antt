@@ -1,4 +1,4 @@
--- `is_multiple`: each alignment by its own number. Assumes nothing.
+-- `is_multiple`: each alignment by its own number.
 use borrow.Author.Needs.{needs}
 use Rattle.size_steps.proofs.steps.is_multiple.Statement.{statement}
 use Rattle.size_steps.proofs.steps.is_multiple.Tie as tie

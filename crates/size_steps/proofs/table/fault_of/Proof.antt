@@ -1,4 +1,4 @@
--- `fault_of`: by the number. Assumes nothing.
+-- `fault_of`: by the number.
 use borrow.Author.Tests.{eq-eqb, ne-eqb}
 use Rattle.size_steps.proofs.table.fault_of.Statement.{statement}
 use Rattle.size_steps.proofs.table.fault_of.Tie as tie

@@ -1,4 +1,4 @@
--- `measure_of`: by the number. Assumes nothing.
+-- `measure_of`: by the number.
 use Rattle.rule_sizes.specs.ForProofs.{measureOf}
 use borrow.Author.Tests.{eq-eqb, ne-eqb}
 use borrow.Author.Needs.{needs}
@@ -11,7 +11,7 @@ returns c = rw (eq-eqb _ _ (c .before .before .if1 .taken), c .third .ensures, c
 
 returns-2 : tie.Need-returns-2
 unfolding measureOf
-returns-2 c = rw (ne-eqb _ _ (c .before .before .if1 .left), c .named .ensures, c .before .fault-of .ensures)
+returns-2 c = rw (ne-eqb _ _ (c .before .before .if1 .left), c .ty .ensures, c .before .fault-of .ensures)
 
 pub measure-of-spec : {M : Type 1} → statement M
 measure-of-spec =

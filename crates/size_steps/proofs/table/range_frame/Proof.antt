@@ -1,4 +1,4 @@
--- `range_frame`: each case by its bytes. Assumes nothing.
+-- `range_frame`: each case by its bytes.
 use borrow.Author.Needs.{needs}
 use Rattle.size_steps.proofs.table.range_frame.Statement.{statement}
 use Rattle.size_steps.proofs.table.range_frame.Tie as tie
@@ -14,4 +14,4 @@ range-frame-spec =
     (λ c κs. search needs)
     (λ c κs. search needs)
     (λ c. rw (c .before .before .before .g .given .1, c .ranged-frame .ensures, c .before .alignment-bytes .ensures))
-    (λ c. rw (c .before .before .before .g2 .given .1, c .measured-frame .ensures, c .before .fault-number .ensures)))
+    (λ c. rw (c .before .before .before .g2 .given .1, c .refused .ensures, c .before .fault-number .ensures)))

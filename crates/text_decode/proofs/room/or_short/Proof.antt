@@ -1,4 +1,4 @@
--- `or_short`: each outcome by its case. Assumes nothing.
+-- `or_short`: each outcome by its case.
 use borrow.Author.Needs.{needs}
 use Rattle.text_decode.proofs.room.or_short.Statement.{statement}
 use Rattle.text_decode.proofs.room.or_short.Tie as tie

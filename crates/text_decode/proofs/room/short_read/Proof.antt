@@ -1,4 +1,4 @@
--- `short_read`: what `read_text` gives with no buffer at all. Assumes nothing.
+-- `short_read`: what `read_text` gives with no buffer at all.
 use mathlib.Core.Path.{ap, _∙_}
 use Rattle.text.specs.Room.{orShort, shortRead}
 use borrow.Author.Needs.{needs}

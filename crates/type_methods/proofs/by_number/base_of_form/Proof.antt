@@ -1,4 +1,4 @@
--- `base_of_form`: each arm knows its case, and what its calls ensure. Assumes nothing.
+-- `base_of_form`: each arm knows its case, and what its calls ensure.
 use Rattle.type_methods.proofs.by_number.base_of_form.Statement.{statement}
 use Rattle.type_methods.proofs.by_number.base_of_form.Tie as tie
 

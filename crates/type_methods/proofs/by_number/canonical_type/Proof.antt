@@ -1,4 +1,4 @@
--- `canonical_type`: each arm knows its case, and what its calls ensure. Assumes nothing.
+-- `canonical_type`: each arm knows its case, and what its calls ensure.
 use Rattle.rule_types.specs.Canonical.{canonicalTypeIn}
 use Rattle.type_methods.proofs.by_number.canonical_type.Statement.{statement}
 use Rattle.type_methods.proofs.by_number.canonical_type.Tie as tie

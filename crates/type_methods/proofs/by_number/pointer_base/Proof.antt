@@ -1,4 +1,4 @@
--- `pointer_base`: each arm knows its case, and what its calls ensure. Assumes nothing.
+-- `pointer_base`: each arm knows its case, and what its calls ensure.
 use Rattle.rule_types.specs.Canonical.{pointerBaseIn}
 use Rattle.type_methods.proofs.by_number.pointer_base.Statement.{statement}
 use Rattle.type_methods.proofs.by_number.pointer_base.Tie as tie
@@ -6,7 +6,12 @@ use Rattle.type_methods.proofs.by_number.pointer_base.Tie as tie
 returns : tie.Need-returns
 unfolding pointerBaseIn
 returns c =
-    rw (c .base-of-form .ensures, c .before .type-at .ensures, ← c .before .before .before .is-type .ensures, c .before .before .if1 .taken)
+    rw (
+      c .base-of-form .ensures,
+      c .before .type-at .ensures,
+      ← c .before .before .before .is-type .ensures,
+      c .before .before .if1 .taken,
+    )
 
 returns-2 : tie.Need-returns-2
 unfolding pointerBaseIn

@@ -1,4 +1,4 @@
--- `canonical_through`: each arm knows its case, and what its calls ensure. Assumes nothing.
+-- `canonical_through`: each arm knows its case, and what its calls ensure.
 use Rattle.type_methods.proofs.canonical.canonical_through.Statement.{statement}
 use Rattle.type_methods.proofs.canonical.canonical_through.Tie as tie
 

@@ -1,4 +1,4 @@
--- `is_atomic_pointer`: each arm knows its case, and what its calls ensure; the other kinds case by case. Assumes nothing.
+-- `is_atomic_pointer`: each arm knows its case, and what its calls ensure; the other kinds case by case.
 use Prim.Native.Nat.{ℕ}
 use mathlib.Core.Path.{_≡_}
 use mathlib.Core.Bool.{false}
@@ -12,7 +12,8 @@ use Rattle.type_methods.proofs.canonical.is_atomic_pointer.Statement.{s
 use Rattle.type_methods.proofs.canonical.is_atomic_pointer.Tie as tie
 
 -- the other kinds
-rest : (fr : List ℕ) (s : Starts) → Others (kindsBut (5 ∷ [])) (λ t. isAtomicPointer fr s (Ti.RayQuery false) ≡ isAtomicPointer fr s t)
+rest : (fr : List ℕ) (s : Starts)
+    → Others (kindsBut (5 ∷ [])) (λ t. isAtomicPointer fr s (Ti.RayQuery false) ≡ isAtomicPointer fr s t)
 rest fr s = of-each (search needs)
 
 pub is-atomic-pointer-spec : {M : Type 1} → statement M
@@ -23,4 +24,5 @@ is-atomic-pointer-spec =
     (λ c κs. tt)
     (λ c κs. tt)
     (λ c. rw (c .before .before .before .t .given .1, c .is-atomic-form .ensures, c .before .type-at .ensures))
-    (λ c. rest (c .before .before .args .frames .now) (c .before .before .args .s) .at (c .before .before .args .t) (c .match .keys2)))
+    (λ c. rest (c .before .before .args .frames .now) (c .before .before .args .s) .at (c .before .before .args .t)
+    (c .match .keys2)))

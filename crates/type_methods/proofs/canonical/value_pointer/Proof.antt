@@ -1,4 +1,4 @@
--- `value_pointer`: each arm knows its case, and what its calls ensure; the other kinds case by case. Assumes nothing.
+-- `value_pointer`: each arm knows its case, and what its calls ensure; the other kinds case by case.
 use mathlib.Core.Path.{_≡_}
 use mathlib.Core.Bool.{false}
 use borrow.Author.Needs.{needs}
@@ -12,7 +12,8 @@ use Rattle.type_methods.proofs.canonical.value_pointer.Tie as tie
 
 -- the other kinds
 rest : (space : AddressSpace)
-    → Others (kindsBut (0 ∷ 1 ∷ [])) (λ t. formFound (valuePointer space (Ti.RayQuery false)) ≡ formFound (valuePointer space t))
+    → Others (kindsBut (0 ∷ 1 ∷ []))
+    (λ t. formFound (valuePointer space (Ti.RayQuery false)) ≡ formFound (valuePointer space t))
 rest space = of-each (search needs)
 
 pub value-pointer-spec : {M : Type 1} → statement M

@@ -1,4 +1,4 @@
--- `compare_types`: what it gives is the likeness of the two answers, test by test. Assumes nothing.
+-- `compare_types`: what it gives is the likeness of the two answers, test by test.
 use Rattle.rule.specs.Answers.{resolved}
 use Rattle.rule_types.proofs.Handed.{optional-is}
 use Rattle.type_methods.proofs.compare.compare_types.Statement.{statement}

@@ -1,4 +1,4 @@
--- `is_struct`: each arm knows its case, and what its calls ensure. Assumes nothing.
+-- `is_struct`: each arm knows its case, and what its calls ensure.
 use Rattle.type_methods.proofs.compare.is_struct.Statement.{statement}
 use Rattle.type_methods.proofs.compare.is_struct.Tie as tie
 

@@ -1,4 +1,4 @@
--- `alike`: the first eight tests, and the others. Assumes nothing.
+-- `alike`: the first eight tests, and the others.
 use Rattle.type_methods.proofs.equality.alike.Statement.{statement}
 use Rattle.type_methods.proofs.equality.alike.Tie as tie
 

@@ -1,4 +1,4 @@
--- `alike_from_8`: the eight tests. Assumes nothing.
+-- `alike_from_8`: the eight tests.
 use mathlib.Core.Bool.{and-true}
 use Rattle.type_methods.proofs.equality.alike_from_8.Statement.{statement}
 use Rattle.type_methods.proofs.equality.alike_from_8.Tie as tie

@@ -1,4 +1,4 @@
--- `equal_types`: the two frames, byte by byte. Assumes nothing.
+-- `equal_types`: the two frames, byte by byte.
 use Rattle.rule_types.specs.Canonical.{equalTypes}
 use Rattle.type_methods.proofs.equality.equal_types.Statement.{statement}
 use Rattle.type_methods.proofs.equality.equal_types.Tie as tie

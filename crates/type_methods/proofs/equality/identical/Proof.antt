@@ -1,4 +1,4 @@
--- `identical`: the two frames, byte by byte. Assumes nothing.
+-- `identical`: the two frames, byte by byte.
 use Rattle.rule_types.proofs.Handed.{identical-written}
 use Rattle.type_methods.proofs.equality.identical.Statement.{statement}
 use Rattle.type_methods.proofs.equality.identical.Tie as tie

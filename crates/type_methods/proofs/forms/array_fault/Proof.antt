@@ -1,4 +1,4 @@
--- `array_fault`: each arm knows its case, and what its calls ensure. Assumes nothing.
+-- `array_fault`: each arm knows its case, and what its calls ensure.
 use Rattle.type_methods.proofs.forms.array_fault.Statement.{statement}
 use Rattle.type_methods.proofs.forms.array_fault.Tie as tie
 
@@ -19,5 +19,10 @@ array-fault-spec =
       ← c .before .before .before .is-type .ensures,
       c .before .before .if2 .taken,
     ))
-    (λ c. rw (← c .before .before .before .is-count .ensures, c .before .before .if1 .taken, ← c .before .is-type .ensures, c .if2 .left))
+    (λ c. rw (
+      ← c .before .before .before .is-count .ensures,
+      c .before .before .if1 .taken,
+      ← c .before .is-type .ensures,
+      c .if2 .left,
+    ))
     (λ c. rw (← c .before .is-count .ensures, c .if1 .left)))

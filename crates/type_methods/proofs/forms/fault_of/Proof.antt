@@ -1,4 +1,4 @@
--- `fault_of`: each arm knows its case, and what its calls ensure. Assumes nothing.
+-- `fault_of`: each arm knows its case, and what its calls ensure.
 use Rattle.type_methods.proofs.forms.fault_of.Statement.{statement}
 use Rattle.type_methods.proofs.forms.fault_of.Tie as tie
 

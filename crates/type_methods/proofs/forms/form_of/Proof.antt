@@ -1,4 +1,4 @@
--- `form_of`: each arm knows its case, and what its calls ensure. Assumes nothing.
+-- `form_of`: each arm knows its case, and what its calls ensure.
 use Rattle.type_methods.proofs.forms.form_of.Statement.{statement}
 use Rattle.type_methods.proofs.forms.form_of.Tie as tie
 

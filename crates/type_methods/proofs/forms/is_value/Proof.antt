@@ -1,4 +1,4 @@
--- `is_value`: each arm knows its case, and what its calls ensure. Assumes nothing.
+-- `is_value`: each arm knows its case, and what its calls ensure.
 use Rattle.type_methods.proofs.forms.is_value.Statement.{statement}
 use Rattle.type_methods.proofs.forms.is_value.Tie as tie
 

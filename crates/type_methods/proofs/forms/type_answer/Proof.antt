@@ -1,4 +1,4 @@
--- `type_answer`: each arm knows its case, and what its calls ensure. Assumes nothing.
+-- `type_answer`: each arm knows its case, and what its calls ensure.
 use Rattle.type_methods.proofs.forms.type_answer.Statement.{statement}
 use Rattle.type_methods.proofs.forms.type_answer.Tie as tie
 
@@ -21,4 +21,9 @@ type-answer-spec =
       ← c .before .before .before .is-value .ensures,
       c .before .before .if2 .taken,
     ))
-    (λ c. rw (← c .before .before .before .is-number .ensures, c .before .before .if1 .left, ← c .before .is-value .ensures, c .if2 .left)))
+    (λ c. rw (
+      ← c .before .before .before .is-number .ensures,
+      c .before .before .if1 .left,
+      ← c .before .is-value .ensures,
+      c .if2 .left,
+    )))

@@ -1,4 +1,4 @@
--- `left_tested`: each arm knows what the left answer is tested to. Assumes nothing.
+-- `left_tested`: each arm knows what the left answer is tested to.
 use mathlib.Core.Path.{_≡_, sym, ap, _∙_}
 use Rattle.rule.specs.Answers.{resolved, typeAnswerOf}
 use Rattle.rule_types.specs.Comparison.{samenessOf}

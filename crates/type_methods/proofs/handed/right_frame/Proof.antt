@@ -1,4 +1,4 @@
--- `right_frame`: a frame that is no type is a 5; another is the type it stands for. Assumes nothing.
+-- `right_frame`: a frame that is no type is a 5; another is the type it stands for.
 use mathlib.Core.Path.{_≡_, sym, ap, _∙_}
 use Rattle.rule.specs.Answers.{TypeAnswer, resolved, typeAnswerOf}
 use Rattle.rule_types.specs.Comparison.{given, rightTested, samenessOf}
@@ -19,7 +19,8 @@ right-frame-spec =
     ap samenessOf
     (sym
     (right-field (g .frames .now) (g .s) (resolved (g .a)) (typeAnswerOf (g .right))
-    (malformed-five (g .s) (typeAnswerOf (g .right)) (sym (c .before .before .type-answer .ensures) ∙ c .enum-told .given .1)))))
+    (malformed-five (g .s) (typeAnswerOf (g .right))
+    (sym (c .before .before .type-answer .ensures) ∙ c .enum-told .given .1)))))
     (λ c.
     let g = c .before .before .before .before .before .before .args in
     c .right-tested .ensures

@@ -1,4 +1,4 @@
--- `right_tested`: each arm knows what the right answer is tested to. Assumes nothing.
+-- `right_tested`: each arm knows what the right answer is tested to.
 use mathlib.Core.Path.{_≡_, sym, ap, _∙_}
 use Rattle.rule.specs.Answers.{resolved}
 use Rattle.rule_types.specs.Comparison.{samenessOf}
@@ -20,7 +20,8 @@ right-tested-spec =
     (λ c.
     let g = c .before .before .before .before .before .before .args in
     c .said-of .ensures
-    ∙ ap saidOf (c .before .compare-types .ensures ∙ optional-is (g .frames .now) (g .s) (resolved (g .a)) (resolved (g .b)))
+    ∙ ap saidOf (c .before .compare-types .ensures
+    ∙ optional-is (g .frames .now) (g .s) (resolved (g .a)) (resolved (g .b)))
     ∙ said-is (g .frames .now) (g .s) (likeness (g .frames .now) (g .s) (resolved (g .a)) (resolved (g .b)))
     ∙ ap samenessOf
     (sym

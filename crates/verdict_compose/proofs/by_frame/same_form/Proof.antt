@@ -1,4 +1,4 @@
--- `same_form`: by the bytes. Assumes nothing.
+-- `same_form`: by the bytes.
 use Rattle.verdict_compose.proofs.by_frame.same_form.Statement.{statement}
 use Rattle.verdict_compose.proofs.by_frame.same_form.Tie as tie
 
@@ -7,4 +7,5 @@ same-form-spec =
     tie.close
     (tie.spec
     (λ c κs. tt)
-    (λ c. rw (c .before .before .before .before .before .before .before .before .before .before .is-scalar-to-matrix .ensures)))
+    (λ c. rw (c .before .before .before .before .before .before .before .before .before .before .is-scalar-to-matrix
+    .ensures)))

@@ -1,4 +1,4 @@
--- `type_shown`: by the family. Assumes nothing.
+-- `type_shown`: by the family.
 use borrow.Author.Tests.{eq-eqb, ne-eqb}
 use Rattle.verdict_compose.proofs.by_frame.type_shown.Statement.{statement}
 use Rattle.verdict_compose.proofs.by_frame.type_shown.Tie as tie
@@ -10,7 +10,11 @@ type-shown-spec =
     (λ c κs. tt)
     (λ c κs. tt)
     (λ c κs. tt)
-    (λ c. rw (c .before .before .before .struct-known .given .1, eq-eqb _ _ (c .before .before .if1 .taken), c .before .named .ensures))
+    (λ c. rw (
+      c .before .before .before .struct-known .given .1,
+      eq-eqb _ _ (c .before .before .if1 .taken),
+      c .before .named .ensures,
+    ))
     (λ c.
     rw (
       c .before .before .before .before .before .struct-known .given .1,
@@ -19,4 +23,8 @@ type-shown-spec =
       c .value-shown .ensures,
       c .before .type-frame .ensures,
     ))
-    (λ c. rw (c .before .before .before .struct-known .given .1, ne-eqb _ _ (c .before .before .if1 .left), ne-eqb _ _ (c .if2 .left))))
+    (λ c. rw (
+      c .before .before .before .struct-known .given .1,
+      ne-eqb _ _ (c .before .before .if1 .left),
+      ne-eqb _ _ (c .if2 .left),
+    )))

@@ -1,4 +1,4 @@
--- `value_shown`: a pointer or another form. Assumes nothing.
+-- `value_shown`: a pointer or another form.
 use borrow.Author.Tests.{eq-eqb, ne-eqb}
 use Rattle.verdict_compose.proofs.by_frame.value_shown.Statement.{statement}
 use Rattle.verdict_compose.proofs.by_frame.value_shown.Tie as tie

@@ -1,4 +1,4 @@
--- `array_parts`: each arm knows its case. Assumes nothing.
+-- `array_parts`: each arm knows its case.
 use Rattle.rule_rows.specs.OverBuffer.{judgedBy}
 use Rattle.verdict_compose.proofs.compose.array_parts.Statement.{statement}
 use Rattle.verdict_compose.proofs.compose.array_parts.Tie as tie

@@ -1,4 +1,4 @@
--- `by_form`: each arm knows its case, and what its calls ensure; the other kinds case by case. Assumes nothing.
+-- `by_form`: each arm knows its case, and what its calls ensure; the other kinds case by case.
 use Prim.Native.Nat.{ℕ}
 use mathlib.Core.Path.{_≡_, _∙_}
 use mathlib.Core.List.{List, [], _∷_}
@@ -18,7 +18,9 @@ use Rattle.verdict_compose.proofs.compose.by_form.Tie as tie
 
 -- every other kind is refused
 rest : (fr : List ℕ) (s : Starts) (answers places : List ℕ) (first : ComponentNumber) (count : ℕ)
-    → Others (kindsBut (1 ∷ 2 ∷ 7 ∷ 8 ∷ [])) (λ t. toJudged Vd.ComposedType ≡ judgedBy fr s answers places (byForm (partsIn fr s first count) (memberTypes fr s t) t))
+    → Others (kindsBut (1 ∷ 2 ∷ 7 ∷ 8 ∷ []))
+    (λ t. toJudged Vd.ComposedType
+    ≡ judgedBy fr s answers places (byForm (partsIn fr s first count) (memberTypes fr s t) t))
 unfolding judgedBy
 rest fr s answers places first count = of-each (search needs)
 
@@ -43,7 +45,8 @@ by-form-spec =
     (λ c.
     let g = c .before .before .before .before .before .before .before .args in
     rw (c .before .before .t4 .given .1)
-    (c .counted-parts2 .ensures ∙ struct-counted (g .frames .now) (g .s) (g .answers .now) (g .places .now) (g .first) (g .count) _ _))
+    (c .counted-parts2 .ensures
+    ∙ struct-counted (g .frames .now) (g .s) (g .answers .now) (g .places .now) (g .first) (g .count) _ _))
     (λ c.
     let g = c .before .before .before .before .args in
     rest (g .frames .now) (g .s) (g .answers .now) (g .places .now) (g .first) (g .count) .at (g .t) (c .match .keys5)))

@@ -1,4 +1,4 @@
--- `judge`: the composed type's form, or newer. Assumes nothing.
+-- `judge`: the composed type's form, or newer.
 use mathlib.Core.Path.{sym, _∙_}
 use Rattle.verdict_compose.proofs.Runs.{composed-known, composed-unknown}
 use Rattle.verdict_compose.proofs.compose.judge.Statement.{statement}

@@ -1,4 +1,4 @@
--- `asked_type`: each arm knows what is asked. Assumes nothing.
+-- `asked_type`: each arm knows what is asked.
 use Rattle.verdict_compose.proofs.counted.asked_type.Statement.{statement}
 use Rattle.verdict_compose.proofs.counted.asked_type.Tie as tie
 

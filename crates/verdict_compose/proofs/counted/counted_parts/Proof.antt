@@ -1,4 +1,4 @@
--- `counted_parts`: the list of components has the count. Assumes nothing.
+-- `counted_parts`: the list of components has the count.
 use mathlib.Core.Path.{sym, _∙_}
 use Rattle.verdict_compose.proofs.Runs.{counted-yes, counted-no}
 use Rattle.verdict_compose.proofs.counted.counted_parts.Statement.{statement}
@@ -13,7 +13,9 @@ counted-parts-spec =
     let g = c .before .before .before .before .before .args in
     c .each-part .ensures
     ∙ sym
-    (counted-yes (g .frames .now) (g .s) (g .answers .now) (g .places .now) (g .first) (g .count) (g .expected) _ (c .before .if1 .taken)))
+    (counted-yes (g .frames .now) (g .s) (g .answers .now) (g .places .now) (g .first) (g .count) (g .expected) _
+    (c .before .if1 .taken)))
     (λ c.
     let g = c .before .before .before .before .args in
-    sym (counted-no (g .frames .now) (g .s) (g .answers .now) (g .places .now) (g .first) (g .count) (g .expected) _ (c .if1 .left))))
+    sym (counted-no (g .frames .now) (g .s) (g .answers .now) (g .places .now) (g .first) (g .count) (g .expected) _
+    (c .if1 .left))))

@@ -1,12 +1,10 @@
--- `look_column`: the look sees a form, or ends. Assumes nothing.
+-- `look_column`: the look sees a form, or ends.
 use mathlib.Core.Path.{sym, ap, _∙_}
 use mathlib.Core.Bool.{Bool}
-use mathlib.Core.Option.{some}
 use Rattle.ir.specs.declared.TypeInner.the-variants as Ti
-use Rattle.rule_types.specs.declared.OptionBool.the-variants as Ob
 use Rattle.rule_types.specs.Canonical.{equalTypes}
-use Rattle.verdict_compose.specs.Decided.{partSaid}
-use Rattle.verdict_compose.proofs.Runs.{column-is, part-said}
+use Rattle.verdict_compose.specs.Decided.{addsIf}
+use Rattle.verdict_compose.proofs.OneComponent.{looked-is}
 use Rattle.verdict_compose.proofs.counted.look_column.Statement.{statement}
 use Rattle.verdict_compose.proofs.counted.look_column.Tie as tie
 
@@ -22,11 +20,13 @@ look-column-spec =
     (λ c κs. tt)
     (λ c.
     let g = c .before .before .before .before .before .before .before .before .before .args in
-    c .part-verdict .ensures ∙ ap (λ (b : Bool). partSaid (g .i) (Ob.Some b)) (c .before .is-vector .ensures) ∙ part-said (g .i) (some (equalTypes (c .before .before .before .t .given .0 .0) (Ti.Vector (g .rows) (g .scalar))))
-    ∙ column-is (g .frames .now) (g .s) (g .n) (g .i) (g .answers .now) (g .places .now) (g .n)
-    (sym (c .before .before .before .before .before .look-component .ensures) ∙ c .before .before .before .t .given .1) (g .rows) (g .scalar))
+    c .adds-if .ensures ∙ ap (λ (b : Bool). addsIf (g .i) b 1) (c .before .is-vector .ensures)
+    ∙ looked-is (g .frames .now) (g .s) (g .n) (g .i)
+    (λ t. addsIf (g .i) (equalTypes t (Ti.Vector (g .rows) (g .scalar))) 1) (g .answers .now) (g .places .now) (g .n)
+    (sym (c .before .before .before .before .before .look-component .ensures) ∙ c .before .before .before .t .given .1))
     (λ c.
     let g = c .before .before .before .before .before .before .before .before .args in
-    c .end-verdict .ensures
-    ∙ column-is (g .frames .now) (g .s) (g .n) (g .i) (g .answers .now) (g .places .now) (g .n)
-    (sym (c .before .before .before .before .look-component .ensures) ∙ c .before .before .end .given .1) (g .rows) (g .scalar)))
+    c .by-end .ensures
+    ∙ looked-is (g .frames .now) (g .s) (g .n) (g .i)
+    (λ t. addsIf (g .i) (equalTypes t (Ti.Vector (g .rows) (g .scalar))) 1) (g .answers .now) (g .places .now) (g .n)
+    (sym (c .before .before .before .before .look-component .ensures) ∙ c .before .before .end .given .1)))

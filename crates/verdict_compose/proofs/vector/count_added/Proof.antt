@@ -1,4 +1,4 @@
--- `count_added`: each arm knows its case, and what its calls ensure; the other kinds case by case. Assumes nothing.
+-- `count_added`: each arm knows its case, and what its calls ensure; the other kinds case by case.
 use Prim.Native.Nat.{ℕ}
 use mathlib.Core.Path.{_≡_}
 use mathlib.Core.Bool.{false}
@@ -6,14 +6,15 @@ use mathlib.Core.List.{[], _∷_}
 use Rattle.ir.specs.declared.TypeInner.the-variants as Ti
 use Rattle.ir.proofs.Others.{Others, kindsBut, of-each}
 use Rattle.rule_compose.specs.Verdict.{adds}
-use Rattle.verdict_compose.specs.Decided.{countAdded}
+use Rattle.verdict_compose.specs.Decided.{countDecides}
 use Rattle.ir.specs.declared.Scalar.{Scalar}
 use borrow.Author.Needs.{needs}
 use Rattle.verdict_compose.proofs.vector.count_added.Statement.{statement}
 use Rattle.verdict_compose.proofs.vector.count_added.Tie as tie
 
 -- the other kinds
-rest : (a : ℕ) (b : Scalar) → Others (kindsBut (0 ∷ 1 ∷ [])) (λ t. countAdded a (adds b (Ti.RayQuery false)) ≡ countAdded a (adds b t))
+rest : (a : ℕ) (b : Scalar)
+    → Others (kindsBut (0 ∷ 1 ∷ [])) (λ t. countDecides a (adds b (Ti.RayQuery false)) ≡ countDecides a (adds b t))
 rest a b = of-each (search needs)
 
 pub count-added-spec : {M : Type 1} → statement M
@@ -28,11 +29,11 @@ count-added-spec =
     (λ c κs. tt)
     (λ c. search needs)
     (λ c κs. tt)
-    (λ c. rw (c .before .before .before .t .given .1, c .adds-scalar .ensures, c .before .equals .ensures))
+    (λ c. rw (c .before .before .before .t .given .1, c .adds-if .ensures, c .before .equals .ensures))
     (λ c.
     rw (
       c .before .before .before .before .t2 .given .1,
-      c .adds-scalar2 .ensures,
+      c .adds-if2 .ensures,
       c .before .number .ensures,
       c .before .before .equals2 .ensures,
     ))

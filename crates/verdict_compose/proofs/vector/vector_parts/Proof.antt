@@ -1,27 +1,27 @@
--- `vector_parts`. The invariant: what is left to add gives what the whole gives; each component adds at most four. Assumes nothing.
+-- `vector_parts`. The invariant: what is left to add gives what the whole gives; each component adds at most four.
 use Prim.Native.Nat.{ℕ, _*_, _-_, _≤_}
 use native.Mathlib.Omega.{arith}
-use mathlib.Core.Path.{_≡_, refl, sym, ap, _∙_}
+use mathlib.Core.Path.{_≡_, refl, sym, _∙_}
 use mathlib.Core.List.{List}
 use lib.ListN.{drop}
 use borrow.Author.Needs.{needs}
 use borrow.Author.Tests.{eq-eqb, ne-eqb}
-use Rattle.ir.specs.declared.RowNumber.{RowNumber}
 use Rattle.ir.specs.declared.ComponentNumber.{ComponentNumber}
 use Rattle.ir.specs.declared.VectorSize.{VectorSize}
 use Rattle.ir.specs.declared.Scalar.{Scalar}
 use Rattle.archive.specs.declared.Starts.{Starts}
-use Rattle.verdict_compose.specs.declared.Added.{Added}
 use Rattle.rule_compose.specs.Verdict.{vectorParts}
-use Rattle.rule_rows.specs.OverBuffer.{judgedBy}
+use Rattle.rule_rows.specs.OverBuffer.{answerIn, judgedBy}
 use Rattle.rule_compose.specs.ForProofs.{partsIn}
 use Rattle.verdict_compose.specs.Decided.{addedBy}
-use Rattle.verdict_compose.proofs.Runs.{added-count, added-decided, added-end, added-small}
+use Rattle.verdict_compose.proofs.Runs.{vector-step, read, adds-on, ends, added-end}
+use Rattle.verdict_compose.proofs.OneComponent.{added-small}
 use Rattle.verdict_compose.proofs.vector.vector_parts.Statement.{statement}
 use Rattle.verdict_compose.proofs.vector.vector_parts.Tie as tie
 
 -- i of the n components are added, at most four each; with those that are left they give what the whole gives
-record Inv (frames answers places : List ℕ) (s : Starts) (z : VectorSize) (k : Scalar) (first : ComponentNumber) (count n i total : ℕ) : Type 0 where
+record Inv (frames answers places : List ℕ) (s : Starts) (z : VectorSize) (k : Scalar) (first : ComponentNumber)
+    (count n i total : ℕ) : Type 0 where
   few : i ≤ n
   small : total ≤ 4 * i
   same : judgedBy frames s answers places (vectorParts z k 0 0 (partsIn frames s first count))
@@ -34,17 +34,11 @@ Inv-loop frames s answers places size scalar first count n i₀ total₀ i total
 abbrev μ-loop : tie.MeasureT-loop
 μ-loop frames s answers places size scalar first count n i₀ total₀ i total = n - i
 
--- what component i adds, where the code has it
-added : (frames : List ℕ) (s : Starts) (answers places : List ℕ) (k : Scalar) (i : ℕ) (row m : RowNumber) (r o : Added)
-    → row ≡ m → r ≡ addedBy frames s answers places k i row
-    → r ≡ o → addedBy frames s answers places k i m ≡ o
-added frames s answers places k i row m r o e j t = ap (addedBy frames s answers places k i) (sym e) ∙ sym j ∙ t
-
 small : (c : tie.After-known-told Inv-loop μ-loop) → c .before .m .given .0 .0 ≤ 4
 small c =
     let g = c .before .before .before .before .before .before .before .before .before .before .args in
-    let i = c .before .before .before .before .before .before .loop .i in
-    added-small (g .frames .now) (g .s) (g .answers .now) (g .places .now) (g .scalar) i _ _
+    added-small (g .frames .now) (g .s) (g .scalar) (c .before .before .before .before .before .before .loop .i)
+    (answerIn (g .answers .now) (g .places .now) (c .before .before .before .before .component-at .result)) _
     (sym (c .before .before .before .added-by .ensures) ∙ c .before .m .given .1)
 
 again : tie.Need-loop-again Inv-loop μ-loop
@@ -52,15 +46,19 @@ again c =
     let g = c .before .before .before .before .before .before .before .before .before .before .args in
     let l = c .before .before .before .before .before .before .loop in
     let h = c .before .before .before .before .before .loop-test .taken in
-    let row = c .before .before .before .before .component-at .ensures in
-    let r = c .before .before .before .added-by .ensures in
-    let m = c .before .m .given in
     record {
       few = omega (arith, h);
       small = omega (arith, l .inv .small, small c);
       same = l .inv .same
-          ∙ added-count (g .frames .now) (g .s) (g .answers .now) (g .places .now) (g .first) (g .count) (g .size) (g .scalar) (l .i) (l .total) (m .0 .0) h
-          (added (g .frames .now) (g .s) (g .answers .now) (g .places .now) (g .scalar) (l .i) _ _ _ _ row r (m .1));
+          ∙ adds-on (g .frames .now) (g .s) (g .answers .now) (g .places .now) (g .first) (g .count)
+          (vectorParts (g .size) (g .scalar)) (addedBy (g .frames .now) (g .s) (g .scalar))
+          (vector-step (g .frames .now) (g .s) (g .answers .now) (g .places .now) (g .size) (g .scalar)) (l .i)
+          (l .total) h _
+          (read (g .frames .now) (g .s) (g .answers .now) (g .places .now)
+          (addedBy (g .frames .now) (g .s) (g .scalar) (l .i))
+          (c .before .before .before .before .component-at .ensures)
+          (c .before .before .before .added-by .ensures)
+          (c .before .m .given .1));
     }
 
 returns : tie.Need-returns Inv-loop μ-loop
@@ -68,19 +66,23 @@ returns c =
     let g = c .before .before .before .before .before .before .before .before .before .before .args in
     let l = c .before .before .before .before .before .before .loop in
     let h = c .before .before .before .before .before .loop-test .taken in
-    let row = c .before .before .before .before .component-at .ensures in
-    let r = c .before .before .before .added-by .ensures in
     sym (l .inv .same
-    ∙ added-decided (g .frames .now) (g .s) (g .answers .now) (g .places .now) (g .first) (g .count) (g .size) (g .scalar) (l .i) (l .total) _ h
-    (added (g .frames .now) (g .s) (g .answers .now) (g .places .now) (g .scalar) (l .i) _ _ _ _ row r (c .before .v .given .1)))
+    ∙ ends (g .frames .now) (g .s) (g .answers .now) (g .places .now) (g .first) (g .count)
+    (vectorParts (g .size) (g .scalar)) (addedBy (g .frames .now) (g .s) (g .scalar))
+    (vector-step (g .frames .now) (g .s) (g .answers .now) (g .places .now) (g .size) (g .scalar)) (l .i) (l .total) h _
+    (read (g .frames .now) (g .s) (g .answers .now) (g .places .now)
+    (addedBy (g .frames .now) (g .s) (g .scalar) (l .i))
+    (c .before .before .before .before .component-at .ensures)
+    (c .before .before .before .added-by .ensures)
+    (c .before .v .given .1)))
 
 returns-2 : tie.Need-returns-2 Inv-loop μ-loop
 returns-2 c =
     let g = c .before .before .before .before .before .before .before .args in
     let l = c .before .before .before .loop in
     let e =
-    added-end (g .frames .now) (g .s) (g .answers .now) (g .places .now) (g .first) (g .count) (g .size) (g .scalar) (l .i) (l .total)
-    (c .before .before .loop-test .left) (l .inv .few) in
+    added-end (g .frames .now) (g .s) (g .answers .now) (g .places .now) (g .first) (g .count) (g .size) (g .scalar)
+    (l .i) (l .total) (c .before .before .loop-test .left) in
     rw (l .inv .same, e, ← c .before .number .ensures, eq-eqb _ _ (c .if1 .taken))
 
 returns-3 : tie.Need-returns-3 Inv-loop μ-loop
@@ -88,8 +90,8 @@ returns-3 c =
     let g = c .before .before .before .before .before .before .before .args in
     let l = c .before .before .before .loop in
     let e =
-    added-end (g .frames .now) (g .s) (g .answers .now) (g .places .now) (g .first) (g .count) (g .size) (g .scalar) (l .i) (l .total)
-    (c .before .before .loop-test .left) (l .inv .few) in
+    added-end (g .frames .now) (g .s) (g .answers .now) (g .places .now) (g .first) (g .count) (g .size) (g .scalar)
+    (l .i) (l .total) (c .before .before .loop-test .left) in
     rw (l .inv .same, e, ← c .before .number .ensures, ne-eqb _ _ (c .if1 .left))
 
 pub vector-parts-spec : {M : Type 1} → statement M

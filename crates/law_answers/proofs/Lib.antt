@@ -1,0 +1,5 @@
+pub mod Bytes
+pub mod Same
+pub mod Placed
+pub mod Buffer
+pub mod Room

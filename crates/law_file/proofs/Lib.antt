@@ -1,0 +1,9 @@
+pub mod Laws
+pub mod Alike
+pub mod Over
+pub mod Row
+pub mod Said
+pub mod One
+pub mod Ready
+pub mod Typed
+pub mod Printed
