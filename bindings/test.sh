@@ -10,6 +10,8 @@ mkdir -p target/c
 for program in calls example; do
     cc -std=c99 -Wall -Wextra -Werror -Iinclude "bindings/c/$program.c" target/staticlib/libgelmusko.a -o "target/c/$program"
 done
+cc -std=c99 -Wall -Wextra -Werror -Iinclude bindings/c/stack.c target/staticlib/libgelmusko.a -lpthread -o target/c/stack
 target/c/calls
+target/c/stack crates/type_rows/stdin crates/explain/stdin
 target/c/example < crates/type_rows/stdin | diff - crates/type_rows/stdout
 echo "bindings: ok"

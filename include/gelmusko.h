@@ -25,7 +25,7 @@
  *   answers   16 bytes for each row and 16 more for each compose.    32,768 bytes are enough for every file.
  *   out       16 bytes: one frame, what the call hands back.
  *   least, greatest   1,024 counts each, one for each override of the file; those past its overrides are free. A table
- *             of fewer counts is a lent buffer too short. They are read alone.
+ *             of fewer counts is a lent buffer too short. They are only read.
  *
  * A longer buffer is as good; its bytes past what is written stay as they were. After numbers 1 to 3 no byte of
  * `frames` and `answers` is changed. After numbers 4 to 6 of the file `frames` has the frames of the text at its
@@ -53,8 +53,12 @@
  *
  * A TEXEL. gelmusko_texel asks for no file, and its `out` gets no frame but a texel, of 2 bytes.
  *
- * Each function is proved, for all inputs, to return and to leave in each buffer what crates/file_exports/specs says,
- * and for a texel crates/texel/specs; it ends, and it never traps. */
+ * STACK. No function takes more stack than GELMUSKO_.._STACK bytes, whatever the file: the figures are measured, on a
+ * painted stack over files that go deep or long, and rounded up (bindings/c/stack.c, which also calls each function in
+ * a thread with just that much). Stack is no part of what is proved.
+ *
+ * Each function is proved, for all inputs, to return and to leave in each buffer what crates/rule_file/specs says, and
+ * for a texel crates/texel/specs; it ends, and, given its stack, it never traps. */
 #ifndef GELMUSKO_H
 #define GELMUSKO_H
 
@@ -73,6 +77,18 @@ extern "C" {
 
 /* counts of a table */
 #define GELMUSKO_COUNTS 1024
+
+/* the most stack that each function takes, in bytes */
+#define GELMUSKO_READ_FILE_STACK 2048
+#define GELMUSKO_TYPE_ROWS_STACK 8192
+#define GELMUSKO_ROW_TYPE_STACK 8192
+#define GELMUSKO_COMPOSE_VERDICT_STACK 8192
+#define GELMUSKO_SAME_TYPE_STACK 4096
+#define GELMUSKO_CANONICAL_FORM_STACK 4096
+#define GELMUSKO_POINTER_BASE_STACK 4096
+#define GELMUSKO_TYPE_SIZE_STACK 24576
+#define GELMUSKO_SIZE_RANGE_STACK 32768
+#define GELMUSKO_TEXEL_STACK 512
 
 /* passes */
 #define GELMUSKO_FIRST_PASS 0u

@@ -40,10 +40,19 @@ contract texel::texel_of
 contract gelmusko::*
 theorem law_file/proofs/Laws.antt accepted-when long-when torn-when short-when order-when field-when index-when by-file
 theorem law_file/proofs/Laws.antt buffer-written buffer-long buffer-torn buffer-short
+theorem law_file/proofs/Laws.antt read-alike buffer-alike
+theorem law_file/proofs/Alike.antt over-alike same-alike answers-alike count-alike row-alike row-answers-alike
+theorem law_file/proofs/Alike.antt verdict-alike verdict-answers-alike text-alike
+theorem file_pointers/proofs/Alike.antt canonical-alike base-alike
+theorem file_sizes/proofs/Alike.antt size-alike range-alike range-frames-alike
+theorem explain_file/proofs/Alike.antt explained-alike sized-alike ranged-alike
+theorem gelmusko/proofs/Limits.antt no-room-alike read-file-alike same-type-alike canonical-form-alike pointer-base-alike
+theorem gelmusko/proofs/Limits.antt type-size-alike size-range-alike type-rows-alike row-type-alike compose-verdict-alike
 theorem law_rows/proofs/Range.antt range
 theorem ir/proofs/Formats.antt formats-named
 theorem rule/proofs/Shows.antt texels-shown sees-more
 theorem rule_rows/proofs/Storage.antt storage-typed first-storage-newer
+theorem rule_rows/proofs/Formats.antt every-format storage-gathered
 theorem law_verdicts/proofs/Numbers.antt verdict-numbers
 theorem law_verdicts/proofs/Each.antt one-each
 theorem law_file/proofs/Said.antt row-said verdict-said
@@ -63,7 +72,14 @@ theorem law_ranges/proofs/Same.antt fixed-same same-counts holds-when
 theorem law_ranges/proofs/Grow.antt grows fills-below only-huge
 theorem law_ranges/proofs/Laws.antt has-at-when fault-at-when
 theorem law_ranges/proofs/Free.antt entries-free
+theorem law_file_sizes/proofs/Means.antt size-means fault-means range-means refusal-means span-means
+theorem law_file_sizes/proofs/Words.antt outside-alone never-misplaced
+theorem law_file_sizes/proofs/Steps.antt greatest-array-steps least-array-steps greatest-struct-steps least-struct-steps
+theorem law_file_sizes/proofs/Said.antt size-said range-said
 theorem law_passes/proofs/Judged.antt binary-judged
+theorem law_passes/proofs/Binary.antt binary-one
+theorem law_passes/proofs/BinaryInBoth.antt binary-in-both
+theorem law_passes/proofs/InBoth.antt alike-at typed-in-both row-in-both
 theorem law_passes/proofs/Alike.antt passes-alike rows-alike verdicts-alike row-frames-alike outputs-alike file-alike
 theorem law_passes/proofs/Apart.antt not-both not-first-pass not-first-pass-by-row
 theorem law_widths/proofs/Files.antt file-widths

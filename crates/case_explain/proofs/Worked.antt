@@ -39,16 +39,18 @@ use Rattle.rule_sizes.specs.Sizes as Sz
 use Rattle.rule_sizes.specs.Sizes.{arrayOf, partsOf, spanned, structOf, measures, measureIn, framesOf}
 use Rattle.rule_ranges.specs.Pending.{memberHolds, holding, holdsPending}
 use Rattle.rule_ranges.specs.Counts.{freshParts, freshStruct, measuresBy, measureBy}
-use Rattle.rule_ranges.specs.Ranges.{countsOf, rangeIn, faultySpan}
+use Rattle.rule_ranges.specs.Ranges.{rangeIn, faultySpan}
 use Rattle.rule_explain.specs.Sizes.{sizeWords, spanWords, sizeLineOf}
-use Rattle.rule_explain.specs.Sized.{sizesOf, sized, rangesOf, ranged}
-use Rattle.case_explain.specs.Table.{Room, over, below, ExplainedCase, explainedCases, SizeCase, sizes, RangeCase}
+use Rattle.rule_explain.specs.Sized.{sizesOf, sized, rangesOf, rangesPrinted, rangesAfter}
+use Rattle.case_explain.specs.Table.{Room, over, below, unused, ExplainedCase, explainedCases, SizeCase, sizes}
+use Rattle.case_explain.specs.Table.{RangeCase}
 use Rattle.case_explain.specs.Table.{ranges}
 
 -- the output buffer, of bytes 7
 abbrev sizedBy : ℕ → Room → ℕ
 sizedBy n (over k) = n + k
 sizedBy n (below k) = n - k
+sizedBy n (unused k) = n + k
 
 abbrev lent : ExplainedCase → List ℕ
 lent c = replicate (sizedBy (length (lines (c .lines))) (c .room)) 7
@@ -63,6 +65,7 @@ given c = (
 abbrev left : List ℕ → Room → Printed × List ℕ
 left l (over k) = (Bytes (length l), l ++ replicate k 7)
 left l (below k) = (Short, replicate (length l - k) 7)
+left l (unused k) = (Short, replicate (length l + k) 7)
 
 abbrev wanted : ExplainedCase → Printed × List ℕ
 wanted c = left (lines (c .lines)) (c .room)
@@ -102,14 +105,14 @@ sizes-worked = refl
 
 -- THE RANGES of them: the same of `ranges_text`
 
-abbrev rangedText : RangeCase → List ℕ
-rangedText c = ranged maxFrames (countsOf (c .least)) (countsOf (c .greatest)) (lines (c .text))
-
 abbrev lentRanges : RangeCase → List ℕ
 lentRanges c = replicate (sizedBy (length (lines (c .lines))) (c .room)) 7
 
 abbrev givenRanges : RangeCase → Printed × List ℕ
-givenRanges c = (printed (rangedText c) (length (lentRanges c)), printedAfter (rangedText c) (lentRanges c))
+givenRanges c = (
+  rangesPrinted maxFrames (c .least) (c .greatest) (lines (c .text)) (length (lentRanges c)),
+  rangesAfter maxFrames (c .least) (c .greatest) (lines (c .text)) (lentRanges c),
+)
 
 abbrev wantedRanges : RangeCase → Printed × List ℕ
 wantedRanges c = left (lines (c .lines)) (c .room)

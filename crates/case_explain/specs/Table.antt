@@ -1,15 +1,17 @@
 -- Small texts and their lines for people, each the whole text and all of its lines, written by hand (docs/EXPLAIN.md).
-use Prim.Native.Nat.{ℕ}
+use Prim.Native.Nat.{ℕ, _-_}
 use Prim.Native.String.{String}
-use mathlib.Core.List.{List, [], _∷_}
+use mathlib.Core.List.{List, [], _∷_, _++_}
+use lib.ListN.{length, replicate}
 use Rattle.answers.specs.Limit.{maxFrames}
 use Rattle.rule_rows.specs.declared.Pass.{Pass}
 use Rattle.rule_rows.specs.declared.Pass.the-variants.{First, Second}
 use Rattle.case_file.specs.Table.{paper, composes, noCount}
 
--- the length of an output buffer: so many bytes more than the lines have, or so many fewer
+-- the length of an output buffer: so many bytes more than the lines have, or so many fewer; or so many more, and number
+-- 3 all the same, since a table of counts is too short
 pub data Room : Type 0 where
-  over below : ℕ → Room
+  over below unused : ℕ → Room
 
 -- a text, a limit of frames and a pass, all of its lines, and an output buffer's length
 pub record ExplainedCase : Type 0 where
@@ -211,16 +213,20 @@ counted =
     "03020000000000000000000000000000" ∷
     "03020000000000000000000000000000" ∷ []
 
+-- a table of 1,024 counts: these, and zeros
+abbrev padded : List ℕ → List ℕ
+padded l = l ++ replicate (1024 - length l) 0
+
 -- one line
 abbrev faulty : List String → List ℕ → List ℕ → String → RangeCase
-faulty t y z l = record { text = t; least = y; greatest = z; lines = l ∷ []; room = over 0 }
+faulty t y z l = record { text = t; least = padded y; greatest = padded z; lines = l ∷ []; room = over 0 }
 
 abbrev pub ranges : List RangeCase
 ranges =
     record {
       text = counted;
-      least = 1 ∷ 2 ∷ [];
-      greatest = 5 ∷ 2 ∷ [];
+      least = padded (1 ∷ 2 ∷ []);
+      greatest = padded (5 ∷ 2 ∷ []);
       lines =
           "type 0  f32  align 4, size 4 to 4" ∷
           "type 1  vec3<f32>  align 16, size 12 to 12" ∷
@@ -236,14 +242,22 @@ ranges =
           "01010000020400000000000000000000" ∷
           "01080000010000000000000004000000" ∷
           "03020000000000000000000000000000" ∷ [];
-      least = 1 ∷ [];
-      greatest = 1073741824 ∷ [];
+      least = padded (1 ∷ []);
+      greatest = padded (1073741824 ∷ []);
       lines = "type 0  f32  align 4, size 4 to 4" ∷ "type 1  array<f32, override 0>  refused 44 huge: type 1" ∷ [];
       room = over 0;
     }
-    -- number 45 comes before any size; a count that is not there is 0
+    -- number 45 comes before any size
     ∷ faulty counted (1 ∷ 3 ∷ []) (5 ∷ 2 ∷ []) "number 45, span: override 1"
     ∷ faulty counted (1 ∷ []) (5 ∷ []) "number 45, span: override 1"
+    -- a table of 1,023 counts is too short, and nothing is written
+    ∷ record {
+      text = counted;
+      least = padded (1 ∷ 2 ∷ []);
+      greatest = 5 ∷ 2 ∷ replicate 1021 0;
+      lines = "number 45, span: override 1" ∷ [];
+      room = unused 4;
+    }
     -- the file's own number comes first
     ∷ faulty noCount [] [] "line 2: number 5, field: a byte is outside its values"
     ∷ []

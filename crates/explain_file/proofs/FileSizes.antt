@@ -14,7 +14,7 @@ use Rattle.archive.specs.declared.Starts.{Starts}
 use Rattle.frames.specs.declared.Frame.{Frame}
 use Rattle.archive.specs.Starts.{startsOf, typeCount, overrideCount}
 use Rattle.rule_sizes.specs.Sizes.{framesOf, sizeFrame, sizeFrames}
-use Rattle.rule_sizes.specs.ForProofs.{framesWritten}
+use Rattle.rule_sizes.specs.Sizes.{framesWritten}
 use Rattle.rule_ranges.specs.Counts.{Counts}
 use Rattle.type_sizes.proofs.Written.{frames-long}
 use Rattle.rule_file.specs.declared.OptionUsize.the-variants as Ou

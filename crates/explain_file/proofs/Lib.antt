@@ -3,3 +3,4 @@ pub mod File
 pub mod FileSizes
 pub mod Fits
 pub mod Alike
+pub mod Said

@@ -35,12 +35,12 @@ ghost use lib.ListN.{length};
 ghost use Rattle.answers.specs.Limit.{maxFrames, maxFrameBytes, maxAnswerBytes};
 ghost use Rattle.answers.specs.Numbers.{printedSaid};
 ghost use Rattle.rule_file.specs.Printed.{printed, printedAfter};
-ghost use Rattle.rule_explain.specs.Explained.{nextRow, maxExplainedBytes, answerLines, faultLines, linesOf};
+ghost use Rattle.rule_explain.specs.Explained.{nextRow, maxExplainedBytes, answerLines, faultLines, linesOf, linesSaid};
 ghost use Rattle.rule_explain.specs.Explained.{explained};
 ghost use Rattle.archive.specs.Starts.{typeCount, overrideCount};
 ghost use Rattle.rule_ranges.specs.Ranges.{countsOf};
 ghost use Rattle.rule_explain.specs.Sized.{sizeLines, sizesOf, sized, spanLines, rangesIn, rangesOf, ranged};
-ghost use Rattle.rule_explain.specs.Sized.{maxSizedBytes};
+ghost use Rattle.rule_explain.specs.Sized.{maxSizedBytes, rangesPrinted, rangesSaid, rangesAfter};
 ghost use Rattle.explain_file.specs.ForProofs.{Shown};
 
 // The bytes that the lines of any file fit into, at most 142 each.
@@ -136,7 +136,7 @@ fn print(lines: &[u8], out: &mut [u8]) -> Printed
 pub fn explain_text(text: &[u8], limit: u32, pass: Pass, out: &mut [u8]) -> Printed
     ensures outcome { λ r. ⌜ r ≡ printed (explained pass limit (now (text .entry))) (length (now (out .entry))) ⌝ }
     ensures said { λ r. ⌜ printedSaid r
-        ≡ printedSaid (printed (explained pass limit (now (text .entry))) (length (now (out .entry)))) ⌝ }
+        ≡ linesSaid (explained pass limit (now (text .entry))) (length (now (out .entry))) ⌝ }
     ensures out { λ r. ⌜ now (out .exit)
         ≡ printedAfter (explained pass limit (now (text .entry))) (now (out .entry)) ⌝ }
 {
@@ -209,7 +209,7 @@ fn sizes_with(
 pub fn sizes_text(text: &[u8], limit: u32, out: &mut [u8]) -> Printed
     ensures outcome { λ r. ⌜ r ≡ printed (sized limit (now (text .entry))) (length (now (out .entry))) ⌝ }
     ensures said { λ r. ⌜ printedSaid r
-        ≡ printedSaid (printed (sized limit (now (text .entry))) (length (now (out .entry)))) ⌝ }
+        ≡ linesSaid (sized limit (now (text .entry))) (length (now (out .entry))) ⌝ }
     ensures out { λ r. ⌜ now (out .exit) ≡ printedAfter (sized limit (now (text .entry))) (now (out .entry)) ⌝ }
 {
     let mut frames = [0u8; MAX_FRAME_BYTES];
@@ -285,22 +285,11 @@ fn ranges_with(
     }
 }
 
-// The ranges of the sizes of a file's types between two tables of counts, where an entry that is not there is 0: as
-// `sizes_text`, and one line where an override is at fault (45). MAX_SIZED_BYTES are room for any file's
-// (`ranged-fits`).
-pub fn ranges_text(
-    text: &[u8],
-    limit: u32,
-    least: &[u32],
-    greatest: &[u32],
-    out: &mut [u8],
-) -> Printed
+// The ranges of the sizes of a file's types between two tables of counts.
+fn print_ranges(text: &[u8], limit: u32, least: &[u32], greatest: &[u32], out: &mut [u8]) -> Printed
     ensures outcome { λ r. ⌜ r
         ≡ printed (ranged limit (countsOf (now (least .entry))) (countsOf (now (greatest .entry)))
         (now (text .entry))) (length (now (out .entry))) ⌝ }
-    ensures said { λ r. ⌜ printedSaid r
-        ≡ printedSaid (printed (ranged limit (countsOf (now (least .entry))) (countsOf (now (greatest .entry)))
-        (now (text .entry))) (length (now (out .entry)))) ⌝ }
     ensures out { λ r. ⌜ now (out .exit)
         ≡ printedAfter (ranged limit (countsOf (now (least .entry))) (countsOf (now (greatest .entry)))
         (now (text .entry))) (now (out .entry)) ⌝ }
@@ -320,4 +309,29 @@ pub fn ranges_text(
         &mut lines,
     );
     print(&lines[..m], out)
+}
+
+// The same between two tables of 1,024 counts or more: as `sizes_text`, and one line where an override is at fault
+// (45).
+// A table of fewer counts is number 3, and nothing is written. MAX_SIZED_BYTES are room for any file's (`ranged-fits`).
+pub fn ranges_text(
+    text: &[u8],
+    limit: u32,
+    least: &[u32],
+    greatest: &[u32],
+    out: &mut [u8],
+) -> Printed
+    ensures outcome { λ r. ⌜ r
+        ≡ rangesPrinted limit (now (least .entry)) (now (greatest .entry)) (now (text .entry))
+        (length (now (out .entry))) ⌝ }
+    ensures said { λ r. ⌜ printedSaid r
+        ≡ rangesSaid limit (now (least .entry)) (now (greatest .entry)) (now (text .entry))
+        (length (now (out .entry))) ⌝ }
+    ensures out { λ r. ⌜ now (out .exit)
+        ≡ rangesAfter limit (now (least .entry)) (now (greatest .entry)) (now (text .entry)) (now (out .entry)) ⌝ }
+{
+    if (least.len() < 1024) | (greatest.len() < 1024) {
+        return Printed::Short;
+    }
+    print_ranges(text, limit, least, greatest, out)
 }

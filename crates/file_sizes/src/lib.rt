@@ -23,15 +23,14 @@ ghost use Rattle.rule_sizes.specs.Sizes.{sizeSaid};
 ghost use Rattle.rule_file.specs.File.{framesAfter};
 ghost use Rattle.archive.specs.Starts.{typeCount, overrideCount};
 ghost use Rattle.rule_ranges.specs.Ranges.{countsOf, typeRangeIn, typeRangeSaid};
-ghost use Rattle.rule_file_sizes.specs.Sizes.{typeSize};
-ghost use Rattle.rule_file_sizes.specs.Ranges.{sizeRange, framesRanged};
+ghost use Rattle.rule_file_sizes.specs.Sizes.{typeSize, typeSizeSaid};
+ghost use Rattle.rule_file_sizes.specs.Ranges.{sizeRange, sizeRangeSaid, framesRanged};
 
 // Alignment and size of type n, or 42, 43 or 44 with the lowest faulty type; 6 where there is no such type. The frame
 // buffer is as `read_file` leaves it.
 pub fn type_size(text: &[u8], limit: u32, frames: &mut [u8], n: TypeNumber) -> TypeSize
     ensures outcome { λ r. ⌜ r ≡ typeSize limit (now (text .entry)) (length (now (frames .entry))) n ⌝ }
-    ensures said { λ r. ⌜ sizeSaid r
-        ≡ sizeSaid (typeSize limit (now (text .entry)) (length (now (frames .entry))) n) ⌝ }
+    ensures said { λ r. ⌜ sizeSaid r ≡ typeSizeSaid limit (now (text .entry)) (length (now (frames .entry))) n ⌝ }
     ensures frames { λ r. ⌜ now (frames .exit) ≡ framesAfter limit (now (text .entry)) (now (frames .entry)) NotLent ⌝ }
 {
     let read = read_file(text, limit, frames);
@@ -78,8 +77,8 @@ pub fn size_range(
         ≡ sizeRange limit (now (text .entry)) (length (now (frames .entry))) (now (least .entry))
         (now (greatest .entry)) n ⌝ }
     ensures said { λ r. ⌜ typeRangeSaid r
-        ≡ typeRangeSaid (sizeRange limit (now (text .entry)) (length (now (frames .entry))) (now (least .entry))
-        (now (greatest .entry)) n) ⌝ }
+        ≡ sizeRangeSaid limit (now (text .entry)) (length (now (frames .entry))) (now (least .entry))
+        (now (greatest .entry)) n ⌝ }
     ensures frames { λ r. ⌜ now (frames .exit)
         ≡ framesRanged limit (now (text .entry)) (now (frames .entry)) (now (least .entry)) (now (greatest .entry)) ⌝ }
 {

@@ -1,5 +1,5 @@
 -- The claim of our readers, from the claim for any rules (rule/proofs/Later.antt): the bytes of an outcome are 22
--- exactly where the outcome is newer, since our answers and verdicts are in range (typifier_laws, verdict_laws); and
+-- exactly where the outcome is newer, since our answers and verdicts are in range (law_rows, law_verdicts); and
 -- what is handed back of an accepted text, in the answer buffer or for one row, are the bytes of these outcomes.
 use Prim.Native.Nat.{ℕ, suc, _+_, _*_, _≤_, _<_}
 use native.Mathlib.Omega.{arith}

@@ -149,7 +149,7 @@ module _ (fr : List ℕ) where
     kind-alike Rk.CooperativeLoad f h = refl
     kind-alike Rk.CooperativeMultiplyAdd f h = refl
 
-  binary-number : (b : ℕ) → rowKindOf b ≡ Rk.Binary → b ≡ 18
+  pub binary-number : (b : ℕ) → rowKindOf b ≡ Rk.Binary → b ≡ 18
   binary-number b m = go (decLt b 35)
     where
       go : Dec (b < 35) → b ≡ 18

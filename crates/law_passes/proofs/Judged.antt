@@ -44,17 +44,17 @@ of-mismatch (some u) e = never (cc)
 
 module _ (fr : List ℕ) (good : Good fr) (n : ℕ) (here : n < rowCount (startsOf fr)) (is : IsBinary fr n) where
   -- the row by its bytes
-  binary-shown : see fr (kind (record { 0 = n }))
+  pub binary-shown : see fr (kind (record { 0 = n }))
       ≡ some (Row.binary (operatorAt fr n) (record { 0 = leftAt fr n }) (record { 0 = rightAt fr n }))
   unfolding rowIn rowOf
   binary-shown = rw (row-there fr n here, is)
 
-  earlier : ShownInRange (startsOf fr) (record { 0 = n })
+  pub earlier : ShownInRange (startsOf fr) (record { 0 = n })
       (Row.binary (operatorAt fr n) (record { 0 = leftAt fr n }) (record { 0 = rightAt fr n }))
   earlier = rw binary-shown at (row-seen fr good (record { 0 = n }) (row-there fr n here))
 
   -- an earlier row's answer
-  among-rows : (m : ℕ) → m < n → among (answers (see fr) (typing Pa.Second) (λ k. newer) n) (record { 0 = m })
+  pub among-rows : (m : ℕ) → m < n → among (answers (see fr) (typing Pa.Second) (λ k. newer) n) (record { 0 = m })
       ≡ rowAnswer Pa.Second (see fr) m
   among-rows m l = in-order-at _ (told absent) n m l
 

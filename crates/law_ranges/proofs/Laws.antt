@@ -1,159 +1,50 @@
 -- The two laws of sizes at given counts, for every accepted file, both ways. `has-at-when`: what is worked out of a
--- type is this alignment and size exactly where the type has them at these counts. `fault-at-when`: it is this number
--- at this type exactly where that is the lowest faulty type that it rests on. One way by Meant.antt; the other because
--- what a type has, and a fault of its own, is what is worked out of it.
-use Prim.Native.Nat.{ℕ, _*_, _<_}
-use native.Mathlib.Omega.{arith}
+-- type is this alignment and size exactly where the type has them. `fault-at-when`: it is this number at this type
+-- exactly where that is the lowest faulty type that it rests on. One way by Meant.antt; the other because what a type
+-- has, and a fault of its own, is what is worked out of it (Own.antt).
+use Prim.Native.Nat.{ℕ}
 use mathlib.Core.Path.{_≡_, refl, sym, _∙_}
-use mathlib.Core.Bool.{cond}
 use mathlib.Core.List.{List}
 use mathlib.Core.Logic.{_↔_}
-use lib.Dec.{ltb}
-use borrow.Author.Tests.{lt-ltb, le-ltb}
 use Rattle.ir.specs.declared.TypeNumber.{TypeNumber}
-use Rattle.ir.specs.declared.ItemNumber.{ItemNumber}
-use Rattle.ir.specs.declared.MemberNumber.{MemberNumber}
-use Rattle.ir.specs.declared.ArraySize.{ArraySize}
-use Rattle.ir.specs.declared.ArraySize.the-variants as As
-use Rattle.ir.specs.declared.TypeInner.the-variants as Ti
-use Rattle.ir.specs.declared.TypeForm.the-variants as Tf
 use Rattle.archive.specs.Starts.{startsOf}
-use Rattle.archive.specs.Access.{typeAt}
 use Rattle.law_rows.proofs.Good.{Good}
 use Rattle.rule_sizes.specs.declared.Alignment.{Alignment}
 use Rattle.rule_sizes.specs.declared.SizeFault.{SizeFault}
-use Rattle.rule_sizes.specs.declared.SizeFault.the-variants.{Unmeasured, Huge}
 use Rattle.rule_sizes.specs.declared.Measure.{Measure}
 use Rattle.rule_sizes.specs.declared.Measure.the-variants.{Fills, Faulty}
-use Rattle.rule_sizes.specs.Sizes.{arrayOf, measureIn}
-use Rattle.rule_sizes.specs.Meaning.{structMember, Greatest, Fault}
-use Rattle.law_sizes.proofs.Greatest.{greatest-top}
-use Rattle.law_sizes.proofs.Folded.{Folded, folded}
-use Rattle.law_sizes.proofs.Meant.{strided, strided-is}
-use Rattle.law_sizes.proofs.Laws.{untrue, has-is, fault-is, Low, array-low, lower-yet, low, same-number}
-use Rattle.rule_ranges.specs.Counts.{Counts, freshParts, freshStruct, measureAt}
-use Rattle.rule_ranges.specs.Meaning.{Over}
-use Rattle.rule_ranges.specs.MeaningAt.{Holds, Fresh, HasAt, RestsOnAt, FaultAt, LowestFaultAt}
-use Rattle.law_ranges.proofs.Same.{fixed-same, holds-when}
-use Rattle.law_ranges.proofs.Grow.{by-counts}
-use Rattle.law_ranges.proofs.Laid.{fresh-size, fresh-laid, fresh-broken}
-use Rattle.law_ranges.proofs.Meant.{is-free, rests-free, meant-at}
+use Rattle.law_sizes.proofs.Own.{Low}
+use Rattle.law_sizes.proofs.Laws.{same-number}
+use Rattle.rule_ranges.specs.Counts.{Counts, measureAt}
+use Rattle.rule_ranges.specs.MeaningAt.{HasAt, RestsOnAt, FaultAt, LowestFaultAt}
+use Rattle.law_ranges.proofs.Ordered.{OrderedAt}
+use Rattle.law_ranges.proofs.Meant.{meant-at}
+use Rattle.law_ranges.proofs.Own as O
+use Rattle.law_ranges.proofs.FirstAt.{fault-at-ordered}
 
 module _ (fr : List ℕ) (good : Good fr) (c : Counts) where
   abbrev at : TypeNumber → Measure
   at n = measureAt fr (startsOf fr) c n
 
-  -- WHAT A TYPE HAS is worked out of it
-
-  pending-holds : (n b : TypeNumber) (o : ItemNumber) (stride : ℕ)
-      → typeAt fr n ≡ Tf.Known (Ti.Array b (As.Pending o) stride) → Holds fr n
-  pending-holds n b o stride e = (o, Over.pending o n b stride e)
-
-  -- a pending array whose element is fixed
-  of-array : (n b : TypeNumber) (o : ItemNumber) (stride : ℕ)
-      → typeAt fr n ≡ Tf.Known (Ti.Array b (As.Pending o) stride) → (Holds fr b → ⊥)
-      → at n ≡ arrayOf n (measureIn fr (startsOf fr) b) (c o) stride
-  of-array n b o stride e f =
-      by-counts fr good c n _ e (holds-when fr good n .1 (pending-holds n b o stride e))
-      ∙ rw (is-free fr good c b f, fixed-same fr good c b (is-free fr good c b f))
-
-  of-struct : (n : TypeNumber) (first : MemberNumber) (count span : ℕ)
-      → typeAt fr n ≡ Tf.Known (Ti.Struct first count span) → Holds fr n
-      → at n ≡ freshStruct n (freshParts fr (startsOf fr) at first count)
-  of-struct n first count span e h = by-counts fr good c n _ e (holds-when fr good n .1 h)
-
-  -- a struct whose members have sizes
-  of-members : (n : TypeNumber) (first : MemberNumber) (count span : ℕ) (aligns : ℕ → Alignment) (sizes offsets : ℕ
-      → ℕ) (a : Alignment) (z : ℕ)
-      → typeAt fr n ≡ Tf.Known (Ti.Struct first count span) → Holds fr n
-      → ((i : ℕ) → i < count → at (structMember fr first i .ty) ≡ Fills (aligns i) (sizes i)) → Greatest aligns count a
-      → Fresh count aligns sizes offsets a z → at n ≡ cond (ltb z 4294967296) (Fills a z) (Faulty Huge n)
-  unfolding freshStruct
-  of-members n first count span aligns sizes offsets a z e held h g f =
-      let p = fresh-laid fr at first aligns sizes count h in
-      of-struct n first count span e held
-      ∙ rw (p .is, greatest-top aligns count a g, fresh-size aligns sizes count offsets a z f (omega (arith, g .there)))
-
-  pub has-at-is : (n : TypeNumber) (a : Alignment) (z : ℕ) → HasAt fr c n a z
-      → measureAt fr (startsOf fr) c n ≡ Fills a z
-  unfolding arrayOf
-  has-at-is n a z (HasAt.fixed m b y f h) = fixed-same fr good c n (is-free fr good c n f) ∙ has-is fr good n a z h
-  has-at-is n a z (HasAt.array m b o stride k y e f h s l) =
-      of-array n b o stride e f
-      ∙ rw (has-is fr good b k y h, strided-is fr k y stride s, lt-ltb (c o * stride) 4294967296 l)
-  has-at-is n a z (HasAt.struct m first count span aligns sizes offsets k y e held h g f l) =
-      of-members n first count span aligns sizes offsets a z e held
-      (λ i q. has-at-is _ (aligns i) (sizes i) (h i q)) g f ∙ rw (lt-ltb z 4294967296 l)
-
-  -- A FAULT OF ITS OWN is worked out of it
-  over-out : (n b : TypeNumber) (z : ArraySize) (stride : ℕ) → typeAt fr n ≡ Tf.Known (Ti.Array b z stride)
-      → Holds fr b → at n ≡ Faulty Unmeasured n
-  over-out n b (As.Constant x) stride e h =
-      by-counts fr good c n _ e (holds-when fr good n .1 (h .0, Over.element (h .0) n b _ stride e (h .1)))
-  over-out n b (As.Pending o) stride e h =
-      by-counts fr good c n _ e (holds-when fr good n .1 (pending-holds n b o stride e))
-      ∙ rw (holds-when fr good b .1 h)
-  over-out n b As.Dynamic stride e h =
-      by-counts fr good c n _ e (holds-when fr good n .1 (h .0, Over.element (h .0) n b _ stride e (h .1)))
-
+  -- a fault of its own is worked out of a type, so that it has no other
   pub fault-at-is : (n : TypeNumber) (k : SizeFault) → FaultAt fr c n k → measureAt fr (startsOf fr) c n ≡ Faulty k n
-  unfolding arrayOf
-  fault-at-is n k (FaultAt.fixed m j f h) = fixed-same fr good c n (is-free fr good c n f) ∙ fault-is fr good n k h
-  fault-at-is n k (FaultAt.over m b z stride e h) = over-out n b z stride e h
-  fault-at-is n k (FaultAt.stride m b o stride a z e f h s) =
-      of-array n b o stride e f ∙ rw (has-is fr good b a z h, untrue _ (λ q. s (strided fr a z stride q)))
-  fault-at-is n k (FaultAt.array m b o stride a z e f h s l) =
-      of-array n b o stride e f
-      ∙ rw (has-is fr good b a z h, strided-is fr a z stride s, le-ltb (c o * stride) 4294967296 l)
-  fault-at-is n k (FaultAt.struct m first count span aligns sizes offsets a z e held h g f l) =
-      of-members n first count span aligns sizes offsets a z e held
-      (λ i q. has-at-is _ (aligns i) (sizes i) (h i q)) g f ∙ rw (le-ltb z 4294967296 l)
-
-  -- NO LOWER FAULT: where a type rests on one with a fault of its own, the fault that it is given is at that type or a
-  -- lower one
-
-  -- a fixed type's fault is request 5's
-  fixed-fault : (j : TypeNumber) (l : SizeFault) → (Holds fr j → ⊥) → FaultAt fr c j l → Fault fr j l
-  fixed-fault j l f (FaultAt.fixed m k g h) = h
-  fixed-fault j l f (FaultAt.over m b z stride e h) = absurd (f (h .0, Over.element (h .0) j b z stride e (h .1)))
-  fixed-fault j l f (FaultAt.stride m b o stride a z e g h s) = absurd (f (pending-holds j b o stride e))
-  fixed-fault j l f (FaultAt.array m b o stride a z e g h s q) = absurd (f (pending-holds j b o stride e))
-  fixed-fault j l f (FaultAt.struct m first count span aligns sizes offsets a z e held h g q r) = absurd (f held)
-
-  members-low : (j n : TypeNumber) (first : MemberNumber) (count i : ℕ) → i < count → Folded fr at first count
-      → Low fr good j (at (structMember fr first i .ty))
-      → Low fr good j (freshStruct n (freshParts fr (startsOf fr) at first count))
-  unfolding freshStruct
-  members-low j n first count i l (Folded.filled all) h = absurd (rw (all i l) at h)
-  members-low j n first count i l (Folded.broken k p b o) h =
-      rw (fresh-broken fr at first count k p b)
-      (lower-yet fr good j p (at (structMember fr first i .ty)) (λ r q e. o .low i r q l e) h)
+  fault-at-is n k h = O.own-at-is fr good c n k (fault-at-ordered fr good c n k .0 h)
 
   low-at : (n j : TypeNumber) (l : SizeFault) → RestsOnAt fr n j → FaultAt fr c j l → Low fr good j (at n)
-  low-at n j l (RestsOnAt.itself m) h = rw (fault-at-is n l h) (omega arith)
-  low-at n j l (RestsOnAt.fixed m i f r) h =
-      rw (fixed-same fr good c n (is-free fr good c n f))
-      (low fr good n j l r (fixed-fault j l (rests-free fr good c n j r f) h))
-  low-at n j l (RestsOnAt.element m b i o stride e f r) h =
-      rw (of-array n b o stride e f)
-      (array-low fr good j n (measureIn fr (startsOf fr) b) (c o) stride
-      (low fr good b j l r (fixed-fault j l (rests-free fr good c b j r f) h)))
-  low-at n j l (RestsOnAt.part m i first count span p e held q r) h =
-      rw (of-struct n first count span e held)
-      (members-low j n first count p q (folded fr at first count) (low-at _ j l r h))
+  low-at n j l r h = O.low-at fr good c n j l r (fault-at-ordered fr good c j l .0 h)
 
   -- THE LAWS
 
   pub has-at-when : (n : TypeNumber) (a : Alignment) (z : ℕ)
       → (measureAt fr (startsOf fr) c n ≡ Fills a z) ↔ HasAt fr c n a z
-  has-at-when n a z = (λ e. rw e at (meant-at fr good c n), has-at-is n a z)
+  has-at-when n a z = (λ e. rw e at (meant-at fr good c n), O.has-at-is fr good c n a z)
 
   lowest-fault-at : (n m : TypeNumber) (k : SizeFault) → at n ≡ Faulty k m → LowestFaultAt fr c n m k
   lowest-fault-at n m k e =
-      let h : RestsOnAt fr n m × FaultAt fr c m k = rw e at (meant-at fr good c n) in
+      let h : RestsOnAt fr n m × OrderedAt fr c m k = rw e at (meant-at fr good c n) in
       record {
         rests = h .0;
-        fault = h .1;
+        fault = fault-at-ordered fr good c m k .1 (h .1);
         lowest = λ j l r f. let g : Low fr good j (Faulty k m) = rw e at
             (low-at n j l r f) in g;
       }

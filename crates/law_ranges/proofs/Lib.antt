@@ -4,7 +4,11 @@ pub mod Grow
 pub mod Ranges
 pub mod Moves
 pub mod Steps
+pub mod Raised
 pub mod Laid
+pub mod Ordered
 pub mod Meant
+pub mod Own
+pub mod FirstAt
 pub mod Laws
 pub mod Free

@@ -30,12 +30,14 @@ use Rattle.rule_sizes.specs.Meaning.{structMember, RestsOn}
 use Rattle.law_sizes.proofs.Greatest.{topOf, top-greatest}
 use Rattle.law_sizes.proofs.Folded.{never, alignIn, sizeIn, Folded, folded}
 use Rattle.law_sizes.proofs.Meant.{Meant, strided, strided-is, meant}
-use Rattle.law_sizes.proofs.Laws.{untrue}
+use Rattle.law_sizes.proofs.Own.{untrue}
+use Rattle.law_sizes.proofs.First.{fault-ordered}
 use Rattle.law_sizes.proofs.Fixed.{PartOf}
 use Rattle.rule_ranges.specs.Pending.{holdsPending}
 use Rattle.rule_ranges.specs.Counts.{Counts, freshParts, freshStruct, countedForm, measureAt}
 use Rattle.rule_ranges.specs.Meaning.{Over}
-use Rattle.rule_ranges.specs.MeaningAt.{Holds, HasAt, RestsOnAt, FaultAt}
+use Rattle.rule_ranges.specs.MeaningAt.{Holds, HasAt, RestsOnAt}
+use Rattle.law_ranges.proofs.Ordered.{OrderedAt}
 use Rattle.law_ranges.proofs.Shapes.{Shape, shape, by-parts, holds-fixed}
 use Rattle.law_ranges.proofs.Same.{fixed-same, holds-when}
 use Rattle.law_ranges.proofs.Grow.{by-counts}
@@ -73,29 +75,34 @@ module _ (fr : List ℕ) (good : Good fr) (c : Counts) where
   -- WHAT A MEASURE OF TYPE n MEANS
   abbrev pub MeantAt : TypeNumber → Measure → Type 0
   MeantAt n (Fills a z) = HasAt fr c n a z
-  MeantAt n (Faulty k p) = RestsOnAt fr n p × FaultAt fr c p k
+  MeantAt n (Faulty k p) = RestsOnAt fr n p × OrderedAt fr c p k
 
-  own : (n : TypeNumber) (k : SizeFault) → FaultAt fr c n k → RestsOnAt fr n n × FaultAt fr c n k
+  own : (n : TypeNumber) (k : SizeFault) → OrderedAt fr c n k → RestsOnAt fr n n × OrderedAt fr c n k
   own n k h = (RestsOnAt.itself n, h)
 
   fixed-meant : (n : TypeNumber) → (Holds fr n → ⊥) → (m : Measure) → Meant fr n m → MeantAt n m
   fixed-meant n f (Fills a z) h = HasAt.fixed n a z f h
-  fixed-meant n f (Faulty k p) h = (RestsOnAt.fixed n p f (h .0), FaultAt.fixed p k (rests-free n p (h .0) f) (h .1))
+  fixed-meant n f (Faulty k p) h = (
+    RestsOnAt.fixed n p f (h .0),
+    OrderedAt.fixed p k (rests-free n p (h .0) f) (fault-ordered fr good p k .1 (h .1)),
+  )
 
   -- AN ARRAY
   array-meant : (n b : TypeNumber) (o : ItemNumber) (stride : ℕ)
       → typeAt fr n ≡ Tf.Known (Ti.Array b (As.Pending o) stride) → (Holds fr b → ⊥) → (m : Measure)
       → Meant fr b m → MeantAt n (arrayOf n m (c o) stride)
   unfolding arrayOf
-  array-meant n b o stride e f (Faulty k p) h =
-      (RestsOnAt.element n b p o stride e f (h .0), FaultAt.fixed p k (rests-free b p (h .0) f) (h .1))
+  array-meant n b o stride e f (Faulty k p) h = (
+    RestsOnAt.element n b p o stride e f (h .0),
+    OrderedAt.fixed p k (rests-free b p (h .0) f) (fault-ordered fr good p k .1 (h .1)),
+  )
   array-meant n b o stride e f (Fills a z) h =
       by-test (MeantAt n) (isMultiple a stride && leb z stride)
       (λ q. by-test (MeantAt n) (ltb (c o * stride) 4294967296)
       (λ l. HasAt.array n b o stride a z e f h (strided fr a z stride q) (ltb-true (c o * stride) 4294967296 l))
       (λ l. own n Huge
-      (FaultAt.array n b o stride a z e f h (strided fr a z stride q) (ltb-false (c o * stride) 4294967296 l))))
-      (λ q. own n Misplaced (FaultAt.stride n b o stride a z e f h (λ s. true-false (sym (strided-is fr a z stride s)
+      (OrderedAt.array n b o stride a z e f h (strided fr a z stride q) (ltb-false (c o * stride) 4294967296 l))))
+      (λ q. own n Misplaced (OrderedAt.stride n b o stride a z e f h (λ s. true-false (sym (strided-is fr a z stride s)
       ∙ q))))
 
   -- A STRUCT
@@ -125,7 +132,7 @@ module _ (fr : List ℕ) (good : Good fr) (c : Counts) where
         (λ l. HasAt.struct n first count span aligns sizes (offsetOf aligns sizes) a z e held each g f
         (ltb-true z 4294967296 l))
         (λ l. own n Huge
-        (FaultAt.struct n first count span aligns sizes (offsetOf aligns sizes) a z e held each g f
+        (OrderedAt.struct n first count span aligns sizes (offsetOf aligns sizes) a z e held each g f
         (ltb-false z 4294967296 l))))
     struct-meant some h (Folded.broken k p b o) =
         let q : MeantAt (structMember fr first (o .one) .ty) (Faulty k p) = rw (o .is) at (h (o .one) (o .there)) in
@@ -150,17 +157,17 @@ module _ (fr : List ℕ) (good : Good fr) (c : Counts) where
       → MeantAt n (countedForm fr (startsOf fr) holds c at n t)
   form-meant n t e (Shape.array b (As.Constant x) stride) h ih =
       let q : holds b ≡ true = (rw e at (sym (holds-fixed fr good n)))
-      ∙ h in own n Unmeasured (FaultAt.over n b _ stride e (holds-when fr good b .0 q))
+      ∙ h in own n Unmeasured (OrderedAt.over n b _ stride e (holds-when fr good b .0 q))
   form-meant n t e (Shape.array b (As.Pending o) stride) h ih = go (holds b) refl
     where
       go : (x : Bool) → holds b ≡ x → MeantAt n (cond x (Faulty Unmeasured n) (arrayOf n (at b) (c o) stride))
-      go true q = own n Unmeasured (FaultAt.over n b _ stride e (holds-when fr good b .0 q))
+      go true q = own n Unmeasured (OrderedAt.over n b _ stride e (holds-when fr good b .0 q))
       go false q =
           rw (fixed-same fr good c b q)
           (array-meant n b o stride e (free b q) (measureIn fr (startsOf fr) b) (meant fr good b))
   form-meant n t e (Shape.array b As.Dynamic stride) h ih =
       let q : holds b ≡ true = (rw e at (sym (holds-fixed fr good n)))
-      ∙ h in own n Unmeasured (FaultAt.over n b _ stride e (holds-when fr good b .0 q))
+      ∙ h in own n Unmeasured (OrderedAt.over n b _ stride e (holds-when fr good b .0 q))
   form-meant n t e (Shape.struct first count span) h ih =
       let held = holds-when fr good n .0 h in
       struct-meant n first count span e held (some-member n first count span e held)

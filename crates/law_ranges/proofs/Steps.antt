@@ -30,22 +30,23 @@ use Rattle.law_sizes.proofs.Greatest.{greater-left, greater-right}
 use Rattle.law_sizes.proofs.Folded.{never}
 use Rattle.rule_ranges.specs.Pending.{holdsPending}
 use Rattle.rule_ranges.specs.Counts.{Counts, freshOffset, freshParts, freshStruct, measureAt}
-use Rattle.rule_ranges.specs.Meaning.{Raised, Beside, sum, orHuge, StepsTo}
+use Rattle.rule_ranges.specs.Meaning.{AtMost, Raised, Beside, sum, orHuge, StepsTo}
 use Rattle.law_ranges.proofs.Shapes.{holds-fixed}
 use Rattle.law_ranges.proofs.Same.{fixed-same, same-counts}
+use Rattle.law_ranges.proofs.Free.{over-there}
 use Rattle.law_ranges.proofs.Grow.{by-counts, fills-below, only-huge}
 use Rattle.law_ranges.proofs.Moves.{round-moves, rounded, both-move, both-times}
 
 -- RAISED COUNTS are no lower
 
-item-is : (p o : ItemNumber) → p .0 ≡ o .0 → p ≡ o
+pub item-is : (p o : ItemNumber) → p .0 ≡ o .0 → p ≡ o
 item-is p o e = ap (λ (x : ℕ). record { 0 = x }) e
 
-raised-above : (o : ItemNumber) (c d : Counts) → Raised o c d → (p : ItemNumber) → c p ≤ d p
-raised-above o c d r p = go (decLt (p .0) (o .0)) (decLt (o .0) (p .0))
+pub raised-above : (fr : List ℕ) (o : ItemNumber) (c d : Counts) → Raised fr o c d → AtMost fr c d
+raised-above fr o c d r p i = go (decLt (p .0) (o .0)) (decLt (o .0) (p .0))
   where
     apart : (p ≡ o → ⊥) → c p ≤ d p
-    apart n = let e = r .others p n in omega (arith, e)
+    apart n = let e = r .others p i n in omega (arith, e)
 
     go : Dec (p .0 < o .0) → Dec (o .0 < p .0) → c p ≤ d p
     go (yes l) m = apart (λ q. let e : p .0 ≡ o .0 = ap (λ (x : ItemNumber). x .0) q in omega (arith, e))
@@ -72,6 +73,13 @@ filled-more n (Fills b y) x stride a z e =
         rw (et, q, sym s, suc-mul x stride)
     go true false et eu h = never (cc)
     go false u et eu h = never (cc)
+
+pub or-huge-is : (n : TypeNumber) (a b : Alignment) (y z : ℕ) → orHuge n a y ≡ Fills b z → y ≡ z
+or-huge-is n a b y z e = go (ltb y 4294967296) e
+  where
+    go : (t : Bool) → cond t (Fills a y) (Faulty Huge n) ≡ Fills b z → y ≡ z
+    go true h = cc
+    go false h = never (cc)
 
 -- A STRUCT, one member less
 pub record LaidFrom (p : Parts) (m : Measure) (b : Alignment) (e : ℕ) : Type 0 where
@@ -121,7 +129,7 @@ record Moved (b : Alignment) (total e f : ℕ) : Type 0 where
   is : total ≡ times * bytes b
   by : f ≤ e + times * bytes b
 
-module _ (fr : List ℕ) (good : Good fr) (o : ItemNumber) (c d : Counts) (raised : Raised o c d) where
+module _ (fr : List ℕ) (good : Good fr) (o : ItemNumber) (c d : Counts) (raised : Raised fr o c d) where
   abbrev holds : TypeNumber → Bool
   holds = holdsPending fr (startsOf fr)
 
@@ -147,27 +155,22 @@ module _ (fr : List ℕ) (good : Good fr) (o : ItemNumber) (c d : Counts) (raise
           rw (fixed-same fr good d b e, raised .one) (filled-more n m (c o) stride a z q)
 
   -- A MEMBER grows by no more than its stride
-  or-huge-is : (n : TypeNumber) (a b : Alignment) (y z : ℕ) → orHuge n a y ≡ Fills b z → y ≡ z
-  or-huge-is n a b y z e = go (ltb y 4294967296) e
-    where
-      go : (t : Bool) → cond t (Fills a y) (Faulty Huge n) ≡ Fills b z → y ≡ z
-      go true h = cc
-      go false h = never (cc)
-
   member-moves : (n : TypeNumber) (stride : ℕ) → Beside fr o n stride → (a b : Alignment) (y z : ℕ)
       → at c n ≡ Fills a y → at d n ≡ Fills b z
       → z ≤ y + stride
   member-moves n stride (Beside.array m e s f) a b y z h g =
       let q = or-huge-is n a b (y + stride) z (sym (array-steps n e stride f a y h) ∙ g) in omega (arith, q)
   member-moves n stride (Beside.still m apart) a b y z h g =
-      let s : at c n ≡ at d n = same-counts fr good c d n (λ p v. sym (raised .others p (λ q. apart (rw q at v)))) in
+      let s : at c n ≡ at d n =
+      same-counts fr good c d n
+      (λ p v. sym (raised .others p (over-there fr good p n v) (λ q. apart (rw q at v)))) in
       let t : Fills a y ≡ Fills b z = sym h ∙ s ∙ g in
       let q : y ≡ z = cc in omega (arith, q)
 
   align-same : (n : TypeNumber) (a b : Alignment) (y z : ℕ) → at c n ≡ Fills a y → at d n ≡ Fills b z
       → (a ≡ b) × (y ≤ z)
   align-same n a b y z h g =
-      let s = fills-below fr good c d (λ p l. raised-above o c d raised p) n b z g in
+      let s = fills-below fr good c d (raised-above fr o c d raised) n b z g in
       let t : Fills a y ≡ Fills b (s .size) = sym h ∙ s .is in
       let q : y ≡ s .size = cc in (cc, omega (arith, q, s .most))
 
@@ -254,4 +257,4 @@ module _ (fr : List ℕ) (good : Good fr) (o : ItemNumber) (c d : Counts) (raise
             kept = s .1;
             most = moved-by n first count span e strides each a b y z h g (holds n) refl;
           }
-      go (Faulty k p) g = only-huge fr good c d (λ q l. raised-above o c d raised q) n a y h k p g
+      go (Faulty k p) g = only-huge fr good c d (raised-above fr o c d raised) n a y h k p g

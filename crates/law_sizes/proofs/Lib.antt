@@ -2,6 +2,9 @@ pub mod Scalars
 pub mod Greatest
 pub mod Folded
 pub mod Fixed
+pub mod Ordered
 pub mod Meant
+pub mod Own
+pub mod First
 pub mod Laws
 pub mod Source

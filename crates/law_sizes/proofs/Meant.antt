@@ -32,13 +32,14 @@ use Rattle.rule_sizes.specs.declared.Measure.the-variants.{Fills, Faulty}
 use Rattle.rule_sizes.specs.Wgsl.{isMultiple, integerAlign, floatAlign, numberAlign}
 use Rattle.rule_sizes.specs.Sizes.{scalarMeasure, vectorMeasure, matrixMeasure, arrayOf, partsOf, spanned, structOf}
 use Rattle.rule_sizes.specs.Sizes.{sizedArray, ofInner, ofForm, measureIn}
-use Rattle.rule_sizes.specs.Meaning.{Integer, Float, Number, Listed, structMember, Strided, Has, RestsOn, Fault}
+use Rattle.rule_sizes.specs.Meaning.{Integer, Float, Number, Listed, structMember, Strided, Has, RestsOn}
 use Rattle.law_sizes.proofs.Scalars.{Given, integer-given, float-given, number-given, integer-has, float-has}
 use Rattle.law_sizes.proofs.Scalars.{number-has}
 use Rattle.law_sizes.proofs.Greatest.{topOf, top-greatest}
 use Rattle.law_sizes.proofs.Folded.{never, alignIn, sizeIn, stands, stands-placed, placed-stands, laid, AllFill}
 use Rattle.law_sizes.proofs.Folded.{FirstLow, Folded, folded}
 use Rattle.law_sizes.proofs.Fixed.{there, fixed}
+use Rattle.law_sizes.proofs.Ordered.{Ordered}
 
 -- WHAT IS IN THE LIST, by each form that may be outside it
 
@@ -76,15 +77,15 @@ module _ (fr : List ℕ) where
   -- what a measure of type n means
   abbrev pub Meant : TypeNumber → Measure → Type 0
   Meant n (Fills a z) = Has fr n a z
-  Meant n (Faulty k p) = RestsOn fr n p × Fault fr p k
+  Meant n (Faulty k p) = RestsOn fr n p × Ordered fr p k
 
   -- a fault of its own
-  own : (n : TypeNumber) (k : SizeFault) → Fault fr n k → RestsOn fr n n × Fault fr n k
+  own : (n : TypeNumber) (k : SizeFault) → Ordered fr n k → RestsOn fr n n × Ordered fr n k
   own n k h = (RestsOn.itself n, h)
 
   -- outside the list
-  out : (n : TypeNumber) (t : TypeForm) → typeAt fr n ≡ t → (IsListed t → ⊥) → RestsOn fr n n × Fault fr n Unmeasured
-  out n t e h = own n Unmeasured (Fault.outside n (λ l. h (rw e at (is-listed (typeAt fr n) l))))
+  out : (n : TypeNumber) (t : TypeForm) → typeAt fr n ≡ t → (IsListed t → ⊥) → RestsOn fr n n × Ordered fr n Unmeasured
+  out n t e h = own n Unmeasured (Ordered.outside n (λ l. h (rw e at (is-listed (typeAt fr n) l))))
 
   -- TYPES THAT NAME NONE
 
@@ -134,10 +135,10 @@ module _ (fr : List ℕ) where
       by-test (Meant n) (isMultiple a stride && leb z stride)
       (λ q. by-test (Meant n) (ltb (count * stride) 4294967296)
       (λ l. Has.array n b count stride a z e h (strided a z stride q) (ltb-true (count * stride) 4294967296 l))
-      (λ l. own n Huge (Fault.huge n b count stride a z e h (strided a z stride q)
+      (λ l. own n Huge (Ordered.huge n b count stride a z e h (strided a z stride q)
       (ltb-false (count * stride) 4294967296 l))))
       (λ q. own n Misplaced
-      (Fault.stride n b count stride a z e h (λ s. never (let x = sym q ∙ strided-is a z stride s in cc))))
+      (Ordered.stride n b count stride a z e h (λ s. never (let x = sym q ∙ strided-is a z stride s in cc))))
 
   sized-meant : (n b : TypeNumber) (z : ArraySize) (stride : ℕ) (f : TypeNumber → Measure)
       → typeAt fr n ≡ Tf.Known (Ti.Array b z stride) → Meant b (f b)
@@ -168,7 +169,7 @@ module _ (fr : List ℕ) where
         (by-test (Meant n) (stands fr first aligns sizes count (topOf aligns count) span)
         (λ q. Has.struct n first count span aligns sizes (topOf aligns count) e each g
         (stands-placed fr first aligns sizes count (topOf aligns count) span q))
-        (λ q. own n Misplaced (Fault.members n first count span aligns sizes (topOf aligns count) e each g
+        (λ q. own n Misplaced (Ordered.members n first count span aligns sizes (topOf aligns count) e each g
         (λ p. never (let x = sym q ∙ placed-stands fr first aligns sizes count (topOf aligns count) span p in cc)))))
 
     broken-meant : (k : SizeFault) (p : TypeNumber) → FirstLow fr f first count k p → Meant n (Faulty k p)

@@ -3,10 +3,12 @@
 use Prim.Native.Nat.{ℕ, zero, suc, _+_, _*_}
 use mathlib.Core.Bool.{cond}
 use mathlib.Core.List.{List, [], _++_}
-use lib.Dec.{eqb}
+use lib.Dec.{eqb, leb}
+use lib.ListN.{length}
 use Rattle.ir.specs.declared.RowNumber.{RowNumber}
 use Rattle.answers.specs.declared.Outcome.{Outcome}
 use Rattle.answers.specs.Limit.{maxFrames, maxFrameBytes, maxAnswerBytes}
+use Rattle.answers.specs.Numbers.{SaidOne, asked, instead, at}
 use Rattle.text.specs.declared.AnswerRoom.the-variants.{Lent}
 use Rattle.frames.specs.declared.Frame.{Frame}
 use Rattle.frames.specs.Bytes.{frameCount, frameAt}
@@ -70,3 +72,8 @@ explained pass limit t = allOf (linesOf pass limit t)
 -- the bytes that it fits into, whatever the file: two lines for each frame, of at most 142 bytes each
 abbrev pub maxExplainedBytes : ℕ
 maxExplainedBytes = 2 * 142 * maxFrames
+
+-- IN THE DOCUMENT'S NUMBERS, with a buffer of o bytes: how many bytes the lines have, or number 3, place 0, where there
+-- is no room for all of them
+abbrev pub linesSaid : List ℕ → ℕ → SaidOne ℕ
+linesSaid lines o = cond (leb (length lines) o) (asked (length lines)) (instead (at 3 0))

@@ -12,10 +12,15 @@ use Rattle.archive.specs.declared.Starts.{Starts}
 use Rattle.archive.specs.Starts.{startsOf, typeCount}
 use Rattle.rule_sizes.specs.Sizes.{framesOf, sizeFrames}
 use Rattle.rule_ranges.specs.Counts.{Counts}
-use Rattle.rule_ranges.specs.Ranges.{faultySpan, rangeFrame}
+use Rattle.rule_ranges.specs.Ranges.{countsOf, faultySpan, rangeFrame}
+use Rattle.answers.specs.Numbers.{SaidOne, instead, at}
+use Rattle.answers.specs.declared.Printed.{Printed}
+use Rattle.answers.specs.declared.Printed.the-variants.{Short}
+use Rattle.rule_file.specs.Printed.{printed, printedAfter}
+use Rattle.rule_file_sizes.specs.Ranges.{byTables}
 use Rattle.rule_file.specs.File.{overFile, readFile}
 use Rattle.rule_explain.specs.Sizes.{sizeLineOf, spanOf}
-use Rattle.rule_explain.specs.Explained.{Lines, allOf, faultLines}
+use Rattle.rule_explain.specs.Explained.{Lines, allOf, faultLines, linesSaid}
 
 -- line k: of type k, by frame k of what the types fill, `sizes`, in a file whose frames are `fr`
 abbrev pub sizeLineAt : List ℕ → List ℕ → ℕ → List ℕ
@@ -65,3 +70,18 @@ ranged limit least greatest t = allOf (rangesOf limit least greatest t)
 -- the bytes that either fits into, whatever the file: a line for each frame, of at most 176 bytes
 abbrev pub maxSizedBytes : ℕ
 maxSizedBytes = 176 * maxFrames
+
+-- OF TWO TABLES of counts: number 3, and the buffer as it was, where one has fewer than 1,024, as `size_range` has it;
+-- else the lines, where they have room
+
+abbrev pub rangesPrinted : (limit : ℕ) → List ℕ → List ℕ → List ℕ → ℕ → Printed
+rangesPrinted limit least greatest t o =
+    byTables least greatest Short (printed (ranged limit (countsOf least) (countsOf greatest) t) o)
+
+abbrev pub rangesSaid : (limit : ℕ) → List ℕ → List ℕ → List ℕ → ℕ → SaidOne ℕ
+rangesSaid limit least greatest t o =
+    byTables least greatest (instead (at 3 0)) (linesSaid (ranged limit (countsOf least) (countsOf greatest) t) o)
+
+abbrev pub rangesAfter : (limit : ℕ) → List ℕ → List ℕ → List ℕ → List ℕ → List ℕ
+rangesAfter limit least greatest t out =
+    byTables least greatest out (printedAfter (ranged limit (countsOf least) (countsOf greatest) t) out)

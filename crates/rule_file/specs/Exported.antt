@@ -1,6 +1,6 @@
 -- What the exported functions return, and the frame that each writes at the front of its out-slice (document 01,
--- "Numbers handed back" and "Out" at the end of "The file"). The numbers of document 01 end at 33; what it says in
--- words has numbers above 255 (docs/DECISIONS.md).
+-- "Numbers handed back" and "Out" at the end of "The file"). A document's number has one byte in a frame; what is said
+-- in words has numbers above 255 (docs/DECISIONS.md).
 use Prim.Native.Nat.{ℕ}
 use mathlib.Core.Bool.{cond}
 use mathlib.Core.List.{List}

@@ -22,6 +22,8 @@ use Rattle.rule_sizes.specs.declared.Measure.{Measure}
 use Rattle.rule_sizes.specs.declared.Measure.the-variants as Me
 use Rattle.rule_ranges.specs.declared.Range.{Range}
 use Rattle.rule_ranges.specs.declared.Range.the-variants.{Spans, Faulty}
+use Rattle.rule_ranges.specs.declared.TypeRange.{TypeRange}
+use Rattle.rule_ranges.specs.declared.TypeRange.the-variants as Tr
 use Rattle.rule_ranges.specs.Counts.{Counts, measureAt}
 use Rattle.rule_ranges.specs.Ranges.{rangeIn}
 
@@ -51,10 +53,10 @@ pub record Choice (fr : List ℕ) (least greatest c : Counts) : Type 0 where
   pub above : AtMost fr least c
   pub below : AtMost fr c greatest
 
--- the count of override o raised by one, and no other
-pub record Raised (o : ItemNumber) (c d : Counts) : Type 0 where
+-- the count of override o raised by one, and that of no other override of the file
+pub record Raised (fr : List ℕ) (o : ItemNumber) (c d : Counts) : Type 0 where
   pub one : d o ≡ suc (c o)
-  pub others : (p : ItemNumber) → (p ≡ o → ⊥) → d p ≡ c p
+  pub others : (p : ItemNumber) → p .0 < overrideCount (startsOf fr) → (p ≡ o → ⊥) → d p ≡ c p
 
 -- A MEMBER BESIDE A COUNT: an array over it, with its stride; or not over it at any depth, which counts as stride 0
 pub data Beside (fr : List ℕ) (o : ItemNumber) : TypeNumber → ℕ → Type 0 where
@@ -114,3 +116,19 @@ pub record Steps (a b : Alignment) (y z total : ℕ) : Type 0 where
 abbrev pub StepsTo : Alignment → ℕ → ℕ → Measure → Type 0
 StepsTo a y total (Me.Fills b z) = Steps a b y z total
 StepsTo a y total (Me.Faulty k p) = k ≡ Huge
+
+-- a range up to z, or 44 of type n where z is 2 to the 32 or more
+abbrev pub spansOrHuge : TypeNumber → Alignment → ℕ → ℕ → Range
+spansOrHuge n a y z = cond (ltb z 4294967296) (Spans a y z) (Faulty Huge n)
+
+-- a range that was from y to z, after a greatest count was raised: its greatest size moves by no more than a total, or
+-- there is 44
+pub data GreatestSteps (a : Alignment) (y z total : ℕ) : TypeRange → Type 0 where
+  moves : (w : ℕ) → z ≤ w → w ≤ z + total → GreatestSteps a y z total (Tr.Ranged (Spans a y w))
+  huge : (p : TypeNumber) → GreatestSteps a y z total (Tr.Ranged (Faulty Huge p))
+
+-- after the least count of override o was raised: its least size moves by no more than a total, or there is 45 of that
+-- override
+pub data LeastSteps (o : ItemNumber) (a : Alignment) (y z total : ℕ) : TypeRange → Type 0 where
+  moves : (w : ℕ) → y ≤ w → w ≤ y + total → LeastSteps o a y z total (Tr.Ranged (Spans a w z))
+  span : LeastSteps o a y z total (Tr.Span (o .0))

@@ -15,7 +15,8 @@ use Rattle.rule_sizes.specs.declared.Alignment.{Alignment}
 use Rattle.rule_sizes.specs.declared.SizeFault.{SizeFault}
 use Rattle.rule_sizes.specs.declared.SizeFault.the-variants.{Unmeasured, Misplaced, Huge}
 use Rattle.rule_sizes.specs.Wgsl.{roundUp}
-use Rattle.rule_sizes.specs.Meaning.{structMember, Greatest, Strided, Has, RestsOn, Fault}
+use Rattle.rule_sizes.specs.Sizes.{faultNumber}
+use Rattle.rule_sizes.specs.Meaning.{structMember, Greatest, Strided, Has, RestsOn, Outside, Breaks, Exceeds}
 use Rattle.rule_ranges.specs.Counts.{Counts}
 use Rattle.rule_ranges.specs.Meaning.{Over}
 
@@ -57,23 +58,45 @@ pub data RestsOnAt (fr : List ℕ) : TypeNumber → TypeNumber → Type 0 where
       → typeAt fr n ≡ Tf.Known (Ti.Struct first count span) → Holds fr n → i < count
       → RestsOnAt fr (structMember fr first i .ty) m → RestsOnAt fr n m
 
--- A TYPE'S OWN NUMBER at these counts: 43 for a pending array's stride, never for a struct that holds a pending array;
--- 44 for both
-pub data FaultAt (fr : List ℕ) (c : Counts) : TypeNumber → SizeFault → Type 0 where
-  fixed : (n : TypeNumber) (k : SizeFault) → (Holds fr n → ⊥) → Fault fr n k → FaultAt fr c n k
+-- THE THREE CAUSES of a number at these counts, each by itself; those of a type that holds no pending array are request
+-- 5's
+
+-- 42: the type is outside the list, or an array over what is a pending array or holds one
+pub data OutsideAt (fr : List ℕ) : TypeNumber → Type 0 where
+  fixed : (n : TypeNumber) → (Holds fr n → ⊥) → Outside fr n → OutsideAt fr n
   over : (n b : TypeNumber) (z : ArraySize) (stride : ℕ) → typeAt fr n ≡ Tf.Known (Ti.Array b z stride) → Holds fr b
-      → FaultAt fr c n Unmeasured
+      → OutsideAt fr n
+
+-- 43: a pending array's element has a size, and the stride breaks the rules; never a struct that holds a pending array
+pub data BreaksAt (fr : List ℕ) (c : Counts) : TypeNumber → Type 0 where
+  fixed : (n : TypeNumber) → (Holds fr n → ⊥) → Breaks fr n → BreaksAt fr c n
   stride : (n b : TypeNumber) (o : ItemNumber) (stride : ℕ) (a : Alignment) (z : ℕ)
       → typeAt fr n ≡ Tf.Known (Ti.Array b (As.Pending o) stride)
-      → (Holds fr b → ⊥) → Has fr b a z → (Strided a z stride → ⊥) → FaultAt fr c n Misplaced
+      → HasAt fr c b a z → (Strided a z stride → ⊥) → BreaksAt fr c n
+
+-- 44: a pending array's element has a size, and count times stride is 2 to the 32 or more; or the members of a struct
+-- that holds a pending array have sizes, and its own is 2 to the 32 or more
+pub data ExceedsAt (fr : List ℕ) (c : Counts) : TypeNumber → Type 0 where
+  fixed : (n : TypeNumber) → (Holds fr n → ⊥) → Exceeds fr n → ExceedsAt fr c n
   array : (n b : TypeNumber) (o : ItemNumber) (stride : ℕ) (a : Alignment) (z : ℕ)
       → typeAt fr n ≡ Tf.Known (Ti.Array b (As.Pending o) stride)
-      → (Holds fr b → ⊥) → Has fr b a z → Strided a z stride → 4294967296 ≤ c o * stride → FaultAt fr c n Huge
+      → HasAt fr c b a z → 4294967296 ≤ c o * stride → ExceedsAt fr c n
   struct : (n : TypeNumber) (first : MemberNumber) (count span : ℕ) (aligns : ℕ → Alignment) (sizes offsets : ℕ
       → ℕ) (a : Alignment) (z : ℕ)
       → typeAt fr n ≡ Tf.Known (Ti.Struct first count span) → Holds fr n
       → ((i : ℕ) → i < count → HasAt fr c (structMember fr first i .ty) (aligns i) (sizes i)) → Greatest aligns count a
-      → Fresh count aligns sizes offsets a z → 4294967296 ≤ z → FaultAt fr c n Huge
+      → Fresh count aligns sizes offsets a z → 4294967296 ≤ z → ExceedsAt fr c n
+
+-- the cause of each number
+abbrev pub CauseAt : List ℕ → Counts → TypeNumber → SizeFault → Type 0
+CauseAt fr c n Unmeasured = OutsideAt fr n
+CauseAt fr c n Misplaced = BreaksAt fr c n
+CauseAt fr c n Huge = ExceedsAt fr c n
+
+-- A TYPE'S OWN NUMBER at these counts is that of the first cause that holds: 42 precedes 43, and 43 precedes 44
+pub record FaultAt (fr : List ℕ) (c : Counts) (n : TypeNumber) (k : SizeFault) : Type 0 where
+  pub cause : CauseAt fr c n k
+  pub first : (j : SizeFault) → faultNumber j < faultNumber k → CauseAt fr c n j → ⊥
 
 -- THE LOWEST FAULTY TYPE that a type rests on, and its number
 pub record LowestFaultAt (fr : List ℕ) (c : Counts) (n m : TypeNumber) (k : SizeFault) : Type 0 where

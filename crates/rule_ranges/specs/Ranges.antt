@@ -24,11 +24,16 @@ use Rattle.rule_ranges.specs.declared.Range.{Range}
 use Rattle.rule_ranges.specs.declared.Range.the-variants.{Spans, Faulty}
 use Rattle.rule_ranges.specs.declared.TypeRange.{TypeRange}
 use Rattle.rule_ranges.specs.declared.TypeRange.the-variants as Tr
-use Rattle.rule_ranges.specs.Counts.{Counts, measureAt}
+use Rattle.rule_ranges.specs.Pending.{lookHolds}
+use Rattle.rule_ranges.specs.Counts.{Counts, measureBy, measureAt}
 
 -- the counts of a table; entries past the file's overrides are not looked at
 abbrev pub countsOf : List ℕ → Counts
 countsOf table o = getD table (o .0) 0
+
+-- what type n fills by a table of marks, which types go by counts, and a table of counts
+abbrev pub measureMarked : List ℕ → Starts → List Bool → List ℕ → TypeNumber → Measure
+measureMarked fr s marks counts = measureBy fr s (lookHolds marks) (countsOf counts)
 
 -- THE RANGE, by what a type fills at the least and at the greatest counts: a fault at the greatest counts is the
 -- type's. Where it has a size there it has one at the least counts too, and the same alignment (`range-reached`, crate
@@ -68,6 +73,11 @@ pub record SizeRange : Type 0 where
   pub align : ℕ
   pub least : ℕ
   pub greatest : ℕ
+
+-- the number of a range: 0 where there are sizes
+abbrev pub rangeNumber : Range → ℕ
+rangeNumber (Spans a y z) = 0
+rangeNumber (Faulty k p) = faultNumber k
 
 abbrev pub rangeSaid : Range → SaidOne SizeRange
 rangeSaid (Spans a y z) = asked (record { align = bytes a; least = y; greatest = z })

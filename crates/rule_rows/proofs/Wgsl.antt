@@ -16,13 +16,14 @@ use Rattle.ir.specs.declared.OptionVectorSize.the-variants as Ov
 use Rattle.ir.specs.declared.ScalarKind.{ScalarKind}
 use Rattle.ir.specs.declared.ScalarKind.the-variants as Sk
 use Rattle.ir.specs.declared.Scalar.{Scalar}
+use Rattle.ir.specs.declared.Width.the-variants as Wd
 use Rattle.ir.specs.declared.Width.{Width}
 use Rattle.ir.specs.declared.BinaryOperator.{BinaryOperator}
 use Rattle.ir.specs.declared.BinaryOperator.the-variants as Bo
 use Rattle.ir.specs.declared.TypeInner.{TypeInner}
 use Rattle.ir.specs.declared.TypeInner.the-variants as Ti
 use Rattle.ir.specs.Numbers.{vectorSizeNumber, vectorSizeOf, scalarKindNumber, scalarKindOf, widthNumber, widthOf}
-use Rattle.ir.specs.Scalars.{I32, U32, F16, F32, BOOL, equalScalars}
+use Rattle.ir.specs.Scalars.{I32, U32, F16, F32, BOOL, equalScalars, ABSTRACT-FLOAT}
 use Rattle.ir.proofs.Numbered.{vectorSize-back, scalarKind-back, width-back}
 use Rattle.rule_rows.specs.declared.Shape.{Shape}
 use Rattle.rule_rows.specs.declared.Shape.the-variants as Sh
@@ -43,6 +44,9 @@ vec2 s = Ti.Vector Vs.Bi s
 abbrev mat3x2 : TypeInner
 mat3x2 = Ti.Matrix Vs.Tri Vs.Bi F32
 
+abbrev wideBool : Scalar
+wideBool = record { kind = Sk.Bool; width = Wd.Four }
+
 in-no-line :
     -- bools with ^; matrices divided; a sum of two sizes, of two kinds and of two widths
     wgslResult Bo.ExclusiveOr (Ti.Scalar BOOL) (Ti.Scalar BOOL) ∷ wgslResult Bo.Divide mat3x2 mat3x2 ∷ wgslResult Bo.Add
@@ -53,8 +57,11 @@ in-no-line :
     (Ti.Vector Vs.Tri F32) mat3x2
     -- a shift by i32; a vector shifted by a scalar; bools in an order; a vector of bools with &&
     ∷ wgslResult Bo.ShiftLeft (Ti.Scalar I32) (Ti.Scalar I32) ∷ wgslResult Bo.ShiftLeft (vec2 I32) (Ti.Scalar U32)
-    ∷ wgslResult Bo.Less (Ti.Scalar BOOL) (Ti.Scalar BOOL) ∷ wgslResult Bo.LogicalAnd (vec2 BOOL) (vec2 BOOL) ∷ []
-    ≡ none ∷ none ∷ none ∷ none ∷ none ∷ none ∷ none ∷ none ∷ none ∷ none ∷ none ∷ none ∷ []
+    ∷ wgslResult Bo.Less (Ti.Scalar BOOL) (Ti.Scalar BOOL) ∷ wgslResult Bo.LogicalAnd (vec2 BOOL) (vec2 BOOL)
+    -- Bool of width 4, which is no bool, with ==; a sum of abstract floats
+    ∷ wgslResult Bo.Equal (Ti.Scalar wideBool) (Ti.Scalar wideBool)
+    ∷ wgslResult Bo.Add (Ti.Scalar ABSTRACT-FLOAT) (Ti.Scalar ABSTRACT-FLOAT) ∷ []
+    ≡ none ∷ none ∷ none ∷ none ∷ none ∷ none ∷ none ∷ none ∷ none ∷ none ∷ none ∷ none ∷ none ∷ none ∷ []
 in-no-line = refl
 
 -- A LINE IS WHAT THE TESTS GIVE: each test holds of what a line says

@@ -20,7 +20,8 @@ use Rattle.rule_sizes.specs.declared.SizeFault.the-variants.{Unmeasured,
 use Rattle.rule_sizes.specs.declared.Measure.{Measure}
 use Rattle.rule_sizes.specs.declared.Measure.the-variants.{Fills, Faulty}
 use Rattle.rule_sizes.specs.Sizes.{next, look, measures, measureIn, measureFrame}
-use Rattle.rule_sizes.specs.ForProofs.{measureOf, Held, Known}
+use Rattle.rule_sizes.specs.Sizes.{measureOf}
+use Rattle.rule_sizes.specs.ForProofs.{Held, Known}
 
 -- an earlier type's measure is its own
 pub look-earlier : (fr : List ℕ) (s : Starts) (n b : TypeNumber) → b .0 < n .0

@@ -21,6 +21,7 @@ use Rattle.rule_sizes.specs.declared.Alignment.the-variants.{Two, Four}
 use Rattle.rule_sizes.specs.declared.SizeFault.{SizeFault}
 use Rattle.rule_sizes.specs.declared.SizeFault.the-variants.{Unmeasured, Misplaced, Huge}
 use Rattle.rule_sizes.specs.Wgsl.{bytes, isMultiple, vectorAlign, vectorBytes, matrixBytes}
+use Rattle.rule_sizes.specs.Sizes.{faultNumber}
 
 -- THE LIST
 
@@ -106,22 +107,39 @@ pub data RestsOn (fr : List ℕ) : TypeNumber → TypeNumber → Type 0 where
       → typeAt fr n ≡ Tf.Known (Ti.Struct first count span) → i < count
       → RestsOn fr (structMember fr first i .ty) m → RestsOn fr n m
 
--- A TYPE'S OWN NUMBER: 42 outside the list; 43 where its parts have sizes and a stride, an offset or the span breaks
--- the rules; 44 where all stands well and count times stride is 2 to the 32 or more. So 42 precedes 43, and 43
--- precedes 44
-pub data Fault (fr : List ℕ) : TypeNumber → SizeFault → Type 0 where
-  outside : (n : TypeNumber) → (Listed (typeAt fr n) → ⊥) → Fault fr n Unmeasured
+-- THE THREE CAUSES of a number, each by itself
+
+-- 42: the type is outside the list
+abbrev pub Outside : List ℕ → TypeNumber → Type 0
+Outside fr n = Listed (typeAt fr n) → ⊥
+
+-- 43: the type's parts have sizes, and a stride, an offset or the span breaks the rules
+pub data Breaks (fr : List ℕ) : TypeNumber → Type 0 where
   stride : (n b : TypeNumber) (count stride : ℕ) (a : Alignment) (z : ℕ)
       → typeAt fr n ≡ Tf.Known (Ti.Array b (As.Constant count) stride)
-      → Has fr b a z → (Strided a z stride → ⊥) → Fault fr n Misplaced
+      → Has fr b a z → (Strided a z stride → ⊥) → Breaks fr n
   members : (n : TypeNumber) (first : MemberNumber) (count span : ℕ) (aligns : ℕ → Alignment) (sizes : ℕ → ℕ)
       (a : Alignment)
       → typeAt fr n ≡ Tf.Known (Ti.Struct first count span)
       → ((i : ℕ) → i < count → Has fr (structMember fr first i .ty) (aligns i) (sizes i)) → Greatest aligns count a
-      → (Placed fr first count aligns sizes a span → ⊥) → Fault fr n Misplaced
-  huge : (n b : TypeNumber) (count stride : ℕ) (a : Alignment) (z : ℕ)
+      → (Placed fr first count aligns sizes a span → ⊥) → Breaks fr n
+
+-- 44: the array's element has a size, and count times stride is 2 to the 32 or more
+pub data Exceeds (fr : List ℕ) : TypeNumber → Type 0 where
+  array : (n b : TypeNumber) (count stride : ℕ) (a : Alignment) (z : ℕ)
       → typeAt fr n ≡ Tf.Known (Ti.Array b (As.Constant count) stride)
-      → Has fr b a z → Strided a z stride → 4294967296 ≤ count * stride → Fault fr n Huge
+      → Has fr b a z → 4294967296 ≤ count * stride → Exceeds fr n
+
+-- the cause of each number
+abbrev pub Cause : List ℕ → TypeNumber → SizeFault → Type 0
+Cause fr n Unmeasured = Outside fr n
+Cause fr n Misplaced = Breaks fr n
+Cause fr n Huge = Exceeds fr n
+
+-- A TYPE'S OWN NUMBER is that of the first cause that holds: 42 precedes 43, and 43 precedes 44
+pub record Fault (fr : List ℕ) (n : TypeNumber) (k : SizeFault) : Type 0 where
+  pub cause : Cause fr n k
+  pub first : (j : SizeFault) → faultNumber j < faultNumber k → Cause fr n j → ⊥
 
 -- THE LOWEST FAULTY TYPE that a type rests on, and its number
 pub record LowestFault (fr : List ℕ) (n m : TypeNumber) (k : SizeFault) : Type 0 where

@@ -5,7 +5,7 @@ use Prim.Native.Nat.{ℕ, zero, suc, _+_, _*_, _/_, _%_}
 use mathlib.Core.Bool.{Bool, true, cond, _&&_}
 use mathlib.Core.List.{List, [], _++_}
 use lib.Dec.{eqb, ltb, leb}
-use lib.ListN.{getD}
+use lib.ListN.{length, drop, getD}
 use Rattle.ir.specs.declared.TypeNumber.{TypeNumber}
 use Rattle.ir.specs.declared.MemberNumber.{MemberNumber}
 use Rattle.ir.specs.declared.VectorSize.{VectorSize}
@@ -15,11 +15,13 @@ use Rattle.ir.specs.declared.TypeInner.{TypeInner}
 use Rattle.ir.specs.declared.TypeInner.the-variants as Ti
 use Rattle.ir.specs.declared.TypeForm.{TypeForm}
 use Rattle.ir.specs.declared.TypeForm.the-variants as Tf
+use Rattle.answers.specs.Limit.{maxFrames}
 use Rattle.answers.specs.Numbers.{SaidOne, asked, instead, at, notThere, outcomeValues}
 use Rattle.frames.specs.declared.Frame.{Frame}
-use Rattle.frames.specs.Bytes.{bytesOf}
+use Rattle.frames.specs.Bytes.{half, word, bytesOf}
 use Rattle.frames.specs.Out.{refusedFrame, sizedFrame}
 use Rattle.archive.specs.declared.Starts.{Starts}
+use Rattle.archive.specs.Starts.{typeCount}
 use Rattle.archive.specs.Names.{isType}
 use Rattle.archive.specs.Access.{typeIn, memberIn}
 use Rattle.rule.specs.InOrder.{inOrder}
@@ -34,7 +36,7 @@ use Rattle.rule_sizes.specs.declared.Measure.the-variants.{Fills, Faulty
 use Rattle.rule_sizes.specs.declared.TypeSize.{TypeSize}
 use Rattle.rule_sizes.specs.declared.TypeSize.the-variants as Ts
 use Rattle.rule_sizes.specs.Wgsl.{bytes, isMultiple, greater, integerAlign, floatAlign, numberAlign, vectorAlign}
-use Rattle.rule_sizes.specs.Wgsl.{vectorBytes, matrixBytes}
+use Rattle.rule_sizes.specs.Wgsl.{vectorBytes, matrixBytes, alignmentOf}
 
 -- A TYPE THAT NAMES NONE, by the alignment of its scalar; number 42 where that is not in the list
 
@@ -169,6 +171,11 @@ pub record Size : Type 0 where
   pub align : ℕ
   pub size : ℕ
 
+-- the number of a measure: 0 where there is a size
+abbrev pub measureNumber : Measure → ℕ
+measureNumber (Fills a z) = 0
+measureNumber (Faulty k p) = faultNumber k
+
 abbrev pub measureSaid : Measure → SaidOne Size
 measureSaid (Fills a z) = asked (record { align = bytes a; size = z })
 measureSaid (Faulty k p) = instead (at (faultNumber k) (p .0))
@@ -188,6 +195,15 @@ sizeSaidFrame (instead r) = refusedFrame r
 abbrev pub measureFrame : Measure → Frame
 measureFrame m = sizeSaidFrame (measureSaid m)
 
+-- and back: the fault of a number
+abbrev pub sizeFaultOf : ℕ → SizeFault
+sizeFaultOf b = cond (eqb b 42) Unmeasured (cond (eqb b 43) Misplaced Huge)
+
+-- the measure of a frame: family 12, else a number
+unfoldable pub measureOf : Frame → Measure
+measureOf f = cond (eqb (f .b0) 12) (Fills (alignmentOf (f .b4)) (word f 8))
+    (Faulty (sizeFaultOf (f .b1)) (record { 0 = half f 2 }))
+
 -- frames one after the other, the first n
 unfoldable pub framesOf : (ℕ → Frame) → ℕ → List ℕ
 framesOf frame zero = []
@@ -200,3 +216,10 @@ sizeFrame fr s n = measureFrame (measureIn fr s (record { 0 = n }))
 -- EVERY TYPE of a file, a frame each, in order: the first n
 abbrev pub sizeFrames : List ℕ → Starts → ℕ → List ℕ
 sizeFrames fr s n = framesOf (sizeFrame fr s) n
+
+-- a buffer with a frame for every type at its front; as it was where it has no room for them, or there are more than
+-- 1,024
+unfoldable pub framesWritten : (ℕ → Frame) → Starts → List ℕ → List ℕ
+framesWritten frame s o =
+    cond (leb (typeCount s) maxFrames && leb (16 * typeCount s) (length o))
+    (framesOf frame (typeCount s) ++ drop (16 * typeCount s) o) o

@@ -22,7 +22,7 @@ use Rattle.rule.proofs.InOrder.{in-order-length}
 use Rattle.rule_ranges.specs.Pending.{formHolds, nextHolds, lookHolds, holding, holdsPending}
 use Rattle.rule_ranges.specs.Counts.{Counts, measureBy}
 use Rattle.rule_ranges.specs.Ranges.{countsOf, rangeOf, rangeIn, spanOk, faultySpan}
-use Rattle.rule_ranges.specs.ForProofs.{measureMarked}
+use Rattle.rule_ranges.specs.Ranges.{measureMarked}
 use Rattle.rule_ranges.proofs.Laws.{holds-earlier}
 
 -- the first n types are marked

@@ -12,9 +12,9 @@ ghost use mathlib.Core.Path.{_≡_};
 ghost use Rattle.answers.specs.Numbers.{at};
 ghost use Rattle.frames.specs.Out.{refusedFrame};
 ghost use Rattle.rule_sizes.specs.Sizes.{faultNumber, measureFrame};
-ghost use Rattle.rule_sizes.specs.ForProofs.{measureNumber, sizeFaultOf, measureOf};
+ghost use Rattle.rule_sizes.specs.Sizes.{measureNumber, sizeFaultOf, measureOf};
 ghost use Rattle.rule_ranges.specs.Ranges.{rangeSaid, rangeSaidFrame};
-ghost use Rattle.rule_ranges.specs.ForProofs.{rangeNumber};
+ghost use Rattle.rule_ranges.specs.Ranges.{rangeNumber};
 
 pub fn fault_number(k: SizeFault) -> u8
     ensures { λ r. ⌜ r ≡ faultNumber k ⌝ }

@@ -177,3 +177,8 @@ three-thousand = (refl, refl)
 pub seven-thousand : (texelOf 7000 ≡ Given 45874) × (upTexel 7000 ≡ 45875)
 unfolding texelOf rounded tied
 seven-thousand = (refl, refl)
+
+-- a half that was even already did not move
+pub one-thousand : (texelOf 1000 ≡ Given 6554) × (upTexel 1000 ≡ 6554)
+unfolding texelOf rounded tied
+one-thousand = (refl, refl)

@@ -18,12 +18,13 @@ use Rattle.archive.specs.Access.{typeIn, memberIn}
 use Rattle.rule_sizes.specs.declared.Alignment.the-variants.{Two}
 use Rattle.rule_sizes.specs.declared.Measure.{Measure}
 use Rattle.rule_sizes.specs.Sizes.{arrayOf, partsOf, measureFrame}
-use Rattle.rule_sizes.specs.ForProofs.{measureOf}
+use Rattle.rule_sizes.specs.Sizes.{measureOf}
 use Rattle.rule_sizes.proofs.Laws.{known-put}
 use Rattle.rule_ranges.specs.Pending.{lookHolds}
 use Rattle.rule_ranges.specs.Counts.{freshParts, formBy, measureBy}
 use Rattle.rule_ranges.specs.Ranges.{countsOf}
-use Rattle.rule_ranges.specs.ForProofs.{measureMarked, earlier, KnownMarked, partsBy}
+use Rattle.rule_ranges.specs.Ranges.{measureMarked}
+use Rattle.rule_ranges.specs.ForProofs.{earlier, KnownMarked, partsBy}
 use Rattle.size_steps.specs.declared.SoFar.{SoFar}
 use Rattle.size_steps.specs.declared.SoFar.the-variants as C
 use Rattle.size_steps.specs.SoFar.{memberMore, structBy}

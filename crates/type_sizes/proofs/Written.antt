@@ -16,7 +16,7 @@ use Rattle.frames.specs.Bytes.{bytesOf, frameCount, putFrame}
 use Rattle.archive.specs.declared.Starts.{Starts}
 use Rattle.archive.specs.Starts.{typeCount}
 use Rattle.rule_sizes.specs.Sizes.{framesOf}
-use Rattle.rule_sizes.specs.ForProofs.{framesWritten}
+use Rattle.rule_sizes.specs.Sizes.{framesWritten}
 
 -- a frame put after a front of k frames
 put-after : (front rest : List ℕ) (k : ℕ) (f : Frame) → length front ≡ 16 * k → 16 ≤ length rest

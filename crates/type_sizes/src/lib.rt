@@ -28,10 +28,11 @@ use size_steps::table::range_frame;
 ghost use mathlib.Core.Path.{_≡_};
 ghost use Rattle.frames.specs.Bytes.{putFrame};
 ghost use Rattle.rule_sizes.specs.Sizes.{measureIn, typeSizeIn, measureFrame, sizeFrame};
-ghost use Rattle.rule_sizes.specs.ForProofs.{framesWritten};
+ghost use Rattle.rule_sizes.specs.Sizes.{framesWritten};
 ghost use Rattle.rule_ranges.specs.Ranges.{countsOf, rangeOf, rangeFrame};
 ghost use Rattle.size_steps.specs.Exact.{Like};
-ghost use Rattle.rule_ranges.specs.ForProofs.{measureMarked, earlier, KnownMarked, partsBy};
+ghost use Rattle.rule_ranges.specs.Ranges.{measureMarked};
+ghost use Rattle.rule_ranges.specs.ForProofs.{earlier, KnownMarked, partsBy};
 
 // What a type fills that type n names.
 fn part(

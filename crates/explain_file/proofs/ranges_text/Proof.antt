@@ -1,55 +1,51 @@
--- `explain_file::ranges_text`: the lines stand at the front of their buffer, and are copied to the other.
-use mathlib.Core.Path.{_≡_, sym, ap, _∙_}
+-- `explain_file::ranges_text`: a table that is too short is seen first; else what is printed.
+use mathlib.Core.Path.{_≡_, refl, ap, _∙_}
+use mathlib.Core.Bool.{Bool, true, false, cond}
 use mathlib.Core.List.{List}
 use Prim.Native.Nat.{ℕ}
-use native.Mathlib.Omega.{arith}
-use lib.ListN.{length, take}
-use lib.Seq.{length-take-le}
+use lib.ListN.{length}
 use borrow.Author.Needs.{needs}
-use Rattle.answers.specs.Numbers.{printedSaid}
-use Rattle.rule_ranges.specs.Ranges.{countsOf}
+use Rattle.answers.specs.declared.Printed.{Printed}
+use Rattle.answers.specs.declared.Printed.the-variants.{Short}
+use Rattle.answers.specs.Numbers.{instead, at, printedSaid}
 use Rattle.rule_file.specs.Printed.{printed, printedAfter}
-use Rattle.law_file.proofs.Over.{with-said}
-use Rattle.rule_explain.specs.Sized.{rangesOf}
-use Rattle.explain_file.proofs.Fits.{ranged-fits}
-use Rattle.explain_file.proofs.Fitting.{inside, lines-are}
+use Rattle.rule_ranges.specs.Ranges.{countsOf}
+use Rattle.rule_explain.specs.Explained.{linesSaid}
+use Rattle.rule_explain.specs.Sized.{ranged}
+use Rattle.rule_file_sizes.specs.Ranges.{tablesShort}
+use Rattle.explain_file.proofs.Said.{lines-said}
 use Rattle.explain_file.proofs.ranges_text.Statement.{statement}
 use Rattle.explain_file.proofs.ranges_text.Tie as tie
 
+-- a table is too short: number 3, and the buffer as it was
+short : (b : Bool) (lines o : List ℕ) → b ≡ true
+    → (Short ≡ cond b Short (printed lines (length o)))
+    × ((printedSaid Short ≡ cond b (instead (at 3 0)) (linesSaid lines (length o)))
+    × (o ≡ cond b o (printedAfter lines o)))
+short b lines o h = rw h (refl, (refl, refl))
+
+-- else the lines
+enough : (b : Bool) (lines o last : List ℕ) (r : Printed) → b ≡ false → r ≡ printed lines (length o)
+    → last ≡ printedAfter lines o
+    → (r ≡ cond b Short (printed lines (length o)))
+    × ((printedSaid r ≡ cond b (instead (at 3 0)) (linesSaid lines (length o)))
+    × (last ≡ cond b o (printedAfter lines o)))
+enough b lines o last r h e l = rw h (e, (ap printedSaid e ∙ lines-said lines (length o), l))
+
 returns : tie.Need-returns
 returns c =
-    let g = c .before .before .before .before .before .before .before .before .before .before .before .before .before
-    .before .before .before .before .before .args in
-    let q = c .before .before .before .before .before .before .before .before .before .ranges-with in
-    let p = c .before .before .print in
-    let e = lines-are (rangesOf (g .limit) (countsOf (g .least .now)) (countsOf (g .greatest .now)) (g .text .now)) _
-    (q .last .1 .1 .1 .1 .1 .1 .1 .0) (q .result) (q .ensures) in
-    with-said printedSaid (p .ensures .0 ∙ ap (λ (x : List ℕ). printed x (length (g .out .now))) e)
-    (p .ensures .1 ∙ ap (λ (x : List ℕ). printedAfter x (g .out .now)) e)
+    let g = c .before .before .before .before .before .args in
+    short (tablesShort (g .least .now) (g .greatest .now))
+    (ranged (g .limit) (countsOf (g .least .now)) (countsOf (g .greatest .now)) (g .text .now)) (g .out .now)
+    (c .if1 .taken)
+
+returns-2 : tie.Need-returns-2
+returns-2 c =
+    let g = c .before .before .before .before .before .before .before .before .before .args in
+    let p = c .before .before .print-ranges .ensures in
+    enough (tablesShort (g .least .now) (g .greatest .now))
+    (ranged (g .limit) (countsOf (g .least .now)) (countsOf (g .greatest .now)) (g .text .now)) (g .out .now) _ _
+    (c .before .before .before .before .if1 .left) (p .0) (p .1)
 
 pub ranges-text-spec : {M : Type 1} → statement M
-ranges-text-spec =
-    tie.close
-    (tie.spec
-    (λ c. search needs)
-    (λ c. search needs)
-    (λ c. search needs)
-    (λ c. search needs)
-    (λ c κs. (search needs, (search needs, (search needs, search needs))))
-    (λ c. omega (
-      arith,
-      c .before .before .before .before .ranges-with .ensures .0,
-      let g = c .before .before .before .before .before .before .before .before .before .before .before .before
-          .before .args in ranged-fits (g .limit) (countsOf (g .least .now)) (countsOf (g .greatest .now))
-          (g .text .now),
-    ))
-    (λ c.
-    let q = c .before .before .before .before .before .ranges-with in
-    let g = c .before .before .before .before .before .before .before .before .before .before .before .before .before
-    .before .args in
-    sym (length-take-le (q .result) (q .last .1 .1 .1 .1 .1 .1 .1 .0)
-    (inside (rangesOf (g .limit) (countsOf (g .least .now)) (countsOf (g .greatest .now)) (g .text .now)) _
-    (q .last .1 .1 .1 .1 .1 .1 .1 .0) (q .result) (q .ensures))))
-    (λ c κs. search needs)
-    (λ c. search needs)
-    returns)
+ranges-text-spec = tie.close (tie.spec returns (λ c κs. search needs) (λ c. search needs) returns-2)

@@ -6,12 +6,11 @@ use native.Mathlib.Omega.{arith}
 use lib.ListN.{length, take}
 use lib.Seq.{length-take-le}
 use borrow.Author.Needs.{needs}
-use Rattle.answers.specs.Numbers.{printedSaid}
 use Rattle.rule_file.specs.Printed.{printed, printedAfter}
-use Rattle.law_file.proofs.Over.{with-said}
 use Rattle.rule_explain.specs.Sized.{sizesOf}
 use Rattle.explain_file.proofs.Fits.{sized-fits}
 use Rattle.explain_file.proofs.Fitting.{inside, lines-are}
+use Rattle.explain_file.proofs.Said.{with-lines}
 use Rattle.explain_file.proofs.sizes_text.Statement.{statement}
 use Rattle.explain_file.proofs.sizes_text.Tie as tie
 
@@ -22,7 +21,7 @@ returns c =
     let q = c .before .before .before .before .before .before .before .before .before .sizes-with in
     let p = c .before .before .print in
     let e = lines-are (sizesOf (g .limit) (g .text .now)) _ (q .last .1 .1 .1 .1 .1 .0) (q .result) (q .ensures) in
-    with-said printedSaid (p .ensures .0 ∙ ap (λ (x : List ℕ). printed x (length (g .out .now))) e)
+    with-lines _ _ (p .ensures .0 ∙ ap (λ (x : List ℕ). printed x (length (g .out .now))) e)
     (p .ensures .1 ∙ ap (λ (x : List ℕ). printedAfter x (g .out .now)) e)
 
 pub sizes-text-spec : {M : Type 1} → statement M

@@ -4,7 +4,7 @@ use borrow.Author.Needs.{needs}
 use Rattle.rule_ranges.specs.declared.Range.{Range}
 use Rattle.rule_ranges.specs.declared.Range.the-variants.{Spans, Faulty}
 use Rattle.rule_ranges.specs.Ranges.{rangeSaid}
-use Rattle.rule_ranges.specs.ForProofs.{rangeNumber}
+use Rattle.rule_ranges.specs.Ranges.{rangeNumber}
 use Rattle.rule_file.specs.Exported.{oneNumber}
 use Rattle.file_exports.proofs.Framed.{framed}
 use Rattle.file_exports.proofs.put_range.Statement.{statement}

@@ -4,7 +4,7 @@ use borrow.Author.Needs.{needs}
 use Rattle.rule_sizes.specs.declared.Measure.{Measure}
 use Rattle.rule_sizes.specs.declared.Measure.the-variants.{Fills, Faulty}
 use Rattle.rule_sizes.specs.Sizes.{measureSaid}
-use Rattle.rule_sizes.specs.ForProofs.{measureNumber}
+use Rattle.rule_sizes.specs.Sizes.{measureNumber}
 use Rattle.rule_file.specs.Exported.{oneNumber}
 use Rattle.file_exports.proofs.Framed.{framed}
 use Rattle.file_exports.proofs.put_size.Statement.{statement}

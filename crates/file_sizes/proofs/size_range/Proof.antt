@@ -5,7 +5,8 @@ use Rattle.rule_ranges.specs.declared.TypeRange.the-variants.{NotAccepted}
 use Rattle.rule_ranges.specs.Ranges.{typeRangeSaid}
 use Rattle.archive.specs.Starts.{startsOf}
 use Rattle.rule_file_sizes.specs.Ranges.{tablesShort, sizeRange, framesRanged}
-use Rattle.law_file.proofs.Over.{refused, given, with-said}
+use Rattle.law_file.proofs.Over.{refused, given}
+use Rattle.law_file_sizes.proofs.Said.{range-said, with-values}
 use Rattle.file_sizes.proofs.Ranged.{few-starts, is-short, not-short}
 use Rattle.file_sizes.proofs.size_range.Statement.{statement}
 use Rattle.file_sizes.proofs.size_range.Tie as tie
@@ -15,7 +16,8 @@ unfolding sizeRange framesRanged
 returns c =
     let g = c .before .before .before .before .before .before .args in
     let b = tablesShort (g .least .now) (g .greatest .now) in
-    with-said typeRangeSaid (ap NotAccepted (c .short-read .ensures) ∙ is-short b _ _ (c .before .if1 .taken))
+    with-values typeRangeSaid (range-said _ _ _ _ _ _)
+    (ap NotAccepted (c .short-read .ensures) ∙ is-short b _ _ (c .before .if1 .taken))
     (is-short b _ _ (c .before .if1 .taken))
 
 returns-2 : tie.Need-returns-2
@@ -23,7 +25,7 @@ unfolding sizeRange framesRanged
 returns-2 c =
     let e = c .before .before .before .before .before .read-file .ensures in
     let h = c .before .before .before .before .before .before .before .if1 .left in
-    with-said typeRangeSaid
+    with-values typeRangeSaid (range-said _ _ _ _ _ _)
     (refused _ _ _ _ _ _ e (c .before .before .frames-in .ensures) (c .enum-told .given .1) _ _ ∙ not-short _ _ _ h)
     (e .1 .1 ∙ not-short _ _ _ h)
 
@@ -33,7 +35,7 @@ returns-3 c =
     let e = c .before .before .before .before .before .before .before .before .before .before .read-file .ensures in
     let h = c .before .before .before .before .before .before .before .before .before .before .before .before .if1 .left
     in
-    with-said typeRangeSaid
+    with-values typeRangeSaid (range-said _ _ _ _ _ _)
     (given _ _ _ _ _ _ e (c .before .before .before .before .before .before .before .frames-in .ensures)
     (c .before .before .before .before .before .k .given .1) (c .before .before .first-frames .ensures) _ _
     (rw (c .before .find-starts .ensures) at (c .type-range .ensures))

@@ -11,7 +11,8 @@ use Rattle.frames.proofs.Put.{put-length}
 use Rattle.rule_sizes.specs.declared.Measure.{Measure}
 use Rattle.rule_sizes.specs.Sizes.{measureSaid, sizeSaidFrame, sizeFrame, sizeFrames}
 use Rattle.rule_sizes.proofs.Laws.{known-none}
-use Rattle.rule_ranges.specs.ForProofs.{measureMarked, KnownMarked}
+use Rattle.rule_ranges.specs.Ranges.{measureMarked}
+use Rattle.rule_ranges.specs.ForProofs.{KnownMarked}
 use Rattle.rule_ranges.proofs.Laws.{no-counts}
 use Rattle.type_sizes.proofs.Written.{none-yet, one-more, too-many, no-room, all-written}
 use Rattle.type_sizes.proofs.measure_all.Statement.{statement}

@@ -8,7 +8,8 @@ use lib.ListN.{length}
 use borrow.Author.Needs.{needs}
 use Rattle.archive.specs.declared.Starts.{Starts}
 use Rattle.rule_sizes.proofs.Laws.{known-none}
-use Rattle.rule_ranges.specs.ForProofs.{measureMarked, KnownMarked}
+use Rattle.rule_ranges.specs.Ranges.{measureMarked}
+use Rattle.rule_ranges.specs.ForProofs.{KnownMarked}
 use Rattle.type_sizes.proofs.measure_marked.Statement.{statement}
 use Rattle.type_sizes.proofs.measure_marked.Tie as tie
 

@@ -14,7 +14,8 @@ use Rattle.rule_sizes.specs.Sizes.{framesOf}
 use Rattle.rule_sizes.proofs.Laws.{known-none}
 use Rattle.rule_ranges.specs.declared.Range.{Range}
 use Rattle.rule_ranges.specs.Ranges.{countsOf, rangeOf, rangeSaid, rangeSaidFrame, rangeFrame}
-use Rattle.rule_ranges.specs.ForProofs.{measureMarked, KnownMarked}
+use Rattle.rule_ranges.specs.Ranges.{measureMarked}
+use Rattle.rule_ranges.specs.ForProofs.{KnownMarked}
 use Rattle.size_pending.proofs.Marks.{range-all}
 use Rattle.type_sizes.proofs.Written.{none-yet, one-more, too-many, no-room, all-written}
 use Rattle.type_sizes.proofs.range_all.Statement.{statement}

@@ -23,6 +23,6 @@ gelmusko-size-range-spec =
     (λ c.
     let e = c .before .before .before .before .before .before .size-range .ensures in
     handed oneNumber rangeSaidFrame _ (c .before .before .put-range .ensures)
-    (e .1 .0 ∙ ap typeRangeSaid (range-clamped _ _ _ _ _ _ _
+    (ap typeRangeSaid (e .0 ∙ range-clamped _ _ _ _ _ _ _
     (c .before .before .before .before .before .before .before .clamped .ensures))) (e .1 .1)
     (c .before .before .before .before .before .before .before .before .before .if1 .left) _ _))

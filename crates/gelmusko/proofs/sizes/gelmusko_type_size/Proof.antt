@@ -23,6 +23,6 @@ gelmusko-type-size-spec =
     (λ c.
     let e = c .before .before .before .before .before .before .type-size .ensures in
     handed oneNumber sizeSaidFrame _ (c .before .before .put-size .ensures)
-    (e .1 .0 ∙ ap sizeSaid (size-clamped _ _ _ _ _
+    (ap sizeSaid (e .0 ∙ size-clamped _ _ _ _ _
     (c .before .before .before .before .before .before .before .clamped .ensures))) (e .1 .1)
     (c .before .before .before .before .before .before .before .before .before .if1 .left) _ _))

@@ -1,5 +1,5 @@
 -- `measure_of`: by the number.
-use Rattle.rule_sizes.specs.ForProofs.{measureOf}
+use Rattle.rule_sizes.specs.Sizes.{measureOf}
 use borrow.Author.Tests.{eq-eqb, ne-eqb}
 use borrow.Author.Needs.{needs}
 use Rattle.size_steps.proofs.table.measure_of.Statement.{statement}

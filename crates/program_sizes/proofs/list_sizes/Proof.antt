@@ -1,17 +1,17 @@
--- `list_ranges` is safe and ends: what it lends to be written is a part of its buffer.
+-- `list_sizes` is safe and ends: what it lends to be written is a part of its buffer.
 use mathlib.Core.Path.{sym}
 use lib.Seq.{length-take-le}
 use borrow.Author.Needs.{needs}
 use Rattle.law_file.proofs.Printed.{bytes-within}
-use Rattle.sizes.proofs.list_ranges.Statement.{statement}
-use Rattle.sizes.proofs.list_ranges.Tie as tie
+use Rattle.program_sizes.proofs.list_sizes.Statement.{statement}
+use Rattle.program_sizes.proofs.list_sizes.Tie as tie
 
 within : tie.Need-array-share-prefix-lines
-within c = let t = c .before .before .before .before .ranges-text in
+within c = let t = c .before .before .before .before .sizes-text in
     bytes-within _ _ _ _ _ (t .ensures .0) (t .ensures .1 .1) (c .before .m .given .1)
 
-pub list-ranges-spec : {M : Type 1} → statement M
-list-ranges-spec =
+pub list-sizes-spec : {M : Type 1} → statement M
+list-sizes-spec =
     tie.close
     (tie.spec
     (λ c. search needs)

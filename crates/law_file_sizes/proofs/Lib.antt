@@ -1,0 +1,4 @@
+pub mod Means
+pub mod Words
+pub mod Steps
+pub mod Said
