@@ -53,9 +53,9 @@
  *
  * A TEXEL. gelmusko_texel asks for no file, and its `out` gets no frame but a texel, of 2 bytes.
  *
- * STACK. No function takes more stack than GELMUSKO_.._STACK bytes, whatever the file: the figures are measured, on a
- * painted stack over files that go deep or long, and rounded up (bindings/c/stack.c, which also calls each function in
- * a thread with just that much). Stack is no part of what is proved.
+ * STACK. GELMUSKO_.._STACK is the stack in bytes that is enough for each function: measured on a painted stack over
+ * files that go deep or long, and rounded up (bindings/c/stack.c, which also calls each function in a thread with that
+ * much, or 16 KiB, the least that a thread may have). Stack is no part of what is proved.
  *
  * Each function is proved, for all inputs, to return and to leave in each buffer what crates/rule_file/specs says, and
  * for a texel crates/texel/specs; it ends, and, given its stack, it never traps. */

@@ -1,5 +1,6 @@
 /* How much stack each exported function takes, measured on a painted stack over files that go deep or long, held to the
- * figures of the header; then each is called in a thread that has just that much. */
+ * figures of the header; then each is called in a thread that has just that much, or 16 KiB, the least that a thread
+ * may have. */
 #define _GNU_SOURCE
 #include <pthread.h>
 #include <stdio.h>
