@@ -11,7 +11,6 @@ use rule_file::OptionUsize;
 use rule_rows::Pass;
 use text_encode::write_text;
 ghost use mathlib.Core.Path.{_≡_};
-ghost use Prim.Native.Nat.{_≤_};
 ghost use lib.ListN.{length};
 ghost use Rattle.answers.specs.Limit.{maxFrameBytes, maxAnswerBytes};
 ghost use Rattle.answers.specs.Numbers.{printedSaid};
@@ -21,19 +20,18 @@ ghost use Rattle.rule_file.specs.Typing.{typedText};
 ghost use Rattle.rule_file.specs.Printed.{printed, printedAfter};
 
 // Writes the lines of some frames, all of them or none.
-fn put_lines(frames: &[u8], out: &mut [u8]) -> Printed
-    requires { ⌜ length (now frames) ≤ maxAnswerBytes ⌝ }
+pub fn put_lines(frames: &[u8], out: &mut [u8]) -> Printed
     ensures outcome { λ r. ⌜ r
         ≡ printed (textOf (now (frames .entry)) (frameCount (now (frames .entry)))) (length (now (out .entry))) ⌝ }
     ensures out { λ r. ⌜ now (out .exit)
         ≡ printedAfter (textOf (now (frames .entry)) (frameCount (now (frames .entry)))) (now (out .entry)) ⌝ }
 {
-    let n = 33 * (frames.len() / 16);
-    if out.len() < n {
+    let n = frames.len() / 16;
+    if out.len() / 33 < n {
         return Printed::Short;
     }
     write_text(frames, out);
-    Printed::Bytes(n)
+    Printed::Bytes(33 * n)
 }
 
 // The same over lent buffers of the largest sizes that a file asks for.

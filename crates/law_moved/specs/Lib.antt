@@ -1,0 +1,4 @@
+pub mod Moves
+pub mod Frames
+pub mod Out
+pub mod Texts
