@@ -15,8 +15,8 @@
  * SLICES. Each slice is a pointer and a length in bytes, of a table of counts in counts of 4 bytes each. It must
  * point to that many, aligned as its type is, which the caller may read, and, unless it is const, write. A slice of
  * length 0 is neither read nor written, and its pointer may be null; a null pointer with another length is undefined.
- * Slices that are written (frames, answers, out) may not overlap each other, nor any other slice of the call. Const
- * slices (text, left, right, least, greatest) may overlap each other.
+ * Slices that are written (frames, answers, marks, cut, out) may not overlap each other, nor any other slice of the
+ * call. Const slices (text, left, right, least, greatest) may overlap each other.
  *
  * BUFFERS. The caller lends them; the library keeps no pointer and no state, allocates nothing, and may be called
  * from several threads with buffers of their own.
@@ -26,10 +26,14 @@
  *   out       16 bytes: one frame, what the call hands back.
  *   least, greatest   1,024 counts each, one for each override of the file; those past its overrides are free. A table
  *             of fewer counts is a lent buffer too short. They are only read.
+ *   marks     1,024 bytes, one for each row that a file may have. A table of fewer is a lent buffer too short.
+ *   cut       33 bytes for each line of the cut.                     33,792 bytes are enough for every file.
  *
  * A longer buffer is as good; its bytes past what is written stay as they were. After numbers 1 to 3 no byte of
- * `frames` and `answers` is changed. After numbers 4 to 6 of the file `frames` has the frames of the text at its
- * front, and `answers` is as it was. An accepted file leaves its frames there too.
+ * `frames` and `answers` is changed, but after the 3 of a `cut` that is too short `frames` is as an accepted file
+ * leaves it. After numbers 4 to 6 of the file `frames` has the frames of the text at its front, and `answers` is as it
+ * was. An accepted file leaves its frames there too. After every number `cut` is as it was, and a table of marks is all
+ * 0, unless it or `out` is too short: then it is as it was.
  *
  * WHAT IS RETURNED: 0 (GELMUSKO_GIVEN) where what was asked for was given, and else a number. The frame in out says
  * the same, with its place:
@@ -40,6 +44,8 @@
  *             For a row's answer 10 to 20, 22, or in the second pass 41, with an index in b4-7 and a flag in b8
  *             For a type's size 42 to 44, with the lowest faulty type as its place; for a range 45 too, with the
  *             lowest override at fault
+ *             For a part and a cut 48 too, with place 0; of a cut that is given number 0 has as its place how many
+ *             lines it has
  *   b0 = 11   a verdict: 0, 22 or 30 to 33 in b1, its compose row in b2-3, expected or component in b4-7, given in
  *             b8-11
  *   b0 = 12   alignment and size in bytes: 2, 4, 8 or 16 in b4, the size in b8-11
@@ -57,8 +63,9 @@
  * files that go deep or long, and rounded up (bindings/c/stack.c, which also calls each function in a thread with that
  * much, or 16 KiB, the least that a thread may have). Stack is no part of what is proved.
  *
- * Each function is proved, for all inputs, to return and to leave in each buffer what crates/rule_file/specs says, and
- * for a texel crates/texel/specs; it ends, and, given its stack, it never traps. */
+ * Each function is proved, for all inputs, to return and to leave in each buffer what crates/rule_file/specs says, for
+ * sizes crates/rule_file_sizes/specs, for a part and a cut crates/law_cut/specs, and for a texel crates/texel/specs; it
+ * ends, and, given its stack, it never traps. */
 #ifndef GELMUSKO_H
 #define GELMUSKO_H
 
@@ -72,11 +79,13 @@ extern "C" {
 /* sizes that are enough for every file */
 #define GELMUSKO_FRAMES_BYTES 16384
 #define GELMUSKO_ANSWERS_BYTES 32768
+#define GELMUSKO_CUT_BYTES 33792
 #define GELMUSKO_OUT_BYTES 16
 #define GELMUSKO_TEXEL_BYTES 2
 
-/* counts of a table */
+/* counts, and marks, of a table */
 #define GELMUSKO_COUNTS 1024
+#define GELMUSKO_MARKS 1024
 
 /* the most stack that each function takes, in bytes */
 #define GELMUSKO_READ_FILE_STACK 2048
@@ -88,6 +97,8 @@ extern "C" {
 #define GELMUSKO_POINTER_BASE_STACK 4096
 #define GELMUSKO_TYPE_SIZE_STACK 24576
 #define GELMUSKO_SIZE_RANGE_STACK 32768
+#define GELMUSKO_SMALLEST_PART_STACK 65536
+#define GELMUSKO_CUT_TEXT_STACK 81920
 #define GELMUSKO_TEXEL_STACK 512
 
 /* passes */
@@ -114,6 +125,7 @@ extern "C" {
 #define GELMUSKO_HUGE 44u       /* a size of 2 to the 32 or more; place: that type */
 #define GELMUSKO_SPAN 45u       /* a least count of 0 or above its greatest; place: that override. Only of
                                    gelmusko_size_range */
+#define GELMUSKO_SOUND 48u      /* the row has a type; place 0. Only of gelmusko_smallest_part and gelmusko_cut_text */
 #define GELMUSKO_DIFFERENT 256u /* a comparison: not the same type. out: b0 = 10, number 0 */
 #define GELMUSKO_NO_POINTER 257u /* a base: the type is no pointer. out: b0 = 10, number 0 */
 
@@ -178,6 +190,25 @@ uint32_t gelmusko_size_range(const uint8_t *text, size_t text_len, uint32_t limi
                              uint8_t *frames, size_t frames_len,
                              const uint32_t *least, size_t least_len, const uint32_t *greatest, size_t greatest_len,
                              uint32_t n, uint8_t *out, size_t out_len);
+
+/* The smallest part of a file that shows why a row has no type: the rows that its reading follows, by the rules of the
+ * first pass. Returns 0 where the row's answer is a refusal (10 to 20) or 22; of the first 1,024 bytes of `marks` those
+ * of these rows are 1 then, and all others 0. Returns 1 to 6 where the file is refused, 6 where it has no such row, and
+ * 48 where the row has a type; these bytes are all 0 then. A `marks` of fewer bytes is a lent buffer too short: the
+ * call returns 1 or 2 if that is the text's, and else 3, and changes nothing but out. out: number 0 to 6 or 48. */
+uint32_t gelmusko_smallest_part(const uint8_t *text, size_t text_len, uint32_t limit,
+                                uint8_t *frames, size_t frames_len,
+                                uint32_t row, uint8_t *marks, size_t marks_len, uint8_t *out, size_t out_len);
+
+/* The lines of the file cut to these rows: all its types, members and items, and the marked rows in their order,
+ * renumbered; no components, and a compose has none. A row that is named and not marked becomes row 0. The cut is
+ * accepted, has no more lines than the text, and its last row has the answer of the row asked for, with places that are
+ * rows renumbered. Returns 0, and the lines stand at the front of `cut`; their number is the place of number 0 in out.
+ * Returns 1 to 6 where the file is refused, 6 where it has no such row, 48 where the row has a type, and last of all 3
+ * where `cut` is too short; `cut` stays as it was then. out: number 0 to 6 or 48. */
+uint32_t gelmusko_cut_text(const uint8_t *text, size_t text_len, uint32_t limit,
+                           uint8_t *frames, size_t frames_len,
+                           uint32_t row, uint8_t *cut, size_t cut_len, uint8_t *out, size_t out_len);
 
 /* The R16Unorm texel of a density in hundredths of a per cent, 0 to 10,000: density times 65,535 divided by 10,000,
  * rounded to the nearest whole number, a half to the even one. Returns 0, and the first two bytes of out are the

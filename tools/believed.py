@@ -29,6 +29,9 @@ contract file_pointers::canonical_form
 contract file_pointers::pointer_base
 contract file_sizes::type_size
 contract file_sizes::size_range
+contract file_cut::smallest_part
+contract file_cut::cut_text
+contract file_lines::put_lines
 contract text_encode::write_text
 contract program_limit::word_of
 contract program_limit::asked_by
@@ -48,6 +51,9 @@ theorem file_sizes/proofs/Alike.antt size-alike range-alike range-frames-alike
 theorem explain_file/proofs/Alike.antt explained-alike sized-alike ranged-alike
 theorem gelmusko/proofs/Limits.antt no-room-alike read-file-alike same-type-alike canonical-form-alike pointer-base-alike
 theorem gelmusko/proofs/Limits.antt type-size-alike size-range-alike type-rows-alike row-type-alike compose-verdict-alike
+theorem gelmusko/proofs/Limits.antt smallest-part-alike cut-text-alike
+theorem law_cut/proofs/Public.antt marks-follow marks-named marks-by marks-refusal marks-least cut-accepted cut-type cut-said same-frame
+theorem law_cut/proofs/Outcomes.antt outcome-is outcome-refused no-mark written-accepted written-shows
 theorem law_rows/proofs/Range.antt range
 theorem ir/proofs/Formats.antt formats-named
 theorem rule/proofs/Shows.antt texels-shown sees-more

@@ -1,4 +1,4 @@
-/* Calls every function once, on an empty file with null pointers of length 0 and on a file of one type, and checks the numbers. Prints nothing if all are right. */
+/* Calls every function once, on an empty file with null pointers of length 0 and on files of one type and of three rows, and checks the numbers. Prints nothing if all are right. */
 #include <stdio.h>
 #include <string.h>
 
@@ -18,6 +18,8 @@ int main(void)
 {
     uint8_t out[16], frames[16], answers[16], before[16];
     static const uint32_t counts[GELMUSKO_COUNTS];
+    static uint8_t marks[GELMUSKO_MARKS + 1], cut[GELMUSKO_CUT_BYTES], rows_frames[48];
+    size_t i, marked;
     memset(out, 7, 16);
     memcpy(before, out, 16);
 
@@ -35,6 +37,14 @@ int main(void)
            GELMUSKO_SHORT);
     expect("size_range", gelmusko_size_range(NULL, 0, 0, NULL, 0, counts, 1024, counts, 1024, 0, out, 16),
            GELMUSKO_INDEX);
+    memset(marks, 7, sizeof marks);
+    expect("smallest_part, no marks", gelmusko_smallest_part(NULL, 0, 0, NULL, 0, 0, NULL, 0, out, 16), GELMUSKO_SHORT);
+    expect("smallest_part", gelmusko_smallest_part(NULL, 0, 0, NULL, 0, 0, marks, GELMUSKO_MARKS, out, 16),
+           GELMUSKO_INDEX);
+    for (i = marked = 0; i < GELMUSKO_MARKS; i++) marked += marks[i] != 0;
+    expect("no mark", (uint32_t)marked, 0);
+    expect("the byte after them", marks[GELMUSKO_MARKS], 7);
+    expect("cut_text", gelmusko_cut_text(NULL, 0, 0, NULL, 0, 0, NULL, 0, out, 16), GELMUSKO_INDEX);
     expect("frame of number 6", out[0] * 256u + out[1], 10 * 256 + 6);
 
     /* no out, or one that is too short */
@@ -66,6 +76,35 @@ int main(void)
            GELMUSKO_GIVEN);
     expect("its frame", out[0] * 65536u + out[8] * 256u + out[12], 13 * 65536 + 4 * 256 + 4);
     expect("65,536 is no type", gelmusko_pointer_base(text, 33, 0, frames, 16, 65536, out, 16), GELMUSKO_INDEX);
+
+    /* a literal, a row of unknown kind, and one that reads it: the last is newer, and the first no part of it */
+    static const char rows[] = "04010000000001000000000000000000\n"
+                               "04ff0000000000000000000000000000\n"
+                               "04110100000000000000000000000000\n";
+    static const char part[] = "04ff0000000000000000000000000000\n"
+                               "04110000000000000000000000000000\n";
+    text = (const uint8_t *)rows;
+    memset(marks, 7, sizeof marks);
+    expect("a part",
+           gelmusko_smallest_part(text, 99, 0, rows_frames, 48, 2, marks, sizeof marks, out, 16), GELMUSKO_GIVEN);
+    for (i = marked = 0; i < GELMUSKO_MARKS; i++) marked += marks[i] != 0;
+    expect("two marks", (uint32_t)marked, 2);
+    expect("rows 1 and 2", marks[1] == 1 && marks[2] == 1, 1);
+    expect("the byte after them", marks[GELMUSKO_MARKS], 7);
+    expect("a row with a type",
+           gelmusko_smallest_part(text, 99, 0, rows_frames, 48, 0, marks, GELMUSKO_MARKS, out, 16), GELMUSKO_SOUND);
+    for (i = marked = 0; i < GELMUSKO_MARKS; i++) marked += marks[i] != 0;
+    expect("no mark with number 48", (uint32_t)marked, 0);
+    memset(cut, 7, sizeof cut);
+    expect("no room for a cut", gelmusko_cut_text(text, 99, 0, rows_frames, 48, 2, cut, 65, out, 16), GELMUSKO_SHORT);
+    for (i = marked = 0; i < sizeof cut; i++) marked += cut[i] != 7;
+    expect("cut unchanged", (uint32_t)marked, 0);
+    expect("a cut", gelmusko_cut_text(text, 99, 0, rows_frames, 48, 2, cut, sizeof cut, out, 16), GELMUSKO_GIVEN);
+    expect("its lines", out[0] * 65536u + out[1] * 256u + out[2], 10 * 65536 + 2);
+    expect("its bytes", memcmp(cut, part, 66) != 0, 0);
+    expect("the byte after it", cut[66], 7);
+    expect("no cut, a type", gelmusko_cut_text(text, 99, 0, rows_frames, 48, 0, NULL, 0, out, 16), GELMUSKO_SOUND);
+    expect("no cut, no row", gelmusko_cut_text(text, 99, 0, rows_frames, 48, 3, NULL, 0, out, 16), GELMUSKO_INDEX);
 
     /* a texel has two bytes, low byte first */
     memcpy(out, before, 16);

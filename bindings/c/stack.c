@@ -14,9 +14,10 @@
 #define PAGE 4096u
 
 static uint8_t text[33 * 1024 + 1], frames[GELMUSKO_FRAMES_BYTES], answers[GELMUSKO_ANSWERS_BYTES];
+static uint8_t marks[GELMUSKO_MARKS], cut[GELMUSKO_CUT_BYTES];
 static uint32_t least[GELMUSKO_COUNTS], greatest[GELMUSKO_COUNTS];
 static size_t text_len;
-static uint32_t asked;
+static uint32_t asked, pass_asked, row_asked;
 
 /* a frame as a line of the text */
 static void frame(const uint8_t *b)
@@ -89,6 +90,24 @@ static void structs(int pending)
     asked = (uint32_t)(first + 509);
 }
 
+/* 1,024 rows, each reading the one before it twice: the first is a value, or newer where that is asked for */
+static void rows(int newer)
+{
+    static const uint8_t literal[16] = { 4, 1, 0, 0, 0, 0, 1 }, math[16] = { 4, 22 };
+    int i;
+    text_len = 0;
+    frame(newer ? math : literal);
+    for (i = 0; i < 1023; i++) {
+        uint8_t b[16] = { 4, 18 };
+        b[2] = b[4] = (uint8_t)(i % 256);
+        b[3] = b[5] = (uint8_t)(i / 256);
+        b[6] = 2;
+        frame(b);
+    }
+    asked = 0;
+    row_asked = 1023;
+}
+
 /* rows of every kind, from a file */
 static void stored(const char *path)
 {
@@ -99,7 +118,6 @@ static void stored(const char *path)
     asked = 0;
 }
 
-static uint32_t pass_asked, row_asked;
 static uint8_t out[GELMUSKO_OUT_BYTES];
 static const uint8_t number[16] = { 8 };
 
@@ -143,6 +161,14 @@ static void size_range(void)
     gelmusko_size_range(text, text_len, 0, frames, sizeof frames, least, GELMUSKO_COUNTS, greatest, GELMUSKO_COUNTS,
                         asked, out, sizeof out);
 }
+static void smallest_part(void)
+{
+    gelmusko_smallest_part(text, text_len, 0, frames, sizeof frames, row_asked, marks, sizeof marks, out, sizeof out);
+}
+static void cut_text(void)
+{
+    gelmusko_cut_text(text, text_len, 0, frames, sizeof frames, row_asked, cut, sizeof cut, out, sizeof out);
+}
 static void texel(void) { gelmusko_texel(3000, out, sizeof out); }
 
 static const struct {
@@ -159,6 +185,8 @@ static const struct {
     { "gelmusko_pointer_base", pointer_base, GELMUSKO_POINTER_BASE_STACK },
     { "gelmusko_type_size", type_size, GELMUSKO_TYPE_SIZE_STACK },
     { "gelmusko_size_range", size_range, GELMUSKO_SIZE_RANGE_STACK },
+    { "gelmusko_smallest_part", smallest_part, GELMUSKO_SMALLEST_PART_STACK },
+    { "gelmusko_cut_text", cut_text, GELMUSKO_CUT_TEXT_STACK },
     { "gelmusko_texel", texel, GELMUSKO_TEXEL_STACK },
 };
 #define FUNCTIONS (sizeof functions / sizeof *functions)
@@ -218,6 +246,7 @@ static void files(int count, char **paths)
         for (i = 0; i < 2; i++) {
             arrays(i); each();
             structs(i); each();
+            rows(i); each();
         }
         for (i = 0; i < count; i++) {
             stored(paths[i]);

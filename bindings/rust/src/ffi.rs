@@ -104,5 +104,29 @@ extern "C" {
         out: *mut u8,
         out_len: usize,
     ) -> u32;
+    pub fn gelmusko_smallest_part(
+        text: *const u8,
+        text_len: usize,
+        limit: u32,
+        frames: *mut u8,
+        frames_len: usize,
+        row: u32,
+        marks: *mut u8,
+        marks_len: usize,
+        out: *mut u8,
+        out_len: usize,
+    ) -> u32;
+    pub fn gelmusko_cut_text(
+        text: *const u8,
+        text_len: usize,
+        limit: u32,
+        frames: *mut u8,
+        frames_len: usize,
+        row: u32,
+        cut: *mut u8,
+        cut_len: usize,
+        out: *mut u8,
+        out_len: usize,
+    ) -> u32;
     pub fn gelmusko_texel(density: u32, out: *mut u8, out_len: usize) -> u32;
 }

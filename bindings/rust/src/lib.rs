@@ -2,7 +2,7 @@
 //!
 //! A file is a text of lines, one frame of 16 bytes a line. Each function is lent a buffer for the text's frames, of 16 bytes a line, and those that answer rows one for the
 //! answers, of 16 bytes a row and 16 more a compose. [`FRAMES_BYTES`] and [`ANSWERS_BYTES`] are enough for every file; bytes past what is written stay as they were.
-//! [`type_file`] brings its own. Rows, types, lines and frames count from 0.
+//! [`type_file`] brings its own. A cut is written to a buffer of 33 bytes a line; [`CUT_BYTES`] are enough for every file. Rows, types, lines and frames count from 0.
 //!
 //! ```
 //! use gelmusko::{row_type, Answer, Pass, Type, ANSWERS_BYTES, FRAMES_BYTES};
@@ -22,6 +22,10 @@ pub const FRAMES_BYTES: usize = 16_384;
 pub const ANSWERS_BYTES: usize = 32_768;
 /// Counts of a table, one for each override of a file; those past its overrides are free.
 pub const COUNTS: usize = 1_024;
+/// Marks of a table, one for each row that a file may have.
+pub const MARKS: usize = 1_024;
+/// Bytes of a buffer for the lines of a cut that are enough for every file.
+pub const CUT_BYTES: usize = 33_792;
 
 const DIFFERENT: u32 = 256;
 const NO_POINTER: u32 = 257;
@@ -271,6 +275,14 @@ pub enum SizeRange {
     Refused(Outcome),
 }
 
+/// Why there is no smallest part of a file that shows a row's refusal. `Refused` has the file's number, 6, or 3 of a buffer for the cut.
+#[derive(Clone, Copy, Debug, PartialEq, Eq)]
+pub enum NoPart {
+    /// 48: the row has a type.
+    Sound,
+    Refused(Outcome),
+}
+
 /// What asking for the texel of a density gives.
 #[derive(Clone, Copy, Debug, PartialEq, Eq)]
 pub enum Texel {
@@ -313,6 +325,16 @@ impl Outcome {
                 frame: frame.place(),
             },
             _ => never(frame),
+        }
+    }
+}
+
+impl NoPart {
+    /// What a frame of family 10 stands for, by its number 1 to 6 or 48.
+    fn of(frame: Frame) -> NoPart {
+        match frame.0[1] {
+            48 => NoPart::Sound,
+            _ => NoPart::Refused(Outcome::of(frame)),
         }
     }
 }
@@ -663,6 +685,68 @@ impl Limit {
             _ => SizeRange::Refused(Outcome::of(out)),
         }
     }
+
+    /// The smallest part of a file that shows why a row has no type: a mark for each row that its reading follows, by the rules of the first pass. The frame buffer is as
+    /// [`Limit::read_file`] leaves it.
+    pub fn smallest_part(
+        self,
+        text: &[u8],
+        frames: &mut [u8],
+        row: u32,
+    ) -> Result<[bool; MARKS], NoPart> {
+        let (mut marks, mut out) = ([0; MARKS], Frame::default());
+        let number = unsafe {
+            ffi::gelmusko_smallest_part(
+                text.as_ptr(),
+                text.len(),
+                self.0,
+                frames.as_mut_ptr(),
+                frames.len(),
+                row,
+                marks.as_mut_ptr(),
+                MARKS,
+                out.0.as_mut_ptr(),
+                16,
+            )
+        };
+        if number == 0 {
+            Ok(marks.map(|mark| mark == 1))
+        } else {
+            Err(NoPart::of(out))
+        }
+    }
+
+    /// Writes the lines of the file cut to the rows that [`Limit::smallest_part`] marks to the front of a buffer, and gives how many they are, 33 bytes each: all types, members and items,
+    /// and the marked rows renumbered in order. A row that is named and not marked becomes row 0, and a compose loses its components. The cut's last row has the row's answer, with places
+    /// that are rows renumbered. Number 3, after all others, where the buffer is too short. With any number it is as it was. The frame buffer is as [`Limit::read_file`] leaves it.
+    pub fn cut_text(
+        self,
+        text: &[u8],
+        frames: &mut [u8],
+        row: u32,
+        cut: &mut [u8],
+    ) -> Result<u16, NoPart> {
+        let mut out = Frame::default();
+        let number = unsafe {
+            ffi::gelmusko_cut_text(
+                text.as_ptr(),
+                text.len(),
+                self.0,
+                frames.as_mut_ptr(),
+                frames.len(),
+                row,
+                cut.as_mut_ptr(),
+                cut.len(),
+                out.0.as_mut_ptr(),
+                16,
+            )
+        };
+        if number == 0 {
+            Ok(out.place())
+        } else {
+            Err(NoPart::of(out))
+        }
+    }
 }
 
 /// [`Limit::read_file`] within 1,024 frames.
@@ -726,6 +810,16 @@ pub fn size_range(
     n: u32,
 ) -> SizeRange {
     Limit::default().size_range(text, frames, least, greatest, n)
+}
+
+/// [`Limit::smallest_part`] within 1,024 frames.
+pub fn smallest_part(text: &[u8], frames: &mut [u8], row: u32) -> Result<[bool; MARKS], NoPart> {
+    Limit::default().smallest_part(text, frames, row)
+}
+
+/// [`Limit::cut_text`] within 1,024 frames.
+pub fn cut_text(text: &[u8], frames: &mut [u8], row: u32, cut: &mut [u8]) -> Result<u16, NoPart> {
+    Limit::default().cut_text(text, frames, row, cut)
 }
 
 /// The R16Unorm texel of a density in hundredths of a per cent, 0 to 10,000: the nearest to as large a part of 65,535, of two that are equally near the even one.

@@ -147,7 +147,7 @@ fn faults_of_frames_leave_the_frames() {
     }
 }
 
-/// What the nine functions return with these buffers, an `out` of so many bytes among them, and that `out`.
+/// What the eleven functions return with these buffers, an `out` of so many bytes among them, and that `out`.
 fn with_out(
     file: &[u8],
     frames: &mut [u8],
@@ -160,6 +160,8 @@ fn with_out(
     let (l, z) = (frame.as_ptr(), frame.len());
     let counts = vec![1; gelmusko::COUNTS];
     let (c, w) = (counts.as_ptr(), counts.len());
+    let mut marks = lent(gelmusko::MARKS);
+    let (q, v) = (marks.as_mut_ptr(), marks.len());
     let call = |function: &dyn Fn(*mut u8) -> u32| {
         let mut out = lent(out_bytes);
         (function(out.as_mut_ptr()), out)
@@ -176,6 +178,8 @@ fn with_out(
         call(&|o| unsafe { ffi::gelmusko_pointer_base(t, n, 0, f, m, 0, o, out_bytes) }),
         call(&|o| unsafe { ffi::gelmusko_type_size(t, n, 0, f, m, 0, o, out_bytes) }),
         call(&|o| unsafe { ffi::gelmusko_size_range(t, n, 0, f, m, c, w, c, w, 0, o, out_bytes) }),
+        call(&|o| unsafe { ffi::gelmusko_smallest_part(t, n, 0, f, m, 0, q, v, o, out_bytes) }),
+        call(&|o| unsafe { ffi::gelmusko_cut_text(t, n, 0, f, m, 0, q, v, o, out_bytes) }),
     ]
 }
 
@@ -218,6 +222,8 @@ fn exact_and_long_out() {
             (257, accepted),
             (0, "0c000000040000000400000000000000"),
             (0, "0d000000040000000400000004000000"),
+            (48, "0a300000000000000000000000000000"),
+            (48, "0a300000000000000000000000000000"),
         ]) {
             assert_eq!(number, expected);
             assert_eq!(out, after(&bytes(&[frame]), out_bytes));

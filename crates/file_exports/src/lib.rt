@@ -12,8 +12,11 @@ use frames_answers::types::resolution_frame;
 use frames_answers::write::answer_frame;
 use frames_answers::write::newer_frame;
 use frames_answers::write::outcome_frame;
+use frames_answers::write::refused;
 use frames_answers::write::verdict_frame;
 use ir::RowNumber;
+use law_cut::CutText;
+use law_cut::PartOutcome;
 use rule_ranges::TypeRange;
 use rule_rows::Pass;
 use rule_sizes::TypeSize;
@@ -28,6 +31,7 @@ ghost use Prim.Native.Nat.{min};
 ghost use Rattle.answers.specs.Numbers.{at, noRefusal, notThere, samenessSaid, canonicalSaid, baseSaid};
 ghost use Rattle.frames.specs.Bytes.{putFrame};
 ghost use Rattle.frames.specs.Out.{refusedFrame, outcomeFrame, rowTypeSaid, composeVerdictSaid, oneFrame};
+ghost use Rattle.law_cut.specs.File.{partSaid, cutSaid};
 ghost use Rattle.rule_sizes.specs.Sizes.{sizeSaid, sizeSaidFrame};
 ghost use Rattle.rule_ranges.specs.Ranges.{typeRangeSaid, rangeSaidFrame};
 ghost use Rattle.rule_file.specs.Exported.{outcomeNumber, noRoom, oneNumber, saidNumber, saidFrame, typeSaidNumber};
@@ -206,5 +210,32 @@ pub fn put_range(out: &mut [u8], given: TypeRange) -> u32
         TypeRange::Span { place } => put(out, span_frame(place), 45),
         TypeRange::Index => put_index(out),
         TypeRange::NotAccepted(o) => put_outcome(out, o),
+    }
+}
+
+// Whether a part is marked.
+pub fn put_part(out: &mut [u8], given: PartOutcome) -> u32
+    ensures outcome { λ r. ⌜ r ≡ partSaid given .number ⌝ }
+    ensures out { λ r. ⌜ now (out .exit) ≡ putFrame (now (out .entry)) 0 (refusedFrame (partSaid given)) ⌝ }
+{
+    match given {
+        PartOutcome::Marked => put_zero(out, 0),
+        PartOutcome::Sound => put(out, refused(48, 0, 0, false), 48),
+        PartOutcome::Index => put_index(out),
+        PartOutcome::NotAccepted(o) => put_outcome(out, o),
+    }
+}
+
+// The lines of a part: how many stand as the place of number 0.
+pub fn put_cut(out: &mut [u8], given: CutText) -> u32
+    ensures outcome { λ r. ⌜ r ≡ cutSaid given .number ⌝ }
+    ensures out { λ r. ⌜ now (out .exit) ≡ putFrame (now (out .entry)) 0 (refusedFrame (cutSaid given)) ⌝ }
+{
+    match given {
+        CutText::Lines(n) => put(out, refused(0, n, 0, false), 0),
+        CutText::Short => put_outcome(out, Outcome::Short),
+        CutText::Sound => put(out, refused(48, 0, 0, false), 48),
+        CutText::Index => put_index(out),
+        CutText::NotAccepted(o) => put_outcome(out, o),
     }
 }

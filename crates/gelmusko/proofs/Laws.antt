@@ -11,7 +11,6 @@ use lib.ListN.{length}
 use borrow.Author.Tests.{le-ltb}
 use Rattle.scan.specs.Lowest.{lowest}
 use Rattle.scan.specs.declared.Found.{Found}
-use Rattle.scan.specs.declared.Found.the-variants as Fo
 use Rattle.answers.specs.declared.Outcome.{Outcome}
 use Rattle.answers.specs.declared.Outcome.the-variants.{Accepted, Long, Torn, Short, Order, Field, Index}
 use Rattle.answers.specs.declared.CanonicalType.the-variants as Ct
@@ -67,7 +66,7 @@ clamped-is g z h n k e = go (decLe 65535 n)
     go (no l) = let q : k ≡ n = omega arith in ap g q
 
 -- two things asked of an accepted file are the same where they are of its frames
-over-same : {A : Type 0} (f : Outcome → A) (g h : List ℕ → A) (t : List ℕ) (o : Outcome)
+pub over-same : {A : Type 0} (f : Outcome → A) (g h : List ℕ → A) (t : List ℕ) (o : Outcome)
     → ((n : ℕ) → o ≡ Accepted n → g (decoded t n) ≡ h (decoded t n))
     → overFile f g t o ≡ overFile f h t o
 over-same f g h t (Accepted n) e = e n refl
@@ -78,11 +77,12 @@ over-same f g h t (Order k) e = refl
 over-same f g h t (Field k) e = refl
 over-same f g h t (Index k) e = refl
 
-few : (limit : ℕ) (t : List ℕ) (f : ℕ) (room : AnswerRoom) (n : ℕ) → readFile limit t f room ≡ Accepted n
+pub few : (limit : ℕ) (t : List ℕ) (f : ℕ) (room : AnswerRoom) (n : ℕ) → readFile limit t f room ≡ Accepted n
     → frameCount (decoded t n) ≤ maxFrames
 few limit t f room n e = rw (count-decoded t n) (count-small (accepted-when limit t f room n .0 e .readable))
 
-no-row : (fr : List ℕ) (m : ℕ) → frameCount fr ≤ maxFrames → 65535 ≤ m → isRow (startsOf fr) (record { 0 = m }) ≡ false
+pub no-row : (fr : List ℕ) (m : ℕ) → frameCount fr ≤ maxFrames → 65535 ≤ m → isRow (startsOf fr) (record { 0 = m }) ≡
+    false
 no-row fr m h l = le-ltb m (rowCount (startsOf fr)) (omega (arith, starts-small fr maxFrames h .1))
 
 no-type : (fr : List ℕ) (m : ℕ) → frameCount fr ≤ maxFrames → 65535 ≤ m → isType (startsOf fr) (record { 0 = m })

@@ -15,7 +15,7 @@ use Rattle.text.specs.Room.{orShort, shortRead}
 use Rattle.text.proofs.Laws.{alike-within}
 use Rattle.frames.specs.declared.Frame.{Frame}
 use Rattle.frames.specs.Bytes.{putFrame}
-use Rattle.frames.specs.Out.{outcomeFrame, oneFrame}
+use Rattle.frames.specs.Out.{outcomeFrame, oneFrame, refusedFrame}
 use Rattle.rule_sizes.specs.Sizes.{sizeSaid, sizeSaidFrame}
 use Rattle.rule_ranges.specs.Ranges.{typeRangeSaid, rangeSaidFrame}
 use Rattle.rule_file.specs.File.{readFile, framesAfter}
@@ -30,6 +30,9 @@ use Rattle.rule_file_sizes.specs.Ranges.{sizeRange, framesRanged}
 use Rattle.law_file.proofs.Laws.{read-alike, buffer-alike}
 use Rattle.law_file.proofs.Alike.{same-alike, answers-alike, row-alike, row-answers-alike, verdict-alike}
 use Rattle.law_file.proofs.Alike.{verdict-answers-alike}
+use Rattle.law_cut.specs.File.{cutText, cutAfter, cutSaid}
+use Rattle.law_cut.specs.Exported.{partExported, framesMarked, tableAfter}
+use Rattle.law_cut.proofs.Alike.{cut-alike, lines-alike, exported-alike, frames-alike, table-alike}
 use Rattle.file_pointers.proofs.Alike.{canonical-alike, base-alike}
 use Rattle.file_sizes.proofs.Alike.{size-alike, range-alike, range-frames-alike}
 
@@ -114,6 +117,22 @@ module _ (limit : ℕ) (t fr an out : List ℕ) (pass : ℕ) where
       let s = verdictSaid n (composeVerdict (passOf pass) limit t (length fr) (length an) n) in
       overRows (oneNumber s) (answersAfterVerdict (passOf pass) limit t (length fr) an n) (oneFrame s)
 
+-- over a row's part, with a table of marks or a buffer for lines in place of the answer buffer
+module _ (limit : ℕ) (t fr out : List ℕ) (n : RowNumber) where
+  -- gelmusko_smallest_part
+  abbrev pub smallestPartGiven : List ℕ → Given
+  smallestPartGiven table =
+      let s = partExported limit t (length fr) n table in
+      exported limit t out (s .number) fr (framesMarked limit t fr table)
+      (byRoom out table (tableAfter limit t (length fr) n table)) (refusedFrame s)
+
+  -- gelmusko_cut_text
+  abbrev pub cutTextGiven : List ℕ → Given
+  cutTextGiven cut =
+      let s = cutSaid (cutText limit t (length fr) n (length cut)) in
+      exported limit t out (s .number) fr (framesAfter limit t fr NotLent)
+      (byRoom out cut (cutAfter limit t (length fr) n cut)) (refusedFrame s)
+
 -- A TEXT WITHIN TWO LIMITS
 module _ (limit other : ℕ) (t : List ℕ) (a : length t ≤ 33 * mostFrames limit)
     (b : length t ≤ 33 * mostFrames other) where
@@ -184,4 +203,22 @@ module _ (limit other : ℕ) (t : List ℕ) (a : length t ≤ 33 * mostFrames li
         let p = no-room-alike in let q = rowsFrames in
         let r = verdict-alike limit other t a b (passOf pass) (length fr) (length an) n in
         let s = verdict-answers-alike limit other t a b (passOf pass) (length fr) an n in
+        cc
+
+  module _ (fr out : List ℕ) (n : RowNumber) where
+    pub smallest-part-alike : (table : List ℕ) → smallestPartGiven limit t fr out n table
+        ≡ smallestPartGiven other t fr out n table
+    smallest-part-alike table =
+        let p = no-room-alike in
+        let q = frames-alike limit other t a b (length fr) n fr table in
+        let r = exported-alike limit other t a b (length fr) n table in
+        let s = table-alike limit other t a b (length fr) n table in
+        cc
+
+    pub cut-text-alike : (cut : List ℕ) → cutTextGiven limit t fr out n cut ≡ cutTextGiven other t fr out n cut
+    cut-text-alike cut =
+        let p = no-room-alike in
+        let q = buffer-alike limit other t a b NotLent fr in
+        let r = cut-alike limit other t a b (length fr) n (length cut) in
+        let s = lines-alike limit other t a b (length fr) n cut in
         cc

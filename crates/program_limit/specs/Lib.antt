@@ -1,3 +1,4 @@
 pub mod Word
 pub mod ForProofs
 pub mod Counts
+pub mod Rows

@@ -1,9 +1,11 @@
-// The words that a program is started with: a limit of frames in decimal, `wgsl` for the second pass, and counts.
+// The words that a program is started with: a limit of frames in decimal, `wgsl` for the second pass, counts, a row.
 use super::Asked;
 use super::Word;
 use super::asked_by;
 use super::counts::CountWord;
 use super::counts::counts_of;
+use super::rows::RowWord;
+use super::rows::row_of;
 use super::word_of;
 use answers::MAX_LIMIT;
 use libc::STDERR_FILENO;
@@ -108,4 +110,46 @@ pub fn asked_listing(least: &mut [u32], greatest: &mut [u32]) -> Listing {
         b"The arguments are the limit of frames, a number in decimal (1 to 1024, any other counting as 1024), which may be left out, and the least and greatest count of each override in order, as 3-8.\n",
     );
     Listing::NotTaken
+}
+
+// What the cutting program is asked for: a row, and the limit that holds; or its words are not taken.
+pub enum Cutting {
+    Row { row: u16, limit: u32 },
+    NotTaken,
+}
+
+// Argument i as a row.
+fn row_at(i: usize) -> RowWord {
+    if os::arg_count() <= i {
+        return RowWord::Neither;
+    }
+    let mut word = [0u8; 131072];
+    let n = os::arg(i, &mut word);
+    if os::errno() != 0 {
+        return RowWord::Neither;
+    }
+    row_of(&word[..n])
+}
+
+// What the words ask for: the row, and the limit, which is 1,024 where there is one word. Other words are told on
+// standard error, with what is taken.
+pub fn asked_cutting() -> Cutting {
+    if os::arg_count() <= 3 {
+        if let RowWord::Row(row) = row_at(1) {
+            if let Word::Absent = word_at(2) {
+                return Cutting::Row {
+                    row,
+                    limit: MAX_LIMIT,
+                };
+            }
+            if let Word::Limit(limit) = word_at(2) {
+                return Cutting::Row { row, limit };
+            }
+        }
+    }
+    io::write_all(
+        STDERR_FILENO,
+        b"The arguments are the row, a number in decimal, counted from 0, and the limit of frames, a number in decimal (1 to 1024, any other counting as 1024), which may be left out.\n",
+    );
+    Cutting::NotTaken
 }

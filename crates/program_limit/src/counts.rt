@@ -19,7 +19,7 @@ pub enum CountWord {
 }
 
 // The count that a word of decimal digits spells, below 2 to the 32.
-fn count_of(word: &[u8]) -> OptionCount
+pub fn count_of(word: &[u8]) -> OptionCount
     ensures { λ r. ⌜ r ≡ countOf (now (word .entry)) ⌝ }
 {
     let mut n = 0u64;

@@ -1,6 +1,8 @@
-// The words that the programs take: a limit of frames in decimal digits, `wgsl` for the second pass, and two counts.
+// The words that the programs take: a limit of frames in decimal digits, `wgsl` for the second pass, two counts, and a
+// row.
 pub mod arguments;
 pub mod counts;
+pub mod rows;
 
 use answers::MAX_LIMIT;
 use text_decode::most;

@@ -1,0 +1,16 @@
+pub mod Sweep
+pub mod Steps
+pub mod Reading
+pub mod Follows
+pub mod Smallest
+pub mod Frames
+pub mod Refused
+pub mod Checks
+pub mod Accepted
+pub mod Part
+pub mod NamedParts
+pub mod Names
+pub mod Text
+pub mod Public
+pub mod Outcomes
+pub mod Alike
