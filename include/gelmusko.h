@@ -15,8 +15,8 @@
  * SLICES. Each slice is a pointer and a length in bytes, of a table of counts in counts of 4 bytes each. It must
  * point to that many, aligned as its type is, which the caller may read, and, unless it is const, write. A slice of
  * length 0 is neither read nor written, and its pointer may be null; a null pointer with another length is undefined.
- * Slices that are written (frames, answers, marks, cut, out) may not overlap each other, nor any other slice of the
- * call. Const slices (text, left, right, least, greatest) may overlap each other.
+ * Slices that are written (frames, answers, marks, cut, more, joined, out) may not overlap each other, nor any other
+ * slice of the call. Const slices (text, left, right, least, greatest, first, second) may overlap each other.
  *
  * BUFFERS. The caller lends them; the library keeps no pointer and no state, allocates nothing, and may be called
  * from several threads with buffers of their own.
@@ -28,12 +28,16 @@
  *             of fewer counts is a lent buffer too short. They are only read.
  *   marks     1,024 bytes, one for each row that a file may have. A table of fewer is a lent buffer too short.
  *   cut       33 bytes for each line of the cut.                     33,792 bytes are enough for every file.
+ *   more      16 bytes for each line of the second text of a join.   16,384 bytes are enough for every file.
+ *   joined    33 bytes for each line of the join.                    33,792 bytes are enough for every join.
  *
  * A longer buffer is as good; its bytes past what is written stay as they were. After numbers 1 to 3 no byte of
  * `frames` and `answers` is changed, but after the 3 of a `cut` that is too short `frames` is as an accepted file
  * leaves it. After numbers 4 to 6 of the file `frames` has the frames of the text at its front, and `answers` is as it
  * was. An accepted file leaves its frames there too. After every number `cut` is as it was, and a table of marks is all
- * 0, unless it or `out` is too short: then it is as it was.
+ * 0, unless it or `out` is too short: then it is as it was. Of a join `frames` is as gelmusko_read_file of the first
+ * text leaves it, whatever the second text's number or the join's; `more` as gelmusko_read_file of the second leaves it
+ * where the first is accepted, and else as it was; and after every number `joined` is as it was.
  *
  * WHAT IS RETURNED: 0 (GELMUSKO_GIVEN) where what was asked for was given, and else a number. The frame in out says
  * the same, with its place:
@@ -46,13 +50,15 @@
  *             lowest override at fault
  *             For a part and a cut 48 too, with place 0; of a cut that is given number 0 has as its place how many
  *             lines it has
+ *             For a join 49 too, with place 0, and in b4-7 whose number it is: GELMUSKO_OF_FIRST, GELMUSKO_OF_SECOND
+ *             or GELMUSKO_OF_JOIN. Number 0 has as its place how many lines the join has, and 0 in b4-7
  *   b0 = 11   a verdict: 0, 22 or 30 to 33 in b1, its compose row in b2-3, expected or component in b4-7, given in
  *             b8-11
  *   b0 = 12   alignment and size in bytes: 2, 4, 8 or 16 in b4, the size in b8-11
  *   b0 = 13   a range: alignment in b4, least size in b8-11, greatest size in b12-15
  *
  * Numbers of several bytes have their low byte first. An `out` of fewer than 16 bytes is a lent buffer too short: the
- * call returns 1 or 2 if that is the text's, and else 3, and changes nothing at all.
+ * call returns 1 or 2 if that is the text's, of a join the first text's, and else 3, and changes nothing at all.
  *
  * Numbers of rows and types count from 0. One that the file does not have, whatever its size, is number 6 with place
  * 0, and `answers` stays as it was.
@@ -64,8 +70,8 @@
  * much, or 16 KiB, the least that a thread may have). Stack is no part of what is proved.
  *
  * Each function is proved, for all inputs, to return and to leave in each buffer what crates/rule_file/specs says, for
- * sizes crates/rule_file_sizes/specs, for a part and a cut crates/law_cut/specs, and for a texel crates/texel/specs; it
- * ends, and, given its stack, it never traps. */
+ * sizes crates/rule_file_sizes/specs, for a part and a cut crates/law_cut/specs, for a join crates/law_join/specs, and
+ * for a texel crates/texel/specs; it ends, and, given its stack, it never traps. */
 #ifndef GELMUSKO_H
 #define GELMUSKO_H
 
@@ -80,6 +86,7 @@ extern "C" {
 #define GELMUSKO_FRAMES_BYTES 16384
 #define GELMUSKO_ANSWERS_BYTES 32768
 #define GELMUSKO_CUT_BYTES 33792
+#define GELMUSKO_JOINED_BYTES 33792
 #define GELMUSKO_OUT_BYTES 16
 #define GELMUSKO_TEXEL_BYTES 2
 
@@ -99,11 +106,17 @@ extern "C" {
 #define GELMUSKO_SIZE_RANGE_STACK 32768
 #define GELMUSKO_SMALLEST_PART_STACK 65536
 #define GELMUSKO_CUT_TEXT_STACK 81920
+#define GELMUSKO_JOIN_FILES_STACK 24576
 #define GELMUSKO_TEXEL_STACK 512
 
 /* passes */
 #define GELMUSKO_FIRST_PASS 0u
 #define GELMUSKO_SECOND_PASS 1u
+
+/* whose number it is, of a join */
+#define GELMUSKO_OF_FIRST 0u
+#define GELMUSKO_OF_SECOND 1u
+#define GELMUSKO_OF_JOIN 2u
 
 /* what is returned */
 #define GELMUSKO_GIVEN 0u       /* what was asked for; of a comparison: the same type */
@@ -126,6 +139,7 @@ extern "C" {
 #define GELMUSKO_SPAN 45u       /* a least count of 0 or above its greatest; place: that override. Only of
                                    gelmusko_size_range */
 #define GELMUSKO_SOUND 48u      /* the row has a type; place 0. Only of gelmusko_smallest_part and gelmusko_cut_text */
+#define GELMUSKO_UNJOINABLE 49u /* a file that may not be joined; place 0. Only of gelmusko_join_files */
 #define GELMUSKO_DIFFERENT 256u /* a comparison: not the same type. out: b0 = 10, number 0 */
 #define GELMUSKO_NO_POINTER 257u /* a base: the type is no pointer. out: b0 = 10, number 0 */
 
@@ -209,6 +223,17 @@ uint32_t gelmusko_smallest_part(const uint8_t *text, size_t text_len, uint32_t l
 uint32_t gelmusko_cut_text(const uint8_t *text, size_t text_len, uint32_t limit,
                            uint8_t *frames, size_t frames_len,
                            uint32_t row, uint8_t *cut, size_t cut_len, uint8_t *out, size_t out_len);
+
+/* The lines of two files in one: families and item kinds in order, in each the first file's frames as they are, then
+ * the second's with their numbers, and argument indices, moved past the first's. No type is shared. The join is
+ * accepted, and its rows answer as they did alone, with numbers moved. `limit` serves the two files and the join.
+ * Returns 0, and the lines stand at the front of `joined`; their number is the place of number 0 in out. Returns 1 to 6
+ * where the first file is refused, else where the second is; else 49 where either has a type or row of unknown kind, a
+ * Math row, an item of kind 7 or 8, or a row answered 19 or 20; else 1 where the join has more frames than the limit;
+ * else 3 where `joined` is too short. out: number 0 to 6 or 49, and whose it is. */
+uint32_t gelmusko_join_files(const uint8_t *first, size_t first_len, const uint8_t *second, size_t second_len,
+                             uint32_t limit, uint8_t *frames, size_t frames_len, uint8_t *more, size_t more_len,
+                             uint8_t *joined, size_t joined_len, uint8_t *out, size_t out_len);
 
 /* The R16Unorm texel of a density in hundredths of a per cent, 0 to 10,000: density times 65,535 divided by 10,000,
  * rounded to the nearest whole number, a half to the even one. Returns 0, and the first two bytes of out are the

@@ -31,6 +31,7 @@ contract file_sizes::type_size
 contract file_sizes::size_range
 contract file_cut::smallest_part
 contract file_cut::cut_text
+contract file_join::join_files
 contract file_lines::put_lines
 contract text_encode::write_text
 contract program_limit::word_of
@@ -53,6 +54,15 @@ theorem gelmusko/proofs/Limits.antt no-room-alike read-file-alike same-type-alik
 theorem gelmusko/proofs/Limits.antt type-size-alike size-range-alike type-rows-alike row-type-alike compose-verdict-alike
 theorem gelmusko/proofs/Limits.antt smallest-part-alike cut-text-alike
 theorem law_cut/proofs/Public.antt marks-follow marks-named marks-by marks-refusal marks-least cut-accepted cut-type cut-said same-frame
+theorem law_join/proofs/Outcomes.antt first-when second-when not-joinable-when long-when short-when joined-when
+theorem law_join/proofs/Joinable.antt joinable-when
+theorem law_join/proofs/Public.antt join-accepted lines-fit join-answers join-printed
+theorem law_join/proofs/PublicRows.antt first-row second-row first-verdict second-verdict
+theorem law_join/proofs/PublicTypes.antt first-types second-types
+theorem law_join/proofs/PublicSizes.antt first-size second-size
+theorem law_join/proofs/Buffers.antt written-accepted unwritten second-kept
+theorem law_join/proofs/PublicThree.antt three-lines joined-joinable
+theorem law_join/proofs/Passes.antt argument-somewhere special-somewhere
 theorem law_cut/proofs/Outcomes.antt outcome-is outcome-refused no-mark written-accepted written-shows
 theorem law_rows/proofs/Range.antt range
 theorem ir/proofs/Formats.antt formats-named

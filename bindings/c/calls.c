@@ -46,6 +46,8 @@ int main(void)
     expect("the byte after them", marks[GELMUSKO_MARKS], 7);
     expect("cut_text", gelmusko_cut_text(NULL, 0, 0, NULL, 0, 0, NULL, 0, out, 16), GELMUSKO_INDEX);
     expect("frame of number 6", out[0] * 256u + out[1], 10 * 256 + 6);
+    expect("join_files", gelmusko_join_files(NULL, 0, NULL, 0, 0, NULL, 0, NULL, 0, NULL, 0, out, 16), GELMUSKO_GIVEN);
+    expect("frame of no lines", out[0] * 65536u + out[1] * 256u + out[2], 10 * 65536);
 
     /* no out, or one that is too short */
     memcpy(out, before, 16);
@@ -105,6 +107,44 @@ int main(void)
     expect("the byte after it", cut[66], 7);
     expect("no cut, a type", gelmusko_cut_text(text, 99, 0, rows_frames, 48, 0, NULL, 0, out, 16), GELMUSKO_SOUND);
     expect("no cut, no row", gelmusko_cut_text(text, 99, 0, rows_frames, 48, 3, NULL, 0, out, 16), GELMUSKO_INDEX);
+
+    /* f32 and a value of it, joined with itself; the two texts are the same bytes */
+    static const char alone[] = "01010000020400000000000000000000\n"
+                                "04040000000000000000000000000000\n";
+    static const char both[] = "01010000020400000000000000000000\n"
+                               "01010000020400000000000000000000\n"
+                               "04040000000000000000000000000000\n"
+                               "04040100000000000000000000000000\n";
+    static uint8_t joined[GELMUSKO_JOINED_BYTES], more[48];
+    const uint8_t *one = (const uint8_t *)alone;
+    memset(joined, 7, sizeof joined);
+    memcpy(out, before, 16);
+    expect("a join, no out", gelmusko_join_files(one, 66, one, 66, 0, frames, 16, more, 48, joined, 132, out, 15),
+           GELMUSKO_SHORT);
+    expect("out unchanged by a join", memcmp(out, before, 16) != 0, 0);
+    expect("short frames of the first",
+           gelmusko_join_files(one, 66, one, 65, 0, frames, 16, more, 48, joined, 132, out, 16), GELMUSKO_SHORT);
+    expect("it is the first's", out[4], GELMUSKO_OF_FIRST);
+    expect("a torn second",
+           gelmusko_join_files(one, 66, one, 65, 0, rows_frames, 48, more, 48, joined, 132, out, 16), GELMUSKO_TORN);
+    expect("it is the second's", out[4], GELMUSKO_OF_SECOND);
+    expect("unjoinable",
+           gelmusko_join_files(one, 66, text, 99, 3, rows_frames, 48, more, 48, joined, 0, out, 16),
+           GELMUSKO_UNJOINABLE);
+    expect("it is the join's", out[4], GELMUSKO_OF_JOIN);
+    expect("over the limit",
+           gelmusko_join_files(one, 66, one, 66, 3, rows_frames, 48, more, 48, joined, 0, out, 16), GELMUSKO_LONG);
+    expect("its limit", out[2] * 256u + out[4], 3 * 256 + GELMUSKO_OF_JOIN);
+    expect("no room for a join",
+           gelmusko_join_files(one, 66, one, 66, 4, rows_frames, 48, more, 48, joined, 131, out, 16), GELMUSKO_SHORT);
+    for (i = marked = 0; i < sizeof joined; i++) marked += joined[i] != 7;
+    expect("joined unchanged", (uint32_t)marked, 0);
+    expect("a join",
+           gelmusko_join_files(one, 66, one, 66, 4, rows_frames, 48, more, 48, joined, sizeof joined, out, 16),
+           GELMUSKO_GIVEN);
+    expect("its lines", out[0] * 65536u + out[1] * 256u + out[2], 10 * 65536 + 4);
+    expect("its bytes", memcmp(joined, both, 132) != 0, 0);
+    expect("the byte after it", joined[132], 7);
 
     /* a texel has two bytes, low byte first */
     memcpy(out, before, 16);

@@ -15,6 +15,7 @@
 
 static uint8_t text[33 * 1024 + 1], frames[GELMUSKO_FRAMES_BYTES], answers[GELMUSKO_ANSWERS_BYTES];
 static uint8_t marks[GELMUSKO_MARKS], cut[GELMUSKO_CUT_BYTES];
+static uint8_t more[GELMUSKO_FRAMES_BYTES], joined[GELMUSKO_JOINED_BYTES];
 static uint32_t least[GELMUSKO_COUNTS], greatest[GELMUSKO_COUNTS];
 static size_t text_len;
 static uint32_t asked, pass_asked, row_asked;
@@ -169,6 +170,16 @@ static void cut_text(void)
 {
     gelmusko_cut_text(text, text_len, 0, frames, sizeof frames, row_asked, cut, sizeof cut, out, sizeof out);
 }
+/* the file with an empty one, so that the longest is joined too; then with itself */
+static void join_files(void)
+{
+    gelmusko_join_files(text, text_len, NULL, 0, 0, frames, sizeof frames, more, sizeof more, joined, sizeof joined, out,
+                        sizeof out);
+    gelmusko_join_files(NULL, 0, text, text_len, 0, frames, sizeof frames, more, sizeof more, joined, sizeof joined, out,
+                        sizeof out);
+    gelmusko_join_files(text, text_len, text, text_len, 0, frames, sizeof frames, more, sizeof more, joined,
+                        sizeof joined, out, sizeof out);
+}
 static void texel(void) { gelmusko_texel(3000, out, sizeof out); }
 
 static const struct {
@@ -187,6 +198,7 @@ static const struct {
     { "gelmusko_size_range", size_range, GELMUSKO_SIZE_RANGE_STACK },
     { "gelmusko_smallest_part", smallest_part, GELMUSKO_SMALLEST_PART_STACK },
     { "gelmusko_cut_text", cut_text, GELMUSKO_CUT_TEXT_STACK },
+    { "gelmusko_join_files", join_files, GELMUSKO_JOIN_FILES_STACK },
     { "gelmusko_texel", texel, GELMUSKO_TEXEL_STACK },
 };
 #define FUNCTIONS (sizeof functions / sizeof *functions)

@@ -128,5 +128,20 @@ extern "C" {
         out: *mut u8,
         out_len: usize,
     ) -> u32;
+    pub fn gelmusko_join_files(
+        first: *const u8,
+        first_len: usize,
+        second: *const u8,
+        second_len: usize,
+        limit: u32,
+        frames: *mut u8,
+        frames_len: usize,
+        more: *mut u8,
+        more_len: usize,
+        joined: *mut u8,
+        joined_len: usize,
+        out: *mut u8,
+        out_len: usize,
+    ) -> u32;
     pub fn gelmusko_texel(density: u32, out: *mut u8, out_len: usize) -> u32;
 }

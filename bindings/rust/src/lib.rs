@@ -2,7 +2,7 @@
 //!
 //! A file is a text of lines, one frame of 16 bytes a line. Each function is lent a buffer for the text's frames, of 16 bytes a line, and those that answer rows one for the
 //! answers, of 16 bytes a row and 16 more a compose. [`FRAMES_BYTES`] and [`ANSWERS_BYTES`] are enough for every file; bytes past what is written stay as they were.
-//! [`type_file`] brings its own. A cut is written to a buffer of 33 bytes a line; [`CUT_BYTES`] are enough for every file. Rows, types, lines and frames count from 0.
+//! [`type_file`] brings its own. A cut or a join is written to a buffer of 33 bytes a line; [`CUT_BYTES`] and [`JOINED_BYTES`] are enough for every file. Rows, types, lines and frames count from 0.
 //!
 //! ```
 //! use gelmusko::{row_type, Answer, Pass, Type, ANSWERS_BYTES, FRAMES_BYTES};
@@ -26,6 +26,8 @@ pub const COUNTS: usize = 1_024;
 pub const MARKS: usize = 1_024;
 /// Bytes of a buffer for the lines of a cut that are enough for every file.
 pub const CUT_BYTES: usize = 33_792;
+/// Bytes of a buffer for the lines of a join that are enough for every join.
+pub const JOINED_BYTES: usize = 33_792;
 
 const DIFFERENT: u32 = 256;
 const NO_POINTER: u32 = 257;
@@ -283,6 +285,21 @@ pub enum NoPart {
     Refused(Outcome),
 }
 
+/// Why two files have no join. The first that holds, in this order.
+#[derive(Clone, Copy, Debug, PartialEq, Eq)]
+pub enum NoJoin {
+    /// 1 to 6: the first file is refused.
+    First(Outcome),
+    /// 1 to 6: the second file is refused.
+    Second(Outcome),
+    /// 49: either file has a type or row of unknown kind, a Math row, an item of kind 7 or 8, or a row answered 19 or 20.
+    Unjoinable,
+    /// 1: the join has more frames than the limit that holds, which it names.
+    Long { limit: u16 },
+    /// 3: the buffer for the join is too short.
+    Short,
+}
+
 /// What asking for the texel of a density gives.
 #[derive(Clone, Copy, Debug, PartialEq, Eq)]
 pub enum Texel {
@@ -335,6 +352,22 @@ impl NoPart {
         match frame.0[1] {
             48 => NoPart::Sound,
             _ => NoPart::Refused(Outcome::of(frame)),
+        }
+    }
+}
+
+impl NoJoin {
+    /// What a frame of family 10 stands for, by its number 1 to 6 or 49 and whose it is.
+    fn of(frame: Frame) -> NoJoin {
+        match (frame.first(), frame.0[1]) {
+            (0, _) => NoJoin::First(Outcome::of(frame)),
+            (1, _) => NoJoin::Second(Outcome::of(frame)),
+            (2, 49) => NoJoin::Unjoinable,
+            (2, 1) => NoJoin::Long {
+                limit: frame.place(),
+            },
+            (2, 3) => NoJoin::Short,
+            _ => never(frame),
         }
     }
 }
@@ -747,6 +780,43 @@ impl Limit {
             Err(NoPart::of(out))
         }
     }
+
+    /// Writes the lines of two files in one to the front of a buffer, and gives how many they are, 33 bytes each: families and item kinds in order, in each the first file's frames as they
+    /// are, then the second's with their numbers, and argument indices, moved past the first's. Every row answers as it did alone, with numbers moved. The limit serves the two files and the
+    /// join. With any number the buffer is as it was. `frames` is as [`Limit::read_file`] of the first leaves it; `more` as that of the second leaves it where the first is accepted, and
+    /// else as it was.
+    pub fn join_files(
+        self,
+        first: &[u8],
+        second: &[u8],
+        frames: &mut [u8],
+        more: &mut [u8],
+        joined: &mut [u8],
+    ) -> Result<u16, NoJoin> {
+        let mut out = Frame::default();
+        let number = unsafe {
+            ffi::gelmusko_join_files(
+                first.as_ptr(),
+                first.len(),
+                second.as_ptr(),
+                second.len(),
+                self.0,
+                frames.as_mut_ptr(),
+                frames.len(),
+                more.as_mut_ptr(),
+                more.len(),
+                joined.as_mut_ptr(),
+                joined.len(),
+                out.0.as_mut_ptr(),
+                16,
+            )
+        };
+        if number == 0 {
+            Ok(out.place())
+        } else {
+            Err(NoJoin::of(out))
+        }
+    }
 }
 
 /// [`Limit::read_file`] within 1,024 frames.
@@ -820,6 +890,17 @@ pub fn smallest_part(text: &[u8], frames: &mut [u8], row: u32) -> Result<[bool; 
 /// [`Limit::cut_text`] within 1,024 frames.
 pub fn cut_text(text: &[u8], frames: &mut [u8], row: u32, cut: &mut [u8]) -> Result<u16, NoPart> {
     Limit::default().cut_text(text, frames, row, cut)
+}
+
+/// [`Limit::join_files`] within 1,024 frames.
+pub fn join_files(
+    first: &[u8],
+    second: &[u8],
+    frames: &mut [u8],
+    more: &mut [u8],
+    joined: &mut [u8],
+) -> Result<u16, NoJoin> {
+    Limit::default().join_files(first, second, frames, more, joined)
 }
 
 /// The R16Unorm texel of a density in hundredths of a per cent, 0 to 10,000: the nearest to as large a part of 65,535, of two that are equally near the even one.

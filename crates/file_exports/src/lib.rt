@@ -17,6 +17,7 @@ use frames_answers::write::verdict_frame;
 use ir::RowNumber;
 use law_cut::CutText;
 use law_cut::PartOutcome;
+use law_join::JoinedFile;
 use rule_ranges::TypeRange;
 use rule_rows::Pass;
 use rule_sizes::TypeSize;
@@ -28,10 +29,11 @@ use size_steps::table::span_frame;
 use text_decode::room::short_read;
 ghost use mathlib.Core.Path.{_≡_};
 ghost use Prim.Native.Nat.{min};
-ghost use Rattle.answers.specs.Numbers.{at, noRefusal, notThere, samenessSaid, canonicalSaid, baseSaid};
+ghost use Rattle.answers.specs.Numbers.{at, noRefusal, notThere, outcomeValues, samenessSaid, canonicalSaid, baseSaid};
 ghost use Rattle.frames.specs.Bytes.{putFrame};
 ghost use Rattle.frames.specs.Out.{refusedFrame, outcomeFrame, rowTypeSaid, composeVerdictSaid, oneFrame};
 ghost use Rattle.law_cut.specs.File.{partSaid, cutSaid};
+ghost use Rattle.law_join.specs.File.{whose, joinedSaid};
 ghost use Rattle.rule_sizes.specs.Sizes.{sizeSaid, sizeSaidFrame};
 ghost use Rattle.rule_ranges.specs.Ranges.{typeRangeSaid, rangeSaidFrame};
 ghost use Rattle.rule_file.specs.Exported.{outcomeNumber, noRoom, oneNumber, saidNumber, saidFrame, typeSaidNumber};
@@ -237,5 +239,35 @@ pub fn put_cut(out: &mut [u8], given: CutText) -> u32
         CutText::Sound => put(out, refused(48, 0, 0, false), 48),
         CutText::Index => put_index(out),
         CutText::NotAccepted(o) => put_outcome(out, o),
+    }
+}
+
+// A file's number, with whose it is.
+fn outcome_of(o: Outcome, index: u32) -> Frame
+    ensures { λ r. ⌜ r ≡ refusedFrame (whose index (outcomeValues o)) ⌝ }
+{
+    match o {
+        Outcome::Accepted { frames: _ } => refused(0, 0, index, false),
+        Outcome::Long { limit } => refused(1, limit, index, false),
+        Outcome::Torn { line } => refused(2, line, index, false),
+        Outcome::Short => refused(3, 0, index, false),
+        Outcome::Order { frame } => refused(4, frame, index, false),
+        Outcome::Field { frame } => refused(5, frame, index, false),
+        Outcome::Index { frame } => refused(6, frame, index, false),
+    }
+}
+
+// What joining gives: how many frames the join has stand as the place of number 0.
+pub fn put_joined(out: &mut [u8], given: JoinedFile) -> u32
+    ensures outcome { λ r. ⌜ r ≡ joinedSaid given .number ⌝ }
+    ensures out { λ r. ⌜ now (out .exit) ≡ putFrame (now (out .entry)) 0 (refusedFrame (joinedSaid given)) ⌝ }
+{
+    match given {
+        JoinedFile::Frames(n) => put(out, refused(0, n, 0, false), 0),
+        JoinedFile::First(o) => put(out, outcome_of(o, 0), outcome_number(o)),
+        JoinedFile::Second(o) => put(out, outcome_of(o, 1), outcome_number(o)),
+        JoinedFile::NotJoinable => put(out, refused(49, 0, 2, false), 49),
+        JoinedFile::Long { limit } => put(out, refused(1, limit, 2, false), 1),
+        JoinedFile::Short => put(out, refused(3, 0, 2, false), 3),
     }
 }

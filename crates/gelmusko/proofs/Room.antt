@@ -54,3 +54,24 @@ pub handed-rows : {A : Type 0} (number : A → ℕ) (frame : A → Frame) (out :
 handed-rows number frame out {given = given} p e ef ea h m was had =
     let t = handed number frame out p e ef h m was in
     (t .0, (t .1 .0, (ea ∙ has-room out had given h, t .1 .1)))
+
+-- the same with one buffer more
+pub too-small-joined : {out fr an had : List ℕ} {r m : ℕ} → r ≡ m → length out < 16
+    → (n : ℕ) (after given lines : List ℕ) (f : Frame)
+    → (r ≡ byRoom out m n)
+    × ((fr ≡ byRoom out fr after) × ((an ≡ byRoom out an given) × ((had ≡ byRoom out had lines)
+    × (out ≡ putFrame out 0 f))))
+too-small-joined {out} {had = had} e h n after given lines f =
+    let t = too-small-rows e h n after given f in
+    (t .0, (t .1 .0, (t .1 .1 .0, (is-small out had lines h, t .1 .1 .1))))
+
+pub handed-joined : {A : Type 0} (number : A → ℕ) (frame : A → Frame) (out : List ℕ)
+    {last fr after an given more lines : List ℕ} {r : ℕ} {a b : A}
+    → (r ≡ number a) × (last ≡ putFrame out 0 (frame a)) → a ≡ b → fr ≡ after → an ≡ given → more ≡ lines
+    → 16 ≤ length out → (m : ℕ) (was had held : List ℕ)
+    → (r ≡ byRoom out m (number b))
+    × ((fr ≡ byRoom out was after) × ((an ≡ byRoom out had given) × ((more ≡ byRoom out held lines)
+    × (last ≡ putFrame out 0 (frame b)))))
+handed-joined number frame out {lines = lines} p e ef ea em h m was had held =
+    let t = handed-rows number frame out p e ef ea h m was had in
+    (t .0, (t .1 .0, (t .1 .1 .0, (em ∙ has-room out held lines h, t .1 .1 .1))))

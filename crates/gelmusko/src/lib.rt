@@ -2,6 +2,7 @@
 // one takes last an out-slice, which gets one frame of 16 bytes, and returns a number. No slice that is written may
 // overlap another of the same call.
 pub mod cuts;
+pub mod joins;
 pub mod ranges;
 pub mod rows;
 pub mod sizes;
