@@ -1,5 +1,7 @@
 // What is handed back (document 01, "Numbers handed back"): an enum for each kind of answer. specs/Numbers.antt gives
 // the document's number and values for each case.
+#![tactic(auto)]
+
 ghost use Rattle.std.specs.Prelude.{◌≡◌};
 ghost use Rattle.answers.specs.ForProofs.{answered};
 
@@ -20,7 +22,7 @@ pub const MAX_ANSWER_BYTES: usize = 2 * MAX_FRAME_BYTES;
 pub const MAX_LINE_BYTES: usize = 2 * MAX_TEXT_BYTES;
 
 // What reading a file gives. A place is the number of a line or of a frame, from 0.
-#[derive(Drop)]
+#[derive(Clone, Copy)]
 pub enum Outcome {
     Accepted { frames: usize },
     Long { limit: u16 },
@@ -33,7 +35,7 @@ pub enum Outcome {
 
 // Why a row has no type. The source's ResolveError, without its texts; and the second pass's own: WGSL has no such
 // Binary expression.
-#[derive(Drop)]
+#[derive(Clone, Copy)]
 pub enum Refusal {
     OutOfBoundsIndex { expr: RowNumber, index: u32 },
     InvalidAccess { expr: RowNumber, indexed: bool },
@@ -50,7 +52,7 @@ pub enum Refusal {
 }
 
 // A row's answer. Newer is the port's own: the reading met something that this reader does not type, at that row.
-#[derive(Drop)]
+#[derive(Clone, Copy)]
 pub enum Answer {
     Resolved(TypeResolution),
     Refused(Refusal),
@@ -58,7 +60,7 @@ pub enum Answer {
 }
 
 // An answer that holds no type: what ends a row that reads it.
-#[derive(Drop)]
+#[derive(Clone, Copy)]
 pub enum Unresolved {
     Refused(Refusal),
     Newer { row: RowNumber },
@@ -77,7 +79,7 @@ impl Unresolved {
 
 // What a compose is judged: the source's Ok and ComposeError, and the port's own cases for a component row that was
 // refused and for what is newer. Components count from 0 within their compose.
-#[derive(Drop)]
+#[derive(Clone, Copy)]
 pub enum Verdict {
     Passes,
     ComposedType,
@@ -89,7 +91,7 @@ pub enum Verdict {
 }
 
 // What comparing two answers gives.
-#[derive(Drop)]
+#[derive(Clone, Copy)]
 pub enum Sameness {
     Same,
     Different,
@@ -100,7 +102,7 @@ pub enum Sameness {
 }
 
 // What asking for a pointer's base gives.
-#[derive(Drop)]
+#[derive(Clone, Copy)]
 pub enum PointerBase {
     Base(TypeResolution),
     NotPointer,
@@ -111,7 +113,7 @@ pub enum PointerBase {
 
 // What asking for a type's canonical form gives: the value pointer, or the type's own number where the source gives
 // None.
-#[derive(Drop)]
+#[derive(Clone, Copy)]
 pub enum CanonicalType {
     Form(TypeResolution),
     Newer,
@@ -120,7 +122,7 @@ pub enum CanonicalType {
 }
 
 // What asking for a row's type gives: its answer, or that the file has no such row.
-#[derive(Drop)]
+#[derive(Clone, Copy)]
 pub enum RowType {
     Answered(Answer),
     Index,
@@ -128,7 +130,7 @@ pub enum RowType {
 }
 
 // What asking for a compose's verdict gives: the verdict, that the row is no compose, or that the file has no such row.
-#[derive(Drop)]
+#[derive(Clone, Copy)]
 pub enum ComposeVerdict {
     Judged(Verdict),
     NotCompose,
@@ -137,7 +139,7 @@ pub enum ComposeVerdict {
 }
 
 // What writing lines gives: how many bytes are written, or that the buffer for them is too small.
-#[derive(Drop)]
+#[derive(Clone, Copy)]
 pub enum Printed {
     Bytes(usize),
     Short,

@@ -1,6 +1,8 @@
 // Where each family of a file begins, and the parts that a frame holds. Checks 4 to 6 (document 01, "Numbers handed
 // back"), what each frame names, and types, members, items, rows and components by their numbers stand in specs/;
 // crates archive_access, check_names and check_file have the code.
+#![tactic(auto)]
+
 use ir::{RowNumber, TypeNumber};
 
 // The ranks at which a family begins, and each kind of items.
@@ -28,7 +30,7 @@ pub const COMPONENT_RANK: usize = 1280;
 
 // The lowest frame of each family after the types, and of each kind of items; types begin the file, and `end` is past
 // its last frame.
-#[derive(Drop)]
+#[derive(Clone, Copy)]
 pub struct Starts {
     pub members: usize,
     pub constants: usize,
@@ -45,14 +47,14 @@ pub struct Starts {
 }
 
 // A frame that holds parts: a struct holds members, a compose components.
-#[derive(Drop)]
+#[derive(Clone, Copy)]
 pub enum Owner {
     Struct(TypeNumber),
     Compose(RowNumber),
 }
 
 // The parts that a frame holds: the frames from `from` up to `to`.
-#[derive(Drop)]
+#[derive(Clone, Copy)]
 pub enum Held {
     Parts {
         from: usize,

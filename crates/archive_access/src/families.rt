@@ -22,6 +22,7 @@ use ir::{
 };
 
 // The lowest frame of this rank or a higher one; every frame before `from` is lower.
+#[tactic(auto, unfolding(archive::specs::Starts::start))]
 fn skip(frames: &[u8], from: usize, rank: usize) -> usize
     requires { (from ≤ frame_count frames.now)
         × (lowest (λ (k : ℕ). ltb (rank_at frames.now k) rank) from ≡ Nothing) }
@@ -39,6 +40,7 @@ fn skip(frames: &[u8], from: usize, rank: usize) -> usize
     n
 }
 
+#[tactic(auto, unfolding(archive::specs::Starts::starts_of))]
 pub fn find_starts(frames: &[u8]) -> Starts
     ensures { result ≡ starts_of frames.now }
 {
@@ -117,6 +119,7 @@ pub fn size_names(s: Starts, size: ArraySize) -> bool
 }
 
 // Type n; where there is none, a type of unknown kind.
+#[tactic(auto, unfolding(archive::specs::Access::type_in))]
 pub fn type_at(frames: &[u8], s: Starts, n: TypeNumber) -> TypeForm
     ensures { result ≡ type_in frames.now s n }
 {
@@ -129,6 +132,7 @@ pub fn type_at(frames: &[u8], s: Starts, n: TypeNumber) -> TypeForm
 }
 
 // Frame i of those from `first` on; zeros where there is none.
+#[tactic(auto, unfolding(frames::specs::Bytes::frame_at))]
 pub fn frame_after(frames: &[u8], first: usize, i: usize) -> Frame
     ensures { result ≡ frame_at frames.now (first + i) }
 {
@@ -156,6 +160,7 @@ pub fn item_at(frames: &[u8], first: usize, n: ItemNumber) -> Item
 }
 
 // Row n; where there is none, a row of unknown kind.
+#[tactic(auto, unfolding(archive::specs::Access::row_in))]
 pub fn row_at(frames: &[u8], s: Starts, n: RowNumber) -> RowForm
     ensures { result ≡ row_in frames.now s n }
 {

@@ -40,6 +40,7 @@ fn before(k: usize) -> usize
     if k == 0 { 0 } else { k - 1 }
 }
 
+#[tactic(auto, unfolding(archive::specs::Order::order_ok))]
 fn order_ok(frames: &[u8], k: usize) -> bool
     ensures { result ≡ order_ok frames.now k }
 {

@@ -48,6 +48,7 @@ fn no_field(f: Frame) -> bool
 }
 
 // Whether the bytes of a frame of a file are within their values.
+#[tactic(auto, unfolding(frames::specs::Forms::fields_fit))]
 pub fn fields_fit(f: Frame) -> bool
     ensures { result ≡ fields_fit f }
 {

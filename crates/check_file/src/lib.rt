@@ -1,4 +1,6 @@
 // Checks 4 to 6 over the frames of a file, in their order (document 01, "Numbers handed back").
+#![tactic(auto)]
+
 ghost use Rattle.std.specs.Prelude.{◌≡◌, ◌+◌, ◌-◌, ◌≤◌, min};
 ghost use Rattle.scan.specs.Lowest.{lowest};
 ghost use Rattle.frames.specs.Bytes.{frame_count};
@@ -46,6 +48,7 @@ fn names_of(s: Starts, k: usize, f: Frame) -> bool
 }
 
 // The lowest frame that names a number out of range or not earlier; parts are held against their owners elsewhere.
+#[tactic(auto, unfolding(archive::specs::Names::names_ok))]
 fn first_misnamed(frames: &[u8], s: Starts) -> Found
     requires { (s ≡ starts_of frames.now) × (frame_count frames.now ≤ max_frames) }
     ensures { result ≡ lowest (names_ok frames.now) (frame_count frames.now) }
@@ -157,6 +160,7 @@ fn first_late_of(frames: &[u8], h: Held) -> Found
 }
 
 // The lowest part that is not earlier than each of its owners.
+#[tactic(auto, unfolding(archive::specs::Parts::early_ok))]
 fn first_late(frames: &[u8], s: Starts) -> Found
     requires { (s ≡ starts_of frames.now) × (frame_count frames.now ≤ max_frames) }
     ensures { result ≡ lowest (early_ok frames.now) (frame_count frames.now) }
@@ -190,6 +194,7 @@ pub fn first_unfit(frames: &[u8]) -> Found
 }
 
 // The lowest frame that names a number out of range or not earlier.
+#[tactic(auto, unfolding(archive::specs::Checks::index_ok))]
 fn first_misplaced(frames: &[u8]) -> Found
     requires { frame_count frames.now ≤ max_frames }
     ensures { result ≡ lowest (index_ok frames.now) (frame_count frames.now) }
@@ -228,6 +233,7 @@ fn check_fields(frames: &[u8]) -> Outcome
 }
 
 // Checks 4 to 6 over the frames of a file; over 1,024 frames is number 1.
+#[tactic(auto, unfolding(archive::specs::Checks::check_frames))]
 pub fn check_frames(frames: &[u8]) -> Outcome
     ensures { result ≡ check_frames frames.now }
 {

@@ -1,4 +1,6 @@
 // Number 6: what a type, an item and a row name.
+#![tactic(auto)]
+
 ghost use Rattle.std.specs.Prelude.{◌≡◌, ◌&&◌, ◌+◌, ◌-◌, leb, ltb};
 ghost use Rattle.frames.specs.Bytes.{half};
 ghost use Rattle.frames.specs.Forms.{row_as, row_of};
@@ -173,6 +175,7 @@ fn kind_names(s: Starts, n: RowNumber, kind: RowKind, f: Frame) -> bool
 }
 
 // What a row names, by its kind.
+#[tactic(auto, unfolding(frames::specs::Forms::row_of))]
 pub fn row_names(s: Starts, n: RowNumber, f: Frame) -> bool
     ensures { result ≡ row_form_names s n (row_of f) }
 {

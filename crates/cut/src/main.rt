@@ -8,6 +8,8 @@
 // right, row 4, which is out of bounds of row 3. Row 5 adds row 1, which it does not read, to row 2, which loads row 0.
 // So rows 0 and 2 to 6 are marked and become 0 to 5; the right of row 5 becomes 0, row 3, a compose, loses its
 // components, and rows 1 and 7 to 10 are gone.
+#![tactic(auto)]
+
 use answers::{MAX_FRAME_BYTES, MAX_TEXT_BYTES, Outcome, Printed};
 use file_cut::cut_text;
 use file_lines::put_lines;

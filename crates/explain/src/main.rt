@@ -2,6 +2,8 @@
 // a compose; for a file that is not accepted, one line that says which line is at fault and why. Its arguments, in
 // either order, are the limit of frames and `wgsl`, for the second pass; each may be left out. Reads no more than one
 // byte over the longest file; its buffer for lines has room for any file's (`explained-fits`).
+#![tactic(auto)]
+
 use answers::{MAX_TEXT_BYTES, Printed};
 use explain_file::{MAX_EXPLAINED_BYTES, explain_text};
 use libc::{STDIN_FILENO, STDOUT_FILENO};

@@ -1,6 +1,8 @@
 // A file explained to people: a line for each row and one more after a compose, in words; one line for a file that is
 // not accepted (specs/Explained.antt). And a line for each type with its size, or the range of its sizes
 // (specs/Sized.antt).
+#![tactic(auto)]
+
 ghost use Rattle.std.specs.Prelude.{◌≡◌, ◌≤◌, ◌<◌, length};
 ghost use Rattle.answers.specs.Limit.{max_frames, max_frame_bytes, max_answer_bytes};
 ghost use Rattle.answers.specs.Numbers.{printed_said};
@@ -36,6 +38,7 @@ pub const MAX_EXPLAINED_BYTES: usize = 2 * 142 * MAX_FRAMES;
 pub const MAX_SIZED_BYTES: usize = 176 * MAX_FRAMES;
 
 // The next row, after an answer or a verdict.
+#[tactic(auto, unfolding(rule_explain::specs::Explained::next_row))]
 fn next_row(row: RowNumber, f: Frame) -> RowNumber
     requires { row.0 < 65535 }
     ensures { result ≡ next_row row f }
@@ -47,6 +50,7 @@ fn next_row(row: RowNumber, f: Frame) -> RowNumber
 }
 
 // The lines of what is handed back. A line is made in a buffer of its own first.
+#[tactic(auto, unfolding(rule_explain::specs::Explained::row_at))]
 fn explain_answers(frames: &[u8], answers: &[u8], line: &mut [u8], out: &mut [u8]) -> usize
     requires { (length line.old ≡ 1296) × (length answers.now ≤ max_answer_bytes)
         × (max_explained_bytes ≤ length out.old) }

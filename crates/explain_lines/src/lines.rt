@@ -14,6 +14,7 @@ use explain_words::{num, put_pieces, table};
 use frames::{Frame, frame_at};
 use ir::{RowNumber, TypeNumber};
 
+#[tactic(auto, unfolding(rule_explain::specs::Answers::manner))]
 fn manner(flag: u8) -> u64
     ensures { result ≡ manner flag }
 {
@@ -23,6 +24,7 @@ fn manner(flag: u8) -> u64
     table::COMPUTED
 }
 
+#[tactic(auto, unfolding(rule_explain::specs::Answers::reason))]
 fn reason(n: u8) -> u64
     ensures { result ≡ reason n }
 {
@@ -32,6 +34,7 @@ fn reason(n: u8) -> u64
     pick(table::REASON, 10, 11, n)
 }
 
+#[tactic(auto, unfolding(rule_explain::specs::Answers::refusal, crate::specs::ForProofs::filled))]
 fn refusal(f: Frame) -> [u64; 16]
     ensures { result ≡ filled 16 (refusal f) }
 {
@@ -161,6 +164,7 @@ fn refusal(f: Frame) -> [u64; 16]
     ]
 }
 
+#[tactic(auto, unfolding(rule_explain::specs::Answers::judged_words, crate::specs::ForProofs::filled))]
 fn judged(f: Frame) -> [u64; 16]
     ensures { result ≡ filled 16 (judged_words f) }
 {
@@ -290,6 +294,7 @@ fn judged(f: Frame) -> [u64; 16]
     ]
 }
 
+#[tactic(auto, unfolding(rule_explain::specs::Answers::said))]
 fn said(frames: &[u8], f: Frame) -> [u64; 16]
     ensures { result ≡ filled 16 (said frames.now f) }
 {
@@ -308,6 +313,7 @@ fn said(frames: &[u8], f: Frame) -> [u64; 16]
 }
 
 // The row of a line: a verdict names it.
+#[tactic(auto, unfolding(rule_explain::specs::Answers::shown))]
 fn shown(row: RowNumber, f: Frame) -> RowNumber
     ensures { result ≡ shown row f }
 {
@@ -317,6 +323,7 @@ fn shown(row: RowNumber, f: Frame) -> RowNumber
     row
 }
 
+#[tactic(auto, unfolding(rule_explain::specs::Answers::ending, crate::specs::ForProofs::filled))]
 fn ending(f: Frame) -> [u64; 3]
     ensures { result ≡ filled 3 (ending f) }
 {
@@ -344,6 +351,7 @@ fn put_runs(head: &[u64], body: &[u64], end: &[u64], line: &mut [u8]) -> usize
 
 // Writes the line of an answer or verdict at the front of a buffer, and gives its length. A buffer of fewer than 1,296
 // bytes, which are enough for any line, stays as it was.
+#[tactic(auto, unfolding(crate::specs::LinesForProofs::made_in, crate::specs::LinesForProofs::made_long, rule_explain::specs::Answers::line_of))]
 pub fn put_line(frames: &[u8], row: RowNumber, f: Frame, line: &mut [u8]) -> usize
     ensures { (result ≡ made_long line.old (line_of frames.now row f))
         × (result ≤ 1296)
@@ -359,6 +367,7 @@ pub fn put_line(frames: &[u8], row: RowNumber, f: Frame, line: &mut [u8]) -> usi
     put_runs(&head, &body, &end, line)
 }
 
+#[tactic(auto, unfolding(rule_explain::specs::Answers::fault_words, crate::specs::ForProofs::filled))]
 fn fault_words(f: Frame) -> [u64; 8]
     ensures { result ≡ filled 8 (fault_words f) }
 {
@@ -398,6 +407,7 @@ fn fault_words(f: Frame) -> [u64; 8]
 }
 
 // The same of the line of a file that is not accepted.
+#[tactic(auto, unfolding(crate::specs::LinesForProofs::made_in, crate::specs::LinesForProofs::made_long))]
 pub fn put_fault(f: Frame, line: &mut [u8]) -> usize
     ensures { (result ≡ made_long line.old (fault_line f))
         × (result ≤ 1296)
@@ -410,6 +420,7 @@ pub fn put_fault(f: Frame, line: &mut [u8]) -> usize
     put_pieces(&words, line, 0)
 }
 
+#[tactic(auto, unfolding(rule_explain::specs::Sizes::size_words, crate::specs::ForProofs::filled))]
 fn size_words(f: Frame) -> [u64; 8]
     ensures { result ≡ filled 8 (size_words f) }
 {
@@ -457,6 +468,7 @@ fn size_words(f: Frame) -> [u64; 8]
 
 // Writes the line of type n, whose size the frame says, at the front of a buffer, and gives its length. A buffer of
 // fewer than 1,296 bytes, which are enough for any line, stays as it was.
+#[tactic(auto, unfolding(crate::specs::LinesForProofs::made_in, crate::specs::LinesForProofs::made_long, rule_explain::specs::Sizes::size_line_of))]
 pub fn put_size(frames: &[u8], n: TypeNumber, f: Frame, line: &mut [u8]) -> usize
     ensures { (result ≡ made_long line.old (size_line_of frames.now n f))
         × (result ≤ 1296)
@@ -472,6 +484,7 @@ pub fn put_size(frames: &[u8], n: TypeNumber, f: Frame, line: &mut [u8]) -> usiz
 }
 
 // The same of the line of number 45, by its override.
+#[tactic(auto, unfolding(rule_explain::specs::Sizes::span_words, crate::specs::LinesForProofs::made_in, crate::specs::LinesForProofs::made_long))]
 pub fn put_span(o: u16, line: &mut [u8]) -> usize
     ensures { (result ≡ made_long line.old (span_of o))
         × (result ≤ 1296)

@@ -19,6 +19,7 @@ fn small(n: u8) -> u64
 }
 
 // A word out of several, by a code.
+#[tactic(auto, unfolding(rule_explain::specs::Types::picked))]
 pub fn pick(base: u32, lowest: u8, count: u8, code: u8) -> u64
     ensures { result ≡ picked base lowest count code }
 {
@@ -52,6 +53,7 @@ fn name_or(s: Scalar, name: u64, kind: u8, width: u8, other: u64) -> u64
 }
 
 // A scalar's name, or none.
+#[tactic(auto, unfolding(rule_explain::specs::Types::named))]
 fn named(kind: u8, width: u8) -> u64
     ensures { result ≡ named kind width }
 {
@@ -85,6 +87,7 @@ fn bytes_of(width: u8) -> u64
     0
 }
 
+#[tactic(auto, unfolding(rule_explain::specs::Types::scalar_words))]
 fn scalar_words(kind: u8, width: u8) -> ScalarWords
     ensures { result ≡ scalar_words kind width }
 {
@@ -106,6 +109,7 @@ fn scalar_words(kind: u8, width: u8) -> ScalarWords
 }
 
 // A scalar with words and sizes before it, and a word after it.
+#[tactic(auto, unfolding(rule_explain::specs::Types::around))]
 fn around(
     lead: u64,
     first: u64,
@@ -132,6 +136,7 @@ fn around(
     }
 }
 
+#[tactic(auto, unfolding(rule_explain::specs::Types::vector))]
 fn vector(size: u8, kind: u8, width: u8) -> Short
     ensures { result ≡ vector size kind width }
 {
@@ -158,6 +163,7 @@ fn is_brief(kind: u8) -> bool
 }
 
 // Such a type.
+#[tactic(auto, unfolding(rule_explain::specs::Types::brief))]
 fn brief(f: Frame) -> Short
     ensures { result ≡ brief f }
 {
@@ -202,6 +208,7 @@ fn by_number(n: TypeNumber) -> Short
 }
 
 // Type n of a file, by its frames: spelled, or by its number.
+#[tactic(auto, unfolding(rule_explain::specs::Types::within))]
 fn within(frames: &[u8], n: TypeNumber) -> Short
     ensures { result ≡ within frames.now n }
 {
@@ -212,6 +219,7 @@ fn within(frames: &[u8], n: TypeNumber) -> Short
     by_number(n)
 }
 
+#[tactic(auto, unfolding(rule_explain::specs::Types::pointer, crate::specs::ForProofs::filled))]
 fn pointer(lead: u64, s: Short, space: u8, access: u8) -> [u64; 16]
     ensures { result ≡ filled 16 (pointer lead s space access) }
 {
@@ -257,6 +265,7 @@ fn pointer(lead: u64, s: Short, space: u8, access: u8) -> [u64; 16]
     ]
 }
 
+#[tactic(auto, unfolding(rule_explain::specs::Types::array_words, crate::specs::ForProofs::filled))]
 fn array(lead: u64, s: Short, form: u8, count: u32) -> [u64; 16]
     ensures { result ≡ filled 16 (array_words lead s form count) }
 {
@@ -322,6 +331,7 @@ fn array(lead: u64, s: Short, form: u8, count: u32) -> [u64; 16]
 }
 
 // A type that has its own words only, with two words after it.
+#[tactic(auto, unfolding(crate::specs::ForProofs::filled))]
 fn plain(s: Short, a: u64, b: u64) -> [u64; 16]
     ensures { result ≡ filled 16 (inside s (a ∷ b ∷ [])) }
 {
@@ -331,6 +341,7 @@ fn plain(s: Short, a: u64, b: u64) -> [u64; 16]
     ]
 }
 
+#[tactic(auto, unfolding(rule_explain::specs::Types::cooperative_words, crate::specs::ForProofs::filled))]
 fn cooperative(f: Frame) -> [u64; 16]
     ensures { result ≡ filled 16 (cooperative_words f) }
 {
@@ -347,6 +358,7 @@ fn cooperative(f: Frame) -> [u64; 16]
     plain(s, pick(table::ROLE, 0, 3, f.b6), table::MORE)
 }
 
+#[tactic(auto, unfolding(rule_explain::specs::Types::class_name))]
 fn class_name(class: u8, multi: u8) -> u64
     ensures { result ≡ class_name class multi }
 {
@@ -365,6 +377,7 @@ fn class_name(class: u8, multi: u8) -> u64
     table::STORAGE
 }
 
+#[tactic(auto, unfolding(rule_explain::specs::Types::arrayed_name))]
 fn arrayed(flag: u8) -> u64
     ensures { result ≡ arrayed_name flag }
 {
@@ -374,6 +387,7 @@ fn arrayed(flag: u8) -> u64
     0
 }
 
+#[tactic(auto, unfolding(rule_explain::specs::Types::image, crate::specs::ForProofs::filled))]
 fn image(f: Frame) -> [u64; 16]
     ensures { result ≡ filled 16 (image f) }
 {
@@ -431,12 +445,14 @@ fn image(f: Frame) -> [u64; 16]
 }
 
 // One piece, or two.
+#[tactic(auto, unfolding(crate::specs::ForProofs::filled))]
 fn one(w: u64) -> [u64; 16]
     ensures { result ≡ filled 16 (w ∷ []) }
 {
     [w, 0, 0, 0, 0, 0, 0, 0, 0, 0, 0, 0, 0, 0, 0, 0]
 }
 
+#[tactic(auto, unfolding(crate::specs::ForProofs::filled))]
 fn unknown(kind: u8) -> [u64; 16]
     ensures { result ≡ filled 16 (unknown_kind kind) }
 {
@@ -445,6 +461,7 @@ fn unknown(kind: u8) -> [u64; 16]
 }
 
 // The type that a frame stands for.
+#[tactic(auto, unfolding(rule_explain::specs::Types::whole, crate::specs::ForProofs::filled))]
 pub fn whole(frames: &[u8], f: Frame) -> [u64; 16]
     ensures { result ≡ filled 16 (whole frames.now f) }
 {

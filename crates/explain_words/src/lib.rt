@@ -1,5 +1,7 @@
 // Pieces written as bytes: a piece below 4096 is a word of the table, every other a number in decimal
 // (specs/Lines.antt). A word has at most 48 bytes, a number at most ten.
+#![tactic(auto)]
+
 pub mod table;
 
 ghost use Rattle.std.specs.Prelude.{◌≡◌, ◌+◌, ◌*◌, ◌-◌, ◌≤◌, ◌<◌, length, take, drop};
@@ -29,6 +31,7 @@ fn copy_in(src: &[u8], out: &mut [u8], at: usize)
 }
 
 // The same where there is room; else the buffer stays as it was.
+#[tactic(auto, unfolding(crate::specs::ForProofs::put_in))]
 pub fn copy(src: &[u8], out: &mut [u8], at: usize)
     ensures { out.new ≡ put_in out.old at src.now }
 {
@@ -56,6 +59,7 @@ fn wide(n: u16) -> usize
 }
 
 // Writes word w, and gives the place after it.
+#[tactic(auto, unfolding(rule_explain::specs::Words::word_table))]
 fn put_word(w: u64, out: &mut [u8], at: usize) -> usize
     requires { at + 48 ≤ length out.old }
     ensures { (result ≡ at + length (word_bytes w))
@@ -113,6 +117,7 @@ fn put_number(n: u64, out: &mut [u8], at: usize) -> usize
     at + (10 - i)
 }
 
+#[tactic(auto, unfolding(rule_explain::specs::Lines::piece_bytes))]
 fn put_piece(p: u64, out: &mut [u8], at: usize) -> usize
     requires { at + 48 ≤ length out.old }
     ensures { (result ≡ at + length (piece_bytes p))
@@ -127,6 +132,7 @@ fn put_piece(p: u64, out: &mut [u8], at: usize) -> usize
 }
 
 // Writes pieces, and gives the place after them.
+#[tactic(auto, unfolding(rule_explain::specs::Lines::spelled))]
 fn put_run(pieces: &[u64], out: &mut [u8], at: usize) -> usize
     requires { at + 48 * length pieces.now ≤ length out.old }
     ensures { (result ≡ at + length (spelled pieces.now))
@@ -143,6 +149,7 @@ fn put_run(pieces: &[u64], out: &mut [u8], at: usize) -> usize
 }
 
 // The same where 48 bytes a piece are left; else the buffer stays as it was.
+#[tactic(auto, unfolding(crate::specs::ForProofs::put_pieces, crate::specs::ForProofs::place_after))]
 pub fn put_pieces(pieces: &[u64], out: &mut [u8], at: usize) -> usize
     ensures { (result ≡ place_after out.old at pieces.now)
         × (result ≤ at + 48 * length pieces.now)

@@ -1,5 +1,7 @@
 // The answers of all rows and the verdicts on all composes, from the frames of a file alone: an answer for each row, in
 // order, and after a compose its verdict. An earlier answer is found in the answer buffer by a table of places.
+#![tactic(auto)]
+
 ghost use Rattle.std.specs.Prelude.{◌≡◌, ◌++◌, cond, ◌+◌, ◌≤◌, length, drop};
 ghost use Rattle.answers.specs.Limit.{max_frames};
 ghost use Rattle.archive.specs.Starts.{starts_of, row_count};
@@ -88,6 +90,7 @@ fn answer_row(
 }
 
 // Every row in order; gives how many frames are written. `places` takes at which of them each row's answer stands.
+#[tactic(auto, unfolding(rule_answers::specs::Outputs::outputs, rule_answers::specs::Outputs::frames_bytes, scan::specs::Lists::build))]
 fn fill(pass: Pass, frames: &[u8], s: Starts, answers: &mut [u8], places: &mut [u16]) -> usize
     requires room { Room pass frames.now (length answers.old) }
     requires starts { s ≡ starts_of frames.now }
@@ -125,6 +128,7 @@ fn hands_back(f: Frame) -> usize
 }
 
 // How many all rows hand back.
+#[tactic(auto, unfolding(scan::specs::Lists::sum_below))]
 fn all_hand_back(frames: &[u8], s: Starts) -> usize
     requires few { frame_count frames.now ≤ max_frames }
     requires starts { s ≡ starts_of frames.now }

@@ -1,5 +1,7 @@
 // The smallest part of a file that shows a row's refusal (document 02, request 12): the rows that the row's reading
 // follows, marked, and the lines of the file cut to them.
+#![tactic(auto)]
+
 ghost use Rattle.std.specs.Prelude.{◌≡◌, cond, ◌+◌, ◌*◌, ◌≤◌, ◌<◌, length, take};
 ghost use Rattle.answers.specs.Limit.{max_frames, max_answer_bytes};
 ghost use Rattle.text.specs.declared.AnswerRoom.TheVariants.{NotLent};
@@ -36,7 +38,7 @@ use rule_file::OptionUsize;
 use rule_rows::Pass;
 
 // Whether a row of an accepted file has no type, has one, or is not there.
-#[derive(Drop)]
+#[derive(Clone, Copy)]
 pub enum RowOutcome {
     Marked,
     Sound,
@@ -44,7 +46,7 @@ pub enum RowOutcome {
 }
 
 // The same with the marks, none but in the first case.
-#[derive(Drop)]
+#[derive(Clone, Copy)]
 pub struct RowPart {
     pub outcome: RowOutcome,
     pub marks: [bool; 1024],
@@ -122,6 +124,7 @@ fn handed(part: RowPart) -> SmallestPart
 
 // Marks the rows that a row's reading follows, by the first pass's rules, where the row has no type. The frame buffer
 // is as `read_file` leaves it.
+#[tactic(auto, unfolding(law_cut::specs::File::smallest_part, law_cut::specs::File::part_marks))]
 pub fn smallest_part(text: &[u8], limit: u32, frames: &mut [u8], row: RowNumber) -> SmallestPart
     ensures outcome { result.outcome
         ≡ smallest_part limit text.now (length frames.old) row }
@@ -234,6 +237,7 @@ fn cut_part(frames: &[u8], row: RowNumber, out: &mut [u8]) -> CutText
 // Writes the lines of the file cut to the rows that `smallest_part` marks, and gives how many they are; where the
 // buffer is too small it gives number 3, and where no part is marked the number, and the buffer is unchanged. It is
 // last: the file's own number comes first, then 6 and 48, then 3.
+#[tactic(auto, unfolding(law_cut::specs::File::cut_text, law_cut::specs::File::cut_after))]
 pub fn cut_text(
     text: &[u8],
     limit: u32,

@@ -1,4 +1,6 @@
 // What is handed back to a caller in C or Rust, as a number and a frame at the front of the out-slice.
+#![tactic(auto)]
+
 ghost use Rattle.std.specs.Prelude.{◌≡◌, min};
 ghost use Rattle.answers.specs.Numbers.{at, no_refusal, not_there, outcome_values, sameness_said, canonical_said, base_said};
 ghost use Rattle.frames.specs.Bytes.{put_frame};
@@ -32,6 +34,7 @@ pub fn clamped(n: u32) -> u16
 }
 
 // A pass handed in as a number: 1 is the second, and any other counts as the first.
+#[tactic(auto, unfolding(rule_file::specs::Exported::pass_of))]
 pub fn pass_of(n: u32) -> Pass
     ensures { result ≡ pass_of n }
 {
@@ -39,6 +42,7 @@ pub fn pass_of(n: u32) -> Pass
 }
 
 // A frame handed in; zeros, which are of no family, where it has another length than 16.
+#[tactic(auto, unfolding(frames::specs::Bytes::frame_at, rule_file::specs::Exported::handed_frame))]
 pub fn handed_frame(s: &[u8]) -> Frame
     ensures { result ≡ handed_frame s.now }
 {
@@ -50,6 +54,7 @@ pub fn handed_frame(s: &[u8]) -> Frame
 }
 
 // What is returned where the out-slice is too small.
+#[tactic(auto, unfolding(rule_file::specs::Exported::no_room))]
 pub fn no_room(text: &[u8], limit: u32) -> u32
     ensures { result ≡ no_room limit text.now }
 {

@@ -1,4 +1,6 @@
 // What the typing program prints.
+#![tactic(auto)]
+
 ghost use Rattle.std.specs.Prelude.{◌≡◌, length};
 ghost use Rattle.answers.specs.Limit.{max_frame_bytes, max_answer_bytes};
 ghost use Rattle.answers.specs.Numbers.{printed_said};

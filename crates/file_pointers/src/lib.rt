@@ -1,5 +1,7 @@
 // Pointer forms over a file: the canonical form of a type, and a pointer's base. Each checks the file first (document
 // 01, "Numbers handed back").
+#![tactic(auto)]
+
 ghost use Rattle.std.specs.Prelude.{◌≡◌, length};
 ghost use Rattle.answers.specs.Numbers.{canonical_said, base_said};
 ghost use Rattle.text.specs.declared.AnswerRoom.TheVariants.{NotLent};
@@ -13,6 +15,7 @@ use ir::TypeNumber;
 use rule_file::OptionUsize;
 
 // The canonical form of type n: the value pointer, or n itself. The frame buffer is as `read_file` leaves it.
+#[tactic(auto, unfolding(rule_file::specs::Forms::canonical_type))]
 pub fn canonical_form(text: &[u8], limit: u32, frames: &mut [u8], n: TypeNumber) -> CanonicalType
     ensures outcome { result ≡ canonical_type limit text.now (length frames.old) n }
     ensures said { canonical_said result
@@ -30,6 +33,7 @@ pub fn canonical_form(text: &[u8], limit: u32, frames: &mut [u8], n: TypeNumber)
 }
 
 // The base of type n, or that it is no pointer. The frame buffer is as `read_file` leaves it.
+#[tactic(auto, unfolding(rule_file::specs::Forms::pointer_base_type))]
 pub fn pointer_base(text: &[u8], limit: u32, frames: &mut [u8], n: TypeNumber) -> PointerBase
     ensures outcome { result ≡ pointer_base_type limit text.now (length frames.old) n }
     ensures said { base_said result

@@ -1,4 +1,6 @@
 // Reading a file, and comparing two of its types: the file is checked first (document 01, "Numbers handed back").
+#![tactic(auto)]
+
 ghost use Rattle.std.specs.Prelude.{◌≡◌, ◌*◌, length, take};
 ghost use Rattle.answers.specs.Numbers.{outcome_values, sameness_said};
 ghost use Rattle.text.specs.declared.AnswerRoom.TheVariants.{NotLent};
@@ -43,6 +45,7 @@ pub fn first_frames(frames: &[u8], n: usize) -> &[u8]
 // Checks 1 to 6 within a limit of frames, 1 to 1,024, any other counting as 1,024, with the length of the answer buffer
 // where one is lent. Numbers 1 to 3 change no buffer; otherwise the frames stand at the front of the frame buffer, and
 // its bytes past them stay.
+#[tactic(auto, unfolding(rule_file::specs::File::read_file, rule_file::specs::File::frames_after))]
 pub fn read_with(text: &[u8], limit: u32, frames: &mut [u8], room: AnswerRoom) -> Outcome
     ensures outcome { result ≡ read_file limit text.now (length frames.old) room }
     ensures said { outcome_values result ≡ file_said limit text.now (length frames.old) room }
@@ -67,6 +70,7 @@ pub fn read_file(text: &[u8], limit: u32, frames: &mut [u8]) -> Outcome
 
 // Whether two answers of a file, as frames of family 8 or 9, are the same type. The frame buffer is as `read_file`
 // leaves it.
+#[tactic(auto, unfolding(rule_file::specs::Types::same_types, rule_types::specs::Comparison::same_type))]
 pub fn same_type(text: &[u8], limit: u32, frames: &mut [u8], left: Frame, right: Frame) -> Sameness
     ensures outcome { result ≡ same_types limit text.now (length frames.old) left right }
     ensures said { sameness_said result

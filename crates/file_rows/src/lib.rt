@@ -1,4 +1,6 @@
 // Typing the rows of a file: it is checked first, and its rows are answered from its frames (crate file_answers).
+#![tactic(auto)]
+
 ghost use Rattle.std.specs.Prelude.{◌≡◌, cond, ◌*◌, length};
 ghost use Rattle.text.specs.declared.AnswerRoom.TheVariants.{Lent};
 ghost use Rattle.archive.specs.Starts.{starts_of};
@@ -80,6 +82,7 @@ fn judge_one(pass: Pass, frames: &[u8], answers: &mut [u8], row: RowNumber) -> C
 // Types every row of a file by the rules of a pass, and judges every compose over those answers. The frame buffer is as
 // `read_file` leaves it; of an accepted file the answers and verdicts, 16 bytes each, stand at the front of the answer
 // buffer, and its bytes past them stay. Of a file that is not accepted nothing is handed back.
+#[tactic(auto, unfolding(rule_file::specs::Typing::answers_after, rule_file::specs::Typing::output_count))]
 pub fn type_file(
     text: &[u8],
     limit: u32,
@@ -129,6 +132,7 @@ pub fn type_rows(
 
 // The answer of one row, with the buffers as `type_rows` leaves them. The answer buffer is unchanged where the file
 // does not have the row.
+#[tactic(auto, unfolding(rule_file::specs::Typing::row_type, rule_file::specs::Typing::answers_after_row))]
 pub fn row_type(
     text: &[u8],
     limit: u32,
@@ -156,6 +160,7 @@ pub fn row_type(
 
 // The verdict on one compose, with the buffers as `type_rows` leaves them. The answer buffer is unchanged where the
 // file has no such row, or the row is no compose.
+#[tactic(auto, unfolding(rule_file::specs::Typing::compose_verdict, rule_file::specs::Typing::answers_after_verdict))]
 pub fn compose_verdict(
     text: &[u8],
     limit: u32,

@@ -1,5 +1,7 @@
 // The bytes that a type of a file fills, and their range where the lengths of pending arrays are known as ranges only
 // (document 02, requests 5 and 6). The file is checked first.
+#![tactic(auto)]
+
 ghost use Rattle.std.specs.Prelude.{◌≡◌, ◌≤◌, length};
 ghost use Rattle.text.specs.declared.AnswerRoom.TheVariants.{NotLent};
 ghost use Rattle.rule_sizes.specs.Sizes.{size_said};
@@ -23,6 +25,7 @@ use type_sizes::range_marked;
 
 // Alignment and size of type n, or 42, 43 or 44 with the lowest faulty type; 6 where there is no such type. The frame
 // buffer is as `read_file` leaves it.
+#[tactic(auto, unfolding(rule_file_sizes::specs::Sizes::type_size))]
 pub fn type_size(text: &[u8], limit: u32, frames: &mut [u8], n: TypeNumber) -> TypeSize
     ensures outcome { result ≡ type_size limit text.now (length frames.old) n }
     ensures said { size_said result ≡ type_size_said limit text.now (length frames.old) n }
@@ -39,6 +42,7 @@ pub fn type_size(text: &[u8], limit: u32, frames: &mut [u8], n: TypeNumber) -> T
 }
 
 // The range of type n: number 6 where there is no such type, then 45, then what it fills.
+#[tactic(auto, unfolding(rule_ranges::specs::Ranges::type_range_in))]
 fn type_range(frames: &[u8], s: Starts, least: &[u32], greatest: &[u32], n: TypeNumber) -> TypeRange
     requires { (type_count s ≤ 1024) × (override_count s ≤ 1024) }
     ensures { result
@@ -60,6 +64,7 @@ fn type_range(frames: &[u8], s: Starts, least: &[u32], greatest: &[u32], n: Type
 // Alignment, least and greatest size of type n where the count of each override is between those of two tables; 42, 43
 // or 44 with the lowest faulty type, 45 with the lowest override at fault, 6 where there is no such type. The frame
 // buffer is as `read_file` leaves it; a table of fewer than 1,024 counts is number 3, and the buffer stays.
+#[tactic(auto, unfolding(rule_file_sizes::specs::Ranges::size_range, rule_file_sizes::specs::Ranges::frames_ranged))]
 pub fn size_range(
     text: &[u8],
     limit: u32,

@@ -1,11 +1,13 @@
 // A frame: sixteen bytes, one layout for each kind (specs/Layout.antt), used by what reads, checks and writes.
 
+#![tactic(auto)]
+
 pub mod read;
 
 ghost use Rattle.std.specs.Prelude.{◌≡◌, ℕ, ◌+◌, ◌*◌, ◌≤◌, ◌++◌, length, take, drop};
 ghost use Rattle.frames.specs.Bytes.{bytes_of, frame_count, frame_from, frame_at, zero_frame, put_frame};
 
-#[derive(Drop)]
+#[derive(Clone, Copy)]
 pub struct Frame {
     pub b0: u8,
     pub b1: u8,
@@ -82,6 +84,7 @@ pub fn no_frame() -> Frame
 }
 
 // Frame k of a buffer; zeros where it has no such frame.
+#[tactic(auto, unfolding(crate::specs::Bytes::frame_at))]
 pub fn frame_at(s: &[u8], k: usize) -> Frame
     ensures { result ≡ frame_at s.now k }
 {
@@ -116,6 +119,7 @@ fn put_from(s: &mut [u8], at: usize, f: Frame)
 }
 
 // Writes a frame as frame k of a buffer; a buffer that has no such frame stays as it was.
+#[tactic(auto, unfolding(crate::specs::Bytes::put_frame))]
 pub fn put_frame(s: &mut [u8], k: usize, f: Frame)
     ensures { s.new ≡ put_frame s.old k f }
 {

@@ -155,6 +155,7 @@ impl Frame {
     }
 
     // A type: family 1, or a value of family 9.
+    #[tactic(auto, unfolding(crate::specs::Forms::type_of))]
     pub fn type_form(self) -> TypeForm
         ensures { result ≡ type_of self }
     {
@@ -166,6 +167,7 @@ impl Frame {
     }
 
     // A member, family 2.
+    #[tactic(auto, unfolding(crate::specs::Forms::member_of))]
     pub fn member(self) -> StructMember
         ensures { result ≡ member_of self }
     {
@@ -175,6 +177,7 @@ impl Frame {
     }
 
     // A component, family 5.
+    #[tactic(auto, unfolding(crate::specs::Forms::component_of))]
     pub fn component(self) -> RowNumber
         ensures { result ≡ component_of self }
     {

@@ -53,6 +53,7 @@ fn refusal(f: Frame) -> Unresolved
 }
 
 // The answer without a type that a frame of family 10 stands for.
+#[tactic(auto, unfolding(frames::specs::ForProofs::unresolved_of))]
 pub fn unresolved(f: Frame) -> Unresolved
     ensures { result ≡ unresolved_of f }
 {
@@ -64,6 +65,7 @@ pub fn unresolved(f: Frame) -> Unresolved
 }
 
 // The answer that a frame of family 8, 9 or 10 stands for.
+#[tactic(auto, unfolding(frames::specs::ForProofs::answer_of))]
 pub fn answer(f: Frame) -> Answer
     ensures { result ≡ answer_of f }
 {

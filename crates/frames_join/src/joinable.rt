@@ -107,6 +107,7 @@ fn frame_joins(s: Starts, f: Frame) -> bool
 }
 
 // Whether every frame of a file passes.
+#[tactic(auto, unfolding(scan::specs::Lowest::all_below, law_join::specs::Joinable::joinable))]
 pub fn joins(frames: &[u8]) -> bool
     ensures { result ≡ joinable frames.now }
 {

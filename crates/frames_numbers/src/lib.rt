@@ -1,4 +1,6 @@
 // Where numbers stand in a frame, and a frame with another number in such a place (law_moved/specs/Frames.antt).
+#![tactic(auto)]
+
 ghost use Rattle.std.specs.Prelude.{◌≡◌, ◌∷◌};
 ghost use Rattle.ir.specs.Numbers.{type_kind_of, item_kind_of, row_kind_of, flag_of};
 ghost use Rattle.frames.specs.Bytes.{byte, word};
@@ -12,7 +14,7 @@ use frames::Frame;
 use ir::{ImageQuery, ItemKind, RelationalFunction, RowKind, TypeKind};
 
 // What a number counts.
-#[derive(Drop)]
+#[derive(Clone, Copy)]
 pub enum Counted {
     Types,
     Members,
@@ -28,7 +30,7 @@ pub enum Counted {
 }
 
 // Where it stands: in bytes 2 and 3, 4 and 5, 8 to 11, or 12 to 15.
-#[derive(Drop)]
+#[derive(Clone, Copy)]
 pub enum Spot {
     B2(Counted),
     B4(Counted),
@@ -37,7 +39,7 @@ pub enum Spot {
 }
 
 // The numbers of a frame.
-#[derive(Drop)]
+#[derive(Clone, Copy)]
 pub enum Numbers {
     Nothing,
     One(Spot),

@@ -1,4 +1,6 @@
 // The item or row that a frame stands for (document 01, "The file", families 3 and 4).
+#![tactic(auto)]
+
 ghost use Rattle.std.specs.Prelude.{◌≡◌};
 ghost use Rattle.ir.specs.declared.RowKind.TheVariants.{Unknown};
 ghost use Rattle.ir.specs.declared.RowForm.TheVariants.{Known};
@@ -34,6 +36,7 @@ fn converted(b: u8, width: u8) -> OptionBytes
 }
 
 // An item, family 3.
+#[tactic(auto, unfolding(frames::specs::Forms::item_of))]
 pub fn item_of(f: Frame) -> Item
     ensures { result ≡ item_of f }
 {
@@ -41,6 +44,7 @@ pub fn item_of(f: Frame) -> Item
 }
 
 // A row, family 4.
+#[tactic(auto, unfolding(frames::specs::Forms::row_of))]
 pub fn row_form(f: Frame) -> RowForm
     ensures { result ≡ row_of f }
 {

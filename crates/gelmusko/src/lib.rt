@@ -1,6 +1,8 @@
 // The public functions over a file, exported for C and Rust; include/gelmusko.h says what each takes and gives. Every
 // one takes last an out-slice, which gets one frame of 16 bytes, and returns a number. No slice that is written may
 // overlap another of the same call.
+#![tactic(auto)]
+
 pub mod cuts;
 pub mod joins;
 pub mod ranges;

@@ -1,30 +1,32 @@
 // The declarations of the source (ir/mod.rs, lines 324 to 1916), its names and its order, in the forms that document 01
 // asks for: a number type for each arena in the place of Handle<T>, enums by value, and an enum of its own for each
 // Option.
+#![tactic(auto)]
+
 pub mod methods;
 pub mod numbers;
 
 // The number of a type, counted from 0 within family 1.
-#[derive(Drop)]
+#[derive(Clone, Copy)]
 pub struct TypeNumber(pub u16);
 
 // The number of a member, counted from 0 within family 2.
-#[derive(Drop)]
+#[derive(Clone, Copy)]
 pub struct MemberNumber(pub u16);
 
 // The number of an item, counted from 0 within its kind.
-#[derive(Drop)]
+#[derive(Clone, Copy)]
 pub struct ItemNumber(pub u32);
 
 // The number of a row, counted from 0 within family 4.
-#[derive(Drop)]
+#[derive(Clone, Copy)]
 pub struct RowNumber(pub u16);
 
 // The number of a component, counted from 0 within family 5.
-#[derive(Drop)]
+#[derive(Clone, Copy)]
 pub struct ComponentNumber(pub u32);
 
-#[derive(Drop)]
+#[derive(Clone, Copy)]
 pub enum VectorSize {
     Bi,
     Tri,
@@ -32,26 +34,26 @@ pub enum VectorSize {
 }
 
 // The source's Option<VectorSize>.
-#[derive(Drop)]
+#[derive(Clone, Copy)]
 pub enum OptionVectorSize {
     None,
     Some(VectorSize),
 }
 
-#[derive(Drop)]
+#[derive(Clone, Copy)]
 pub enum CooperativeSize {
     Eight,
     Sixteen,
 }
 
-#[derive(Drop)]
+#[derive(Clone, Copy)]
 pub enum CooperativeRole {
     A,
     B,
     C,
 }
 
-#[derive(Drop)]
+#[derive(Clone, Copy)]
 pub enum ScalarKind {
     Sint,
     Uint,
@@ -62,7 +64,7 @@ pub enum ScalarKind {
 }
 
 // The width of a scalar in bytes, 1, 2, 4 or 8 (document 02, request 2). The source has any number of bytes, `Bytes`.
-#[derive(Drop)]
+#[derive(Clone, Copy)]
 pub enum Width {
     One,
     Two,
@@ -70,7 +72,7 @@ pub enum Width {
     Eight,
 }
 
-#[derive(Drop)]
+#[derive(Clone, Copy)]
 pub struct Scalar {
     pub kind: ScalarKind,
     pub width: Width,
@@ -140,14 +142,14 @@ impl Scalar {
 }
 
 // The source's set of flags LOAD, STORE and ATOMIC.
-#[derive(Drop)]
+#[derive(Clone, Copy)]
 pub struct StorageAccess {
     pub load: bool,
     pub store: bool,
     pub atomic: bool,
 }
 
-#[derive(Drop)]
+#[derive(Clone, Copy)]
 pub enum AddressSpace {
     Function,
     Private,
@@ -161,14 +163,14 @@ pub enum AddressSpace {
     IncomingRayPayload,
 }
 
-#[derive(Drop)]
+#[derive(Clone, Copy)]
 pub enum ArraySize {
     Constant(u32),
     Pending(ItemNumber),
     Dynamic,
 }
 
-#[derive(Drop)]
+#[derive(Clone, Copy)]
 pub enum ImageDimension {
     D1,
     D2,
@@ -176,7 +178,7 @@ pub enum ImageDimension {
     Cube,
 }
 
-#[derive(Drop)]
+#[derive(Clone, Copy)]
 pub enum StorageFormat {
     R8Unorm,
     R8Snorm,
@@ -221,7 +223,7 @@ pub enum StorageFormat {
     Rgba16Snorm,
 }
 
-#[derive(Drop)]
+#[derive(Clone, Copy)]
 pub enum ImageClass {
     Sampled {
         kind: ScalarKind,
@@ -238,7 +240,7 @@ pub enum ImageClass {
 }
 
 // The inner form of a type. A struct's members are the frames of family 2 from `first` on, `count` of them.
-#[derive(Drop)]
+#[derive(Clone, Copy)]
 pub enum TypeInner {
     Scalar(Scalar),
     Vector {
@@ -297,55 +299,55 @@ pub enum TypeInner {
 }
 
 // A type of a file: of a kind that this reader knows, or not.
-#[derive(Drop)]
+#[derive(Clone, Copy)]
 pub enum TypeForm {
     Known(TypeInner),
     Unknown,
 }
 
 // The type of an expression: a type of the file, by number, or a value.
-#[derive(Drop)]
+#[derive(Clone, Copy)]
 pub enum TypeResolution {
     Handle(TypeNumber),
     Value(TypeInner),
 }
 
 // The source's Option<Scalar>.
-#[derive(Drop)]
+#[derive(Clone, Copy)]
 pub enum OptionScalar {
     None,
     Some(Scalar),
 }
 
 // The source's Option<AddressSpace>.
-#[derive(Drop)]
+#[derive(Clone, Copy)]
 pub enum OptionAddressSpace {
     None,
     Some(AddressSpace),
 }
 
 // The source's Option<TypeResolution>.
-#[derive(Drop)]
+#[derive(Clone, Copy)]
 pub enum OptionTypeResolution {
     None,
     Some(TypeResolution),
 }
 
-#[derive(Drop)]
+#[derive(Clone, Copy)]
 pub struct StructMember {
     pub ty: TypeNumber,
     pub offset: u32,
 }
 
 // The source's Option<FunctionResult>.
-#[derive(Drop)]
+#[derive(Clone, Copy)]
 pub enum FunctionResult {
     None,
     Some(TypeNumber),
 }
 
 // An item of a file, by the kinds of family 3. The source has an arena for each but the last two, its special types.
-#[derive(Drop)]
+#[derive(Clone, Copy)]
 pub enum Item {
     Unknown,
     Constant { ty: TypeNumber },
@@ -359,7 +361,7 @@ pub enum Item {
 }
 
 // A literal's kind; its value stands in no frame.
-#[derive(Drop)]
+#[derive(Clone, Copy)]
 pub enum Literal {
     F64,
     F32,
@@ -375,7 +377,7 @@ pub enum Literal {
     AbstractFloat,
 }
 
-#[derive(Drop)]
+#[derive(Clone, Copy)]
 pub enum BinaryOperator {
     Add,
     Subtract,
@@ -397,7 +399,7 @@ pub enum BinaryOperator {
     ShiftRight,
 }
 
-#[derive(Drop)]
+#[derive(Clone, Copy)]
 pub enum RelationalFunction {
     All,
     Any,
@@ -405,7 +407,7 @@ pub enum RelationalFunction {
     IsInf,
 }
 
-#[derive(Drop)]
+#[derive(Clone, Copy)]
 pub enum ImageQuery {
     Size,
     NumLevels,
@@ -414,7 +416,7 @@ pub enum ImageQuery {
 }
 
 // The source's Option<Bytes>.
-#[derive(Drop)]
+#[derive(Clone, Copy)]
 pub enum OptionBytes {
     None,
     Some(Width),
@@ -422,7 +424,7 @@ pub enum OptionBytes {
 
 // A row's expression, with what a row's frame carries. A compose's components are the frames of family 5 from `first`
 // on, `count` of them.
-#[derive(Drop)]
+#[derive(Clone, Copy)]
 pub enum Expression {
     Literal(Literal),
     Constant(ItemNumber),
@@ -516,14 +518,14 @@ pub enum Expression {
 }
 
 // A row of a file: of a kind that this reader knows, or not. Math is known, and is not typed.
-#[derive(Drop)]
+#[derive(Clone, Copy)]
 pub enum RowForm {
     Known(Expression),
     Unknown,
 }
 
 // The kind of a type, by the cases of TypeInner.
-#[derive(Drop)]
+#[derive(Clone, Copy)]
 pub enum TypeKind {
     Unknown,
     Scalar,
@@ -543,7 +545,7 @@ pub enum TypeKind {
 }
 
 // The kind of an item.
-#[derive(Drop)]
+#[derive(Clone, Copy)]
 pub enum ItemKind {
     Unknown,
     Constant,
@@ -557,7 +559,7 @@ pub enum ItemKind {
 }
 
 // The kind of a row, by the cases of Expression.
-#[derive(Drop)]
+#[derive(Clone, Copy)]
 pub enum RowKind {
     Unknown,
     Literal,

@@ -5,6 +5,8 @@
 //
 // What it must print by its stored run was written by hand, as were its files. The second's types are moved past 3,
 // its members, overrides, arguments and components past 1, and its rows past 4.
+#![tactic(auto)]
+
 use answers::{MAX_FRAME_BYTES, MAX_LIMIT, MAX_TEXT_BYTES, Printed};
 use file_exports::put_joined;
 use file_join::join_files;

@@ -37,7 +37,7 @@ pub fn asked() -> Asked {
 
 // What the listing program is asked for: sizes, or ranges between counts, with the limit that holds; or its words are
 // not taken.
-#[derive(Drop)]
+#[derive(Clone, Copy)]
 pub enum Listing {
     Sizes(u32),
     Ranges(u32),
@@ -109,7 +109,7 @@ pub fn asked_listing(least: &mut [u32], greatest: &mut [u32]) -> Listing {
 }
 
 // What the cutting program is asked for: a row, and the limit that holds; or its words are not taken.
-#[derive(Drop)]
+#[derive(Clone, Copy)]
 pub enum Cutting {
     Row { row: u16, limit: u32 },
     NotTaken,

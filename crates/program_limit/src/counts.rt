@@ -7,14 +7,14 @@ use super::is_digit;
 use scan::Found;
 
 // A count, or none.
-#[derive(Drop)]
+#[derive(Clone, Copy)]
 pub enum OptionCount {
     None,
     Some(u32),
 }
 
 // What a word says of an override's counts: the least and the greatest, or neither.
-#[derive(Drop)]
+#[derive(Clone, Copy)]
 pub enum CountWord {
     Between { least: u32, greatest: u32 },
     Neither,
@@ -74,6 +74,7 @@ fn both(least: OptionCount, greatest: OptionCount) -> CountWord
 }
 
 // What a word says.
+#[tactic(auto, unfolding(crate::specs::Counts::counts_of))]
 pub fn counts_of(word: &[u8]) -> CountWord
     ensures { result ≡ counts_of word.now }
 {

@@ -1,5 +1,7 @@
 // The words that the programs take: a limit of frames in decimal digits, `wgsl` for the second pass, two counts, and a
 // row.
+#![tactic(auto)]
+
 pub mod arguments;
 pub mod counts;
 pub mod rows;
@@ -12,7 +14,7 @@ use answers::MAX_LIMIT;
 use text_decode::most;
 
 // What a word says: the limit that holds by a number, `wgsl`, or neither; or there is no word.
-#[derive(Drop)]
+#[derive(Clone, Copy)]
 pub enum Word {
     Absent,
     Limit(u32),
@@ -21,7 +23,7 @@ pub enum Word {
 }
 
 // What a program is asked for: the limit that holds, and whether the second pass; or its words are not taken.
-#[derive(Drop)]
+#[derive(Clone, Copy)]
 pub enum Asked {
     Within { limit: u32, wgsl: bool },
     NotTaken,
@@ -66,6 +68,7 @@ fn limit_of(word: &[u8]) -> Word
     Word::Limit(most(n) as u32)
 }
 
+#[tactic(auto, unfolding(crate::specs::Word::is_wgsl))]
 fn is_wgsl(word: &[u8]) -> bool
     ensures { result ≡ is_wgsl word.now }
 {
@@ -76,6 +79,7 @@ fn is_wgsl(word: &[u8]) -> bool
 }
 
 // What a word says.
+#[tactic(auto, unfolding(crate::specs::Word::word_of))]
 pub fn word_of(word: &[u8]) -> Word
     ensures { result ≡ word_of word.now }
 {

@@ -7,7 +7,7 @@ use super::{Word, word_of};
 
 // What a word says of a row: its number, or no number. No file has a row 65,535, so that any number over it counts as
 // that.
-#[derive(Drop)]
+#[derive(Clone, Copy)]
 pub enum RowWord {
     Row(u16),
     Neither,
@@ -32,6 +32,7 @@ fn long_row(word: Word) -> RowWord
 }
 
 // What a word says.
+#[tactic(auto, unfolding(crate::specs::Rows::row_of))]
 pub fn row_of(word: &[u8]) -> RowWord
     ensures { result ≡ row_of word.now }
 {

@@ -4,6 +4,8 @@
 // ones are the least and greatest count of each override in order, as 3-8; then a line has the least and the greatest
 // size, or there is one line for number 45. Reads no more than one byte over the longest file; its buffer for lines has
 // room for any file's (`sized-fits`, `ranged-fits`).
+#![tactic(auto)]
+
 use answers::{MAX_TEXT_BYTES, Printed};
 use explain_file::{MAX_SIZED_BYTES, ranges_text, sizes_text};
 use libc::{STDIN_FILENO, STDOUT_FILENO};

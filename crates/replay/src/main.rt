@@ -4,6 +4,8 @@
 //
 // A case is a line of 59 bytes: the name with blanks up to 40, a blank, the frame buffer's length in 5 digits, a blank,
 // the text's length in 5 digits, a blank, the limit in 5 digits, a line feed. The text follows, and one line feed more.
+#![tactic(auto)]
+
 ghost use Rattle.std.specs.Prelude.{◌≤◌};
 
 use answers::{MAX_FRAMES, MAX_TEXT_BYTES, Outcome};

@@ -4,6 +4,8 @@
 // A case begins with a line of 59 bytes: the name with blanks up to 40, a blank, the source of what must be printed in
 // 5 letters, a blank, the text's length in 5 digits, a blank, the length of the pairs in 5 digits, a line feed. The
 // text follows, then two lines of 32 digits for each pair, and one line feed more.
+#![tactic(auto)]
+
 ghost use Rattle.std.specs.Prelude.{◌≤◌};
 
 use answers::{MAX_FRAME_BYTES, MAX_LIMIT, MAX_LINE_BYTES, Outcome, Printed, Sameness};

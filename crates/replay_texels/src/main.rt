@@ -1,5 +1,7 @@
 // Prints the texel of every density, 0 to 10,000, and of some over that: a line each, with the density and its texel,
 // or the number that it is refused with. tools/texels.py writes what must be printed, by decimal arithmetic.
+#![tactic(auto)]
+
 use libc::STDOUT_FILENO;
 use texel::{Texel, texel_of};
 

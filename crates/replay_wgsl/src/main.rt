@@ -7,6 +7,8 @@
 // Every row of a table is an operand. For each operator and each left row the Binary rows over all right rows are put
 // behind it, and a line is printed: the operator, the left row, and for each right row `.` where the answer is number
 // 41 with zeros, `n` where it is 22 at that very Binary row, and otherwise its digits between blanks.
+#![tactic(auto)]
+
 ghost use Rattle.std.specs.Prelude.{◌≤◌, length};
 
 use answers::{MAX_FRAME_BYTES, MAX_LIMIT, MAX_LINE_BYTES, MAX_TEXT_BYTES, Printed};

@@ -1,4 +1,6 @@
 // A row's frame as it stands in the file cut to its marked rows (document 02, request 12; law_cut/specs/Cut.antt).
+#![tactic(auto)]
+
 ghost use Rattle.std.specs.Prelude.{◌≡◌, cond, ◌≤◌, length};
 ghost use Rattle.law_moved.specs.Frames.{move_of, moved_at, moved_row};
 ghost use Rattle.law_cut.specs.Cut.{rank, cut_row, cut_moves};

@@ -1,5 +1,7 @@
 // The rows that a row reads, by document 01's first rules, and the marks of the rows that its reading follows (document
 // 02, request 12).
+#![tactic(auto)]
+
 ghost use Rattle.std.specs.Prelude.{◌≡◌, Bool, true, length, set};
 ghost use Rattle.archive.specs.Access.{row_in};
 ghost use Rattle.law_cut.specs.Marks.{set_each, marks_by};
@@ -22,7 +24,7 @@ use ir::{BinaryOperator, Expression, ImageQuery, RelationalFunction, RowForm, Ro
 use row_operands::past::past;
 
 // What a row reads: no row, one, or left and then right.
-#[derive(Drop)]
+#[derive(Clone, Copy)]
 pub enum Operands {
     Nothing,
     One(RowNumber),

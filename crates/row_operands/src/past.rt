@@ -18,6 +18,7 @@ use type_methods::forms::value_fault;
 
 // The answer of row n, at the frame of the answer buffer that `places` has for it; of a row that is not typed yet the
 // fixed refusal.
+#[tactic(auto, unfolding(rule_rows::specs::OverBuffer::answer_in))]
 pub fn past(answers: &[u8], places: &[u16], n: RowNumber) -> Answer
     ensures { result ≡ answer_in answers.now places.now n }
 {
@@ -68,6 +69,7 @@ fn value_seen(s: Starts, here: RowNumber, form: TypeForm) -> Looked
 }
 
 // By the frame of an answer: a number and a value are looked into as they stand there.
+#[tactic(auto, unfolding(frames::specs::ForProofs::answer_of))]
 fn look_by(frames: &[u8], s: Starts, here: RowNumber, f: Frame) -> Looked
     ensures { result ≡ looked_by frames.now s here (answer_of f) }
 {
@@ -84,6 +86,7 @@ fn look_by(frames: &[u8], s: Starts, here: RowNumber, f: Frame) -> Looked
 
 // A look goes by three of the places where families begin. They are handed over as numbers: a struct of twelve would be
 // copied for every look.
+#[tactic(auto, unfolding(rule_rows::specs::OverBuffer::answer_in, crate::specs::Past::looked_in))]
 fn look_in(
     frames: &[u8],
     types: usize,

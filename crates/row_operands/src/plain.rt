@@ -51,6 +51,7 @@ pub fn typed_frame(frames: &[u8], s: Starts, f: Frame) -> Frame
 }
 
 // The scalar, vector, matrix or cooperative matrix that a frame is of; unknown of any other.
+#[tactic(auto, unfolding(crate::specs::Plain::plain_of, frames::specs::Forms::type_of))]
 pub fn plain_form(f: Frame) -> TypeForm
     ensures { result ≡ plain_of f }
 {

@@ -2,7 +2,9 @@
 // and a size, and the lines of a whole file. Crates explain_words, explain_lines and explain_file have the code.
 
 // A scalar: its name, or its kind and how many bytes.
-#[derive(Drop)]
+#![tactic(auto)]
+
+#[derive(Clone, Copy)]
 pub struct ScalarWords {
     pub name: u64,
     pub width: u64,
@@ -10,7 +12,7 @@ pub struct ScalarWords {
 }
 
 // A type that another names: words and sizes, its scalar, a word.
-#[derive(Drop)]
+#[derive(Clone, Copy)]
 pub struct Short {
     pub lead: u64,
     pub first: u64,

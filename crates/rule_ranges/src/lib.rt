@@ -1,11 +1,13 @@
 // The bytes that a type fills where the lengths of pending arrays are known as ranges only (document 02, request 6),
 // as rules, in specs/.
+#![tactic(auto)]
+
 use answers::Outcome;
 use ir::TypeNumber;
 use rule_sizes::{Alignment, SizeFault};
 
 // Alignment, least and greatest size; or the lowest faulty type.
-#[derive(Drop)]
+#[derive(Clone, Copy)]
 pub enum Range {
     Spans {
         align: Alignment,
@@ -19,7 +21,7 @@ pub enum Range {
 }
 
 // What is said of a type: its range; number 45 and an override; number 6; or the file's own number.
-#[derive(Drop)]
+#[derive(Clone, Copy)]
 pub enum TypeRange {
     Ranged(Range),
     Span { place: u16 },

@@ -1,11 +1,13 @@
 // The rules of rows, in specs/: the source's ResolveContext::resolve (proc/typifier.rs, lines 265 to 826), arm by arm.
 // The crates row_* have the code.
 
+#![tactic(auto)]
+
 use ir::{OptionVectorSize, Scalar, VectorSize};
 
 // The pass whose rules type a file's rows. They differ in Binary rows alone: in the first the source types them, in the
 // second WGSL's tables.
-#[derive(Drop)]
+#[derive(Clone, Copy)]
 pub enum Pass {
     First,
     Second,
@@ -13,7 +15,7 @@ pub enum Pass {
 
 // What WGSL's tables of Binary expressions ask of a type: a scalar or a vector of it, a matrix, or a type that is in no
 // line.
-#[derive(Drop)]
+#[derive(Clone, Copy)]
 pub enum Shape {
     Plain {
         size: OptionVectorSize,

@@ -1,10 +1,12 @@
 // The bytes that a type fills (document 02, request 5), as rules, in specs/: alignment and size by WGSL's memory
 // layout section. Crates size_steps, size_pending, size_needs and type_sizes have the code.
+#![tactic(auto)]
+
 use answers::Outcome;
 use ir::TypeNumber;
 
 // What a type is aligned to, in bytes.
-#[derive(Drop)]
+#[derive(Clone, Copy)]
 pub enum Alignment {
     Two,
     Four,
@@ -13,14 +15,14 @@ pub enum Alignment {
 }
 
 // The alignment of a scalar, or that it is not in the list.
-#[derive(Drop)]
+#[derive(Clone, Copy)]
 pub enum OptionAlignment {
     None,
     Some(Alignment),
 }
 
 // Numbers 42, 43 and 44.
-#[derive(Drop)]
+#[derive(Clone, Copy)]
 pub enum SizeFault {
     Unmeasured,
     Misplaced,
@@ -28,14 +30,14 @@ pub enum SizeFault {
 }
 
 // Alignment and size, or the lowest faulty type.
-#[derive(Drop)]
+#[derive(Clone, Copy)]
 pub enum Measure {
     Fills { align: Alignment, size: u32 },
     Faulty { fault: SizeFault, place: TypeNumber },
 }
 
 // What is said of a type's size: its measure; number 6; or the file's own number.
-#[derive(Drop)]
+#[derive(Clone, Copy)]
 pub enum TypeSize {
     Measured(Measure),
     Index,

@@ -1,6 +1,8 @@
 // What is to be known of other types before a type is measured: nothing, what the element of an array fills, or what
 // the members of a struct fill (document 02, requests 5 and 6). A type that is marked is a pending array or holds one,
 // and goes by counts.
+#![tactic(auto)]
+
 ghost use Rattle.std.specs.Prelude.{◌≡◌};
 ghost use Rattle.rule_ranges.specs.Pending.{look_holds};
 ghost use Rattle.rule_ranges.specs.Ranges.{counts_of};
@@ -13,7 +15,7 @@ use size_steps::leaves::{leaf, unmeasured};
 
 // Nothing, for the type is measured; the element of an array of so many; or the members of a struct, which is laid out
 // afresh or by the file's offsets and span.
-#[derive(Drop)]
+#[derive(Clone, Copy)]
 pub enum Needs {
     Nothing(Measure),
     Element {
@@ -109,6 +111,7 @@ fn counted_needs(marks: &[bool], counts: &[u32], n: TypeNumber, t: TypeInner) ->
 }
 
 // What type n of this form needs; an unknown kind is outside the list.
+#[tactic(auto, unfolding(crate::specs::Needs::needs_of))]
 pub fn needs_of(marks: &[bool], counts: &[u32], n: TypeNumber, form: TypeForm) -> Needs
     ensures { result
         ≡ needs_of (look_holds marks.now) (counts_of counts.now) n form }

@@ -1,5 +1,7 @@
 // Which types are a pending array or hold one, and the counts of overrides (document 02, request 6). A type names only
 // earlier ones, so types are marked in order.
+#![tactic(auto)]
+
 ghost use Rattle.std.specs.Prelude.{◌≡◌, ◌&&◌, ltb, get_or};
 ghost use Rattle.answers.specs.Limit.{max_frames};
 ghost use Rattle.rule_ranges.specs.Pending.{size_holds, member_holds, inner_holds, form_holds, look_holds, holds_pending};
@@ -29,6 +31,7 @@ fn size_holds(marks: &[bool], base: TypeNumber, size: ArraySize) -> bool
 }
 
 // The members of a struct, from member `first` on.
+#[tactic(auto, unfolding(rule_ranges::specs::Pending::member_holds))]
 fn member_holds(frames: &[u8], s: Starts, marks: &[bool], first: MemberNumber, count: u16) -> bool
     ensures { result ≡ member_holds frames.now s (look_holds marks.now) first count }
 {
@@ -104,6 +107,7 @@ fn span_ok(least: &[u32], greatest: &[u32], o: usize) -> bool
 }
 
 // Number 45: the lowest override of the file whose least count is 0 or above its greatest.
+#[tactic(auto, unfolding(rule_ranges::specs::Ranges::faulty_span))]
 pub fn faulty_span(s: Starts, least: &[u32], greatest: &[u32]) -> Found
     ensures { result ≡ faulty_span s (counts_of least.now) (counts_of greatest.now) }
 {

@@ -52,6 +52,7 @@ fn wide(n: u32) -> u64
 }
 
 // Array n of so many elements.
+#[tactic(auto, unfolding(rule_sizes::specs::Sizes::array_of))]
 pub fn array_of(n: TypeNumber, e: Measure, count: u32, stride: u32) -> Measure
     ensures { result ≡ array_of n e count stride }
 {
@@ -119,6 +120,7 @@ fn up_to(align: Alignment, end: u64, placed: bool) -> SoFar
 }
 
 // A member that has a size, after those that end within 32 bits.
+#[tactic(auto, unfolding(crate::specs::SoFar::member_more))]
 fn placed_by(
     afresh: bool,
     b: Alignment,
@@ -139,6 +141,7 @@ fn placed_by(
 }
 
 // One member more; by the file's offset, or afresh.
+#[tactic(auto, unfolding(crate::specs::SoFar::member_more))]
 pub fn member_more(afresh: bool, sofar: SoFar, offset: u32, part: Measure) -> SoFar
     ensures { result ≡ member_more afresh sofar offset part }
 {
@@ -161,6 +164,7 @@ pub fn member_more(afresh: bool, sofar: SoFar, offset: u32, part: Measure) -> So
 }
 
 // Struct n with members, by its span.
+#[tactic(auto, unfolding(crate::specs::SoFar::span_end))]
 fn span_end(n: TypeNumber, sofar: SoFar, span: u32) -> Measure
     ensures { result ≡ span_end n sofar span }
 {
@@ -185,6 +189,7 @@ fn span_end(n: TypeNumber, sofar: SoFar, span: u32) -> Measure
 }
 
 // Struct n laid out afresh.
+#[tactic(auto, unfolding(crate::specs::SoFar::fresh_end))]
 fn fresh_end(n: TypeNumber, sofar: SoFar) -> Measure
     ensures { result ≡ fresh_end n sofar }
 {
@@ -216,6 +221,7 @@ fn fresh_end(n: TypeNumber, sofar: SoFar) -> Measure
 }
 
 // Struct n of so many members: laid out afresh, or by its span.
+#[tactic(auto, unfolding(crate::specs::SoFar::struct_by))]
 pub fn struct_by(afresh: bool, n: TypeNumber, sofar: SoFar, count: u16, span: u32) -> Measure
     ensures { result ≡ struct_by afresh n sofar count span }
 {

@@ -91,6 +91,7 @@ pub fn span_frame(place: u16) -> Frame
 }
 
 // The measure of such a frame.
+#[tactic(auto, unfolding(rule_sizes::specs::Sizes::measure_of))]
 pub fn measure_of(f: Frame) -> Measure
     ensures { result ≡ measure_of f }
 {

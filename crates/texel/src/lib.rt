@@ -1,17 +1,20 @@
 // The texel of a density (document 02, requests 1 and 11): hundredths of a per cent, 0 to 10,000, as an R16Unorm texel.
+#![tactic(auto)]
+
 ghost use Rattle.std.specs.Prelude.{◌≡◌, cond, ◌*◌, ◌≤◌, leb};
 ghost use Rattle.answers.specs.Numbers.{at, asked, instead};
 ghost use Rattle.texel.specs.Texel.{tied, rounded, texel_of, texel_said};
 ghost use Rattle.texel.specs.Exported.{texel_number, texel_put, by_texel_room};
 
 // What asking for a texel gives: the texel; or number 40, where the density is over 10,000.
-#[derive(Drop)]
+#[derive(Clone, Copy)]
 pub enum Texel {
     Given(u16),
     Range,
 }
 
 // Which of q and q + 1 is given where both are equally near: the even one.
+#[tactic(auto, unfolding(crate::specs::Texel::tied))]
 fn tied_at(q: u32) -> u32
     requires { q ≤ 65535 }
     ensures { result ≡ tied q }

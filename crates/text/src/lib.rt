@@ -3,7 +3,9 @@
 // Crates text_decode and text_encode have the code.
 
 // The answer buffer's length, where one is lent.
-#[derive(Drop)]
+#![tactic(auto)]
+
+#[derive(Clone, Copy)]
 pub enum AnswerRoom {
     NotLent,
     Lent(usize),

@@ -1,4 +1,6 @@
 // Reading a text: numbers 1 to 3 (document 01, "Numbers handed back"), or its frames.
+#![tactic(auto)]
+
 pub mod room;
 
 ghost use Rattle.std.specs.Prelude.{◌≡◌, true, ◌++◌, ◌+◌, ◌*◌, ◌/◌, ◌≤◌, ◌<◌, length, drop};
@@ -23,6 +25,7 @@ fn is_digit(c: u8) -> bool
 }
 
 // What a digit stands for: 48 to 57 are 0 to 9 past a multiple of 16, and 97 to 102 are 1 to 6 past one.
+#[tactic(auto, unfolding(text::specs::Hex::digit_value))]
 fn value(c: u8) -> u8
     requires { is_digit c ≡ true }
     ensures { (result ≡ digit_value c) × (result < 16) }
@@ -31,6 +34,7 @@ fn value(c: u8) -> u8
 }
 
 // Whether line k is whole. The whole line is tested, with no way out before its end.
+#[tactic(auto, unfolding(scan::specs::Lowest::all_below, text::specs::Lines::line_ok))]
 fn line_ok(text: &[u8], k: usize) -> bool
     requires { 33 * k ≤ length text.now }
     ensures { result ≡ line_ok text.now k }
@@ -79,6 +83,7 @@ fn frame_byte(text: &[u8], k: usize, j: usize) -> u8
 }
 
 // How many answer frames line k asks for: a row one, a compose two, any other none.
+#[tactic(auto, unfolding(text::specs::Reading::answer_frames))]
 fn line_answers(text: &[u8], k: usize) -> usize
     requires { (line_ok text.now k ≡ true) × (33 * k + 33 ≤ length text.now) }
     ensures { (result ≡ answer_frames text.now k) × (result ≤ 2) }
@@ -109,6 +114,7 @@ fn answer_frames(text: &[u8], n: usize) -> usize
 }
 
 // Whether a lent buffer is too small for the text. The frame buffer has f bytes.
+#[tactic(auto, unfolding(text::specs::Reading::too_short))]
 fn too_short(text: &[u8], f: usize, room: AnswerRoom) -> bool
     requires { (lowest (line_ok text.now) (line_count text.now) ≡ Found.Nothing)
         × (length text.now ≤ max_text_bytes) }
@@ -166,6 +172,7 @@ pub fn most(limit: u32) -> usize
 }
 
 // Checks 1 to 3, and where they pass the frames, at the front of the frame buffer. Numbers 1 to 3 change no buffer.
+#[tactic(auto, unfolding(text::specs::Reading::read_text))]
 pub fn read_text(text: &[u8], limit: u32, frames: &mut [u8], room: AnswerRoom) -> Outcome
     ensures outcome { result ≡ read_text limit text.now (length frames.old) room }
     ensures frames { frames.new ≡ frames_read result text.now frames.old }

@@ -22,6 +22,7 @@ fn or_short(o: Outcome) -> Outcome
 }
 
 // What reading gives then: numbers 1 and 2 are the text's whatever is lent, so nothing is lent here.
+#[tactic(auto, unfolding(text::specs::Room::short_read))]
 pub fn short_read(text: &[u8], limit: u32) -> Outcome
     ensures { result ≡ short_read limit text.now }
 {

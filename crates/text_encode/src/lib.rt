@@ -1,9 +1,12 @@
 // Writing frames as lines.
+#![tactic(auto)]
+
 ghost use Rattle.std.specs.Prelude.{◌≡◌, ◌++◌, ◌+◌, ◌*◌, ◌/◌, ◌≤◌, ◌<◌, min, length, drop};
 ghost use Rattle.text.specs.Hex.{digit_of};
 ghost use Rattle.text.specs.Lines.{text_of};
 
 // The digit that stands for v.
+#[tactic(auto, unfolding(text::specs::Hex::digit_of))]
 fn digit(v: u8) -> u8
     requires { v < 16 }
     ensures { result ≡ digit_of v }

@@ -29,6 +29,7 @@ fn base_of_form(form: TypeForm) -> PointerBase
 }
 
 // The base of type n: its number or a value, or that type n is no pointer.
+#[tactic(auto, unfolding(rule_types::specs::Canonical::pointer_base_in))]
 pub fn pointer_base(frames: &[u8], s: Starts, n: TypeNumber) -> PointerBase
     ensures { result ≡ pointer_base_in frames.now s n }
 {
@@ -59,6 +60,7 @@ fn canonical_of_form(frames: &[u8], s: Starts, n: TypeNumber, form: TypeForm) ->
 }
 
 // The canonical form of type n.
+#[tactic(auto, unfolding(rule_types::specs::Canonical::canonical_type_in))]
 pub fn canonical_type(frames: &[u8], s: Starts, n: TypeNumber) -> CanonicalType
     ensures { result ≡ canonical_type_in frames.now s n }
 {

@@ -35,6 +35,7 @@ fn alike(f: Frame, g: Frame) -> bool
 }
 
 // Equal types are written as the same bytes.
+#[tactic(auto, unfolding(rule_types::specs::Canonical::equal_types))]
 pub fn equal_types(t: TypeInner, u: TypeInner) -> bool
     ensures { result ≡ equal_types t u }
 {

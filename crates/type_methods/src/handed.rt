@@ -60,6 +60,7 @@ fn left_tested(frames: &[u8], s: Starts, a: TypeResolution, right: Frame) -> Sam
 }
 
 // What comparing two frames gives.
+#[tactic(auto, unfolding(rule_types::specs::Comparison::same_in))]
 pub fn same_type(frames: &[u8], s: Starts, left: Frame, right: Frame) -> Sameness
     ensures { result ≡ sameness_of (same_in frames.now s left right) }
 {

@@ -2,6 +2,8 @@
 // one more after a compose; for a file that is not accepted, one line with its number and place. Its arguments, in
 // either order, are the limit of frames and `wgsl`, for the second pass; each may be left out. Reads no more than one
 // byte over the longest file; its buffer for lines has room for any file's.
+#![tactic(auto)]
+
 use answers::{MAX_LINE_BYTES, MAX_TEXT_BYTES, Printed};
 use file_lines::type_text;
 use libc::{STDIN_FILENO, STDOUT_FILENO};

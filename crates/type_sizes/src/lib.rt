@@ -1,6 +1,8 @@
 // The bytes that a type fills, found from the types it names (document 02, requests 5 and 6). A type names only earlier
 // ones, so its number falls; what was found is kept in a table, so a part is measured once. Types that are marked go by
 // counts; with none marked it is request 5's measure.
+#![tactic(auto)]
+
 ghost use Rattle.std.specs.Prelude.{◌≡◌};
 ghost use Rattle.frames.specs.Bytes.{put_frame};
 ghost use Rattle.rule_sizes.specs.Sizes.{measure_in, type_size_in, measure_frame, size_frame};
@@ -183,6 +185,7 @@ pub fn measure_all(frames: &[u8], s: Starts, out: &mut [u8])
 }
 
 // What type n fills, and number 6 where there is no such type.
+#[tactic(auto, unfolding(rule_sizes::specs::Sizes::type_size_in))]
 pub fn type_size(frames: &[u8], s: Starts, n: TypeNumber) -> TypeSize
     ensures { result ≡ type_size_in frames.now s n }
 {

@@ -29,6 +29,7 @@ pub fn by_end(i: u32, end: Unresolved) -> Decided
 }
 
 // The same by the frame of an answer without a type: its number alone says which, and no refusal is read.
+#[tactic(auto, unfolding(frames::specs::ForProofs::unresolved_of))]
 pub fn without_type(i: u32, f: Frame) -> Decided
     ensures { result ≡ end_decides i (unresolved_of f) }
 {

@@ -15,6 +15,7 @@ use archive::Starts;
 use archive_access::families::type_at;
 use ir::{ArraySize, ComponentNumber, TypeForm, TypeInner, TypeNumber};
 
+#[tactic(auto, unfolding(rule_rows::specs::OverBuffer::judged_by))]
 fn array_parts(
     frames: &[u8],
     s: Starts,
@@ -46,6 +47,7 @@ fn array_parts(
 }
 
 // By the composed type's form.
+#[tactic(auto, unfolding(rule_rows::specs::OverBuffer::judged_by))]
 fn by_form(
     frames: &[u8],
     s: Starts,

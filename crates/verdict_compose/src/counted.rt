@@ -115,6 +115,7 @@ fn by_value(frames: &[u8], s: Starts, ty: TypeNumber, i: u32, form: TypeForm) ->
 }
 
 // Component i by the frame of its row's answer, held to type ty by the comparison.
+#[tactic(auto, unfolding(frames::specs::ForProofs::answer_of))]
 fn by_answer(frames: &[u8], s: Starts, ty: TypeNumber, i: u32, f: Frame) -> Decided
     ensures { result ≡ part_by frames.now s (Element ty) i (answer_of f) }
 {

@@ -1,6 +1,8 @@
 // The verdict on a compose: the source's validate_compose (valid/compose.rs, lines 15 to 116), by the rule of
 // rule_compose/specs/Verdict.antt. `vector` adds components up, `counted` holds each to a column, an element or a
 // member.
+#![tactic(auto)]
+
 pub mod by_frame;
 pub mod component;
 pub mod compose;
@@ -13,7 +15,7 @@ use ir::{MemberNumber, Scalar, TypeNumber, VectorSize};
 
 // What is asked of each component: that it is a column of a matrix, an element of an array, or the member of its index
 // of a struct whose `count` members begin at `first`.
-#[derive(Drop)]
+#[derive(Clone, Copy)]
 pub enum Part {
     Column { rows: VectorSize, scalar: Scalar },
     Element(TypeNumber),
@@ -21,7 +23,7 @@ pub enum Part {
 }
 
 // What one component decides: how many parts it adds to what is composed, or the verdict.
-#[derive(Drop)]
+#[derive(Clone, Copy)]
 pub enum Decided {
     Adds(u32),
     Ends(Verdict),
