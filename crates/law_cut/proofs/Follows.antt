@@ -35,6 +35,7 @@ module _ (pass : Pass) (fr : List ℕ) (good : Good fr) where
 
   numbers-earlier : (n : ℕ) (l : List RowNumber) (j : ℕ) → Earlier (record { 0 = n }) l
       → In j (numbers (read_to (answer-of pass fr) l)) → j < n
+  numbers-earlier n [] j h x = elim x [ ]
   numbers-earlier n (r ∷ l) j h first = h.0
   numbers-earlier n (r ∷ l) j h (next x) = more (answer-of pass fr r) x (numbers-earlier n l j h.1)
     where

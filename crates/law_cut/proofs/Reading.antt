@@ -91,6 +91,7 @@ module _ (pass : Pass) (fr : List ℕ) where
     operands-stand : (l : List RowNumber) (rest : List TypeAnswer → List Step) → Own l → (r : ℕ)
         → In r (numbers (read_to answer-of l)) → Stands k (read_of r).steps
         → Stands k (operand_steps earlier l rest)
+    operands-stand [] rest own r x y = elim x [ ]
     operands-stand (n ∷ ns) rest own r first y = stands-left (earlier n).steps _
         (subst (λ (z : Reading Typed). Stands k z.steps) (sym own.0) y)
     operands-stand (n ∷ ns) rest own r (next x) y = stands-right (earlier n).steps _

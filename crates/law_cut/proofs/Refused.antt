@@ -138,6 +138,7 @@ module _ (kept : ℕ → Type 0) where
       (λ r q. h r (subst (λ (x : Thing). Stands r (step p x ∷ l)) (sym q) here), each_from l (λ r y. h r (later y)))
 
   each_to : (at : Place → Place) (l : List Step) (r : RowNumber) → Each Keeps (placed at l) → Stands r l → kept r.0
+  each_to at [] r h x = elim x [ ]
   each_to at (step p (kind n) ∷ l) r h here = h.0 r refl
   each_to at (step p c ∷ l) r h (later y) = each_to at l r h.1 y
 

@@ -28,6 +28,7 @@ stands-in (step p (kind n) ∷ l) m here = inl here
 stands-in (x ∷ l) m (later h) = ⊎_elim (λ y. inl (later y)) inr (stands-in l m h)
 
 pub stands-left : {k : RowNumber} (l m : List Step) → Stands k l → Stands k (l ++ m)
+stands-left {k = k} [] m x = elim x [ ]
 stands-left (step p (kind n) ∷ l) m here = here
 stands-left (x ∷ l) m (later h) = later (stands-left l m h)
 
@@ -41,12 +42,14 @@ at_first k n p l here = inl refl
 at_first k n p l (later h) = inr h
 
 length-stands : {k : RowNumber} (l : List Step) → Stands k l → 0 < length l
+length-stands {k = k} [] h = elim h [ ]
 length-stands (x ∷ l) h = omega arith
 
 pub none-stands : {k : RowNumber} {P : Type 0} → Stands k [] → P
 none-stands h = let l = length-stands [] h in absurd (omega arith)
 
 in-length : {j : ℕ} (l : List ℕ) → In j l → 0 < length l
+in-length {j = j} [] h = elim h [ ]
 in-length (i ∷ l) h = omega arith
 
 pub none_in : {j : ℕ} {P : Type 0} → In j [] → P

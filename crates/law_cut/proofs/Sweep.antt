@@ -63,6 +63,7 @@ kept-each m [] k h = h
 kept-each m (i ∷ l) k h = kept-each (set m i true) l k (kept_set m i k h)
 
 set-each : (m : List Bool) (l : List ℕ) (k : ℕ) → In k l → k < length m → is_marked (set_each m l) k ≡ true
+set-each m [] k x h = elim x [ ]
 set-each m (i ∷ l) k first h = kept-each (set m k true) l k (get_or-set_same m k true false h)
 set-each m (i ∷ l) k (next x) h = set-each (set m i true) l k x (rw (length-set m i true) h)
 

@@ -67,6 +67,7 @@ module _ (compare : Frame → Frame → Sameness) (order : (a b : Frame) → com
   -- a member that is the same as itself is in a group
   grouped : (l : List Frame) (a : Frame) → Memᴰ a l → compare a a ≡ Sa.Same
       → (x : Frame) × (group compare l a ≡ some x)
+  grouped [] a h e = elim h [ ]
   grouped (y ∷ l) a h e = go (is_same (compare y a)) refl (Memᴰ.cases_cons h) (λ g. grouped l a g e)
     where
       go : (b : Bool) → is_same (compare y a) ≡ b → (a ≡ y) ⊎ Memᴰ a l
