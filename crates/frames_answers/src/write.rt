@@ -3,7 +3,8 @@
 // Numbers are written by their bytes, the low one first.
 ghost use Rattle.std.specs.Prelude.{◌≡◌, ◌/◌, ◌%◌};
 ghost use Rattle.answers.specs.Numbers.{at, refusal_values};
-ghost use Rattle.frames.specs.Out.{refused_frame, outcome_frame, answer_frame, judged_frame, verdict_frame, sized_frame};
+ghost use Rattle.frames.specs.Out.{refused_frame, outcome_frame, answer_frame, judged_frame, verdict_frame};
+ghost use Rattle.frames.specs.Out.{sized_frame};
 ghost use Rattle.frames.specs.Out.{ranged_frame};
 
 use super::types::resolution_frame;
