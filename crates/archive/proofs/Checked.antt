@@ -35,7 +35,8 @@ module _ (fr : List ℕ) (few : frame_count fr ≤ max_frames) where
   pub by-check : (P : Outcome → Type 0) → ((p : ℕ) → FailsAt order_ok fr p → P (Order p))
       → ((p : ℕ) → Holds order_ok fr → FailsAt field_ok fr p → P (Field p))
       → ((p : ℕ) → Holds order_ok fr → Holds field_ok fr → FailsAt index_ok fr p → P (Index p))
-      → (Holds order_ok fr → Holds field_ok fr → Holds index_ok fr → P (Accepted (frame_count fr))) → P (check_frames fr)
+      → (Holds order_ok fr → Holds field_ok fr → Holds index_ok fr → P (Accepted (frame_count fr)))
+      → P (check_frames fr)
   unfolding check_frames
   by-check P order field index accepted =
       rw (le-ltb max_frames (frame_count fr) few)
@@ -78,7 +79,8 @@ module _ (fr : List ℕ) (few : frame_count fr ≤ max_frames) where
   )
 
   -- number 6 at p: exactly when checks 4 and 5 hold of all frames, and p is the lowest that names wrongly
-  pub index-when : (p : ℕ) → (check_frames fr ≡ Index p) ↔ (Holds order_ok fr × Holds field_ok fr × FailsAt index_ok fr p)
+  pub index-when : (p : ℕ) → (check_frames fr ≡ Index p)
+      ↔ (Holds order_ok fr × Holds field_ok fr × FailsAt index_ok fr p)
   unfolding check_frames
   index-when p = (
     by-check (λ r. r ≡ Index p → Holds order_ok fr × Holds field_ok fr × FailsAt index_ok fr p) (λ j a e. never (cc))
@@ -93,7 +95,8 @@ module _ (fr : List ℕ) (few : frame_count fr ≤ max_frames) where
 
   -- accepted: exactly when all three hold of all frames
   pub accepted-when : (n : ℕ)
-      → (check_frames fr ≡ Accepted n) ↔ ((n ≡ frame_count fr) × Holds order_ok fr × Holds field_ok fr × Holds index_ok fr)
+      → (check_frames fr ≡ Accepted n)
+      ↔ ((n ≡ frame_count fr) × Holds order_ok fr × Holds field_ok fr × Holds index_ok fr)
   unfolding check_frames
   accepted-when n = (
     by-check (λ r. r ≡ Accepted n → (n ≡ frame_count fr) × Holds order_ok fr × Holds field_ok fr × Holds index_ok fr)

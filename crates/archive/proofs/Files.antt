@@ -21,7 +21,8 @@ use Rattle.archive.specs.declared.Held.{Held}
 use Rattle.archive.specs.declared.Held.TheVariants.{Parts}
 use Rattle.archive.specs.Order.{rank_at, is_known, is_once, follows, order_ok}
 use Rattle.archive.specs.Starts.{start, starts_of}
-use Rattle.archive.specs.Names.{is_type, is_row, type_form_names, item_names, row_form_names, names_by, names_of, names_ok}
+use Rattle.archive.specs.Names.{is_type, is_row, type_form_names, item_names, row_form_names, names_by, names_of}
+use Rattle.archive.specs.Names.{names_ok}
 use Rattle.archive.specs.Parts.{held_by, is_early, early_in, early_for, early_ok}
 use Rattle.archive.specs.Checks.{field_ok, index_ok}
 use Rattle.archive.proofs.Ranks.{begins}
@@ -71,7 +72,8 @@ module _ (fr : List ℕ) (indexed : Holds index_ok fr) (k : ℕ) (h : k < frame_
   of-family family e = ap (λ (b : ℕ). names_by b (starts_of fr) k (frame_at fr k)) (sym e) ∙ named
 
   -- what a frame of each family names is there, and earlier where that is asked
-  pub type-names : (frame_at fr k).b0 ≡ 1 → type_form_names (starts_of fr) (record { 0 = k }) (type_of (frame_at fr k)) ≡ true
+  pub type-names : (frame_at fr k).b0 ≡ 1
+      → type_form_names (starts_of fr) (record { 0 = k }) (type_of (frame_at fr k)) ≡ true
   type-names e = of-family 1 e
 
   pub member-names : (frame_at fr k).b0 ≡ 2 → is_type (starts_of fr) (member_of (frame_at fr k)).ty ≡ true

@@ -71,13 +71,13 @@ abbrev wanted : ExplainedCase → Printed × List ℕ
 wanted c = left (lines c.lines) c.room
 
 worked : map given explained_cases ≡ map wanted explained_cases
-unfolding lowest all_below build sum_below digit_value line_ok byte_of answer_frames too_short most_frames read_text frame_at
-    type_of item_of row_of member_of component_of fields_fit order_ok start starts_of names_ok early_ok index_ok check_frames
-    read_file printed printed_after listed type_in equal_types identical same_in same_type canonical_type_in pointer_base_in
-    row_in each_part vector_parts outputs frames_bytes digit_of char_of word_bytes W.word_table digits piece_bytes spelled
-    picked named scalar_words around vector brief within pointer array_words cooperative_words class_name arrayed_name
-    image whole manner reason refusal judged_words said shown ending line_of fault_words joined next_row row_at
-    lines_of
+unfolding lowest all_below build sum_below digit_value line_ok byte_of answer_frames too_short most_frames read_text
+    frame_at type_of item_of row_of member_of component_of fields_fit order_ok start starts_of names_ok early_ok
+    index_ok check_frames read_file printed printed_after listed type_in equal_types identical same_in same_type
+    canonical_type_in pointer_base_in row_in each_part vector_parts outputs frames_bytes digit_of char_of word_bytes
+    W.word_table digits piece_bytes spelled picked named scalar_words around vector brief within pointer array_words
+    cooperative_words class_name arrayed_name image whole manner reason refusal judged_words said shown ending line_of
+    fault_words joined next_row row_at lines_of
 worked = refl
 
 -- THE SIZES of a file's types: the same of `sizes_text`
@@ -95,12 +95,12 @@ abbrev wanted_sizes : SizeCase → Printed × List ℕ
 wanted_sizes c = left (lines c.lines) c.room
 
 sizes-worked : map given_sizes sizes ≡ map wanted_sizes sizes
-unfolding lowest all_below build sum_below digit_value line_ok byte_of answer_frames too_short most_frames read_text frame_at
-    type_of item_of row_of member_of component_of fields_fit order_ok start starts_of names_ok early_ok index_ok check_frames
-    read_file printed printed_after type_in digit_of char_of word_bytes W.word_table digits piece_bytes spelled picked named
-    scalar_words around vector brief within pointer array_words cooperative_words class_name arrayed_name image whole
-    fault_words joined size_words size_line_of sizes_of frames_of measures measure_in array_of Sz.joined parts_of
-    spanned struct_of
+unfolding lowest all_below build sum_below digit_value line_ok byte_of answer_frames too_short most_frames read_text
+    frame_at type_of item_of row_of member_of component_of fields_fit order_ok start starts_of names_ok early_ok
+    index_ok check_frames read_file printed printed_after type_in digit_of char_of word_bytes W.word_table digits
+    piece_bytes spelled picked named scalar_words around vector brief within pointer array_words cooperative_words
+    class_name arrayed_name image whole fault_words joined size_words size_line_of sizes_of frames_of measures
+    measure_in array_of Sz.joined parts_of spanned struct_of
 sizes-worked = refl
 
 -- THE RANGES of them: the same of `ranges_text`
@@ -118,11 +118,11 @@ abbrev wanted_ranges : RangeCase → Printed × List ℕ
 wanted_ranges c = left (lines c.lines) c.room
 
 ranges-worked : map given_ranges ranges ≡ map wanted_ranges ranges
-unfolding lowest all_below build sum_below digit_value line_ok byte_of answer_frames too_short most_frames read_text frame_at
-    type_of item_of row_of member_of component_of fields_fit order_ok start starts_of names_ok early_ok index_ok check_frames
-    read_file printed printed_after type_in digit_of char_of word_bytes W.word_table digits piece_bytes spelled picked named
-    scalar_words around vector brief within pointer array_words cooperative_words class_name arrayed_name image whole
-    fault_words joined size_words span_words size_line_of ranges_of frames_of array_of Sz.joined parts_of spanned
-    struct_of member_holds holding holds_pending fresh_parts fresh_struct measures_by measure_by range_in
-    faulty_span
+unfolding lowest all_below build sum_below digit_value line_ok byte_of answer_frames too_short most_frames read_text
+    frame_at type_of item_of row_of member_of component_of fields_fit order_ok start starts_of names_ok early_ok
+    index_ok check_frames read_file printed printed_after type_in digit_of char_of word_bytes W.word_table digits
+    piece_bytes spelled picked named scalar_words around vector brief within pointer array_words cooperative_words
+    class_name arrayed_name image whole fault_words joined size_words span_words size_line_of ranges_of frames_of
+    array_of Sz.joined parts_of spanned struct_of member_holds holding holds_pending fresh_parts fresh_struct
+    measures_by measure_by range_in faulty_span
 ranges-worked = refl

@@ -78,9 +78,10 @@ abbrev wanted : FileCase → Output
 wanted c = (c.answer, c.after)
 
 worked : map given file_cases ≡ map wanted file_cases
-unfolding lowest all_below build sum_below digit_value line_ok byte_of answer_frames too_short most_frames read_text frame_at
-    type_of item_of row_of member_of component_of fields_fit order_ok start starts_of names_ok early_ok index_ok check_frames
-    read_file frames_after listed type_in equal_types identical same_in same_type same_types canonical_type_in pointer_base_in
-    canonical_type pointer_base_type row_in each_part vector_parts outputs frames_bytes digit_of char_of answers_after
-    output_count row_type answers_after_row compose_verdict answers_after_verdict typed_text
+unfolding lowest all_below build sum_below digit_value line_ok byte_of answer_frames too_short most_frames read_text
+    frame_at type_of item_of row_of member_of component_of fields_fit order_ok start starts_of names_ok early_ok
+    index_ok check_frames read_file frames_after listed type_in equal_types identical same_in same_type same_types
+    canonical_type_in pointer_base_in canonical_type pointer_base_type row_in each_part vector_parts outputs
+    frames_bytes digit_of char_of answers_after output_count row_type answers_after_row compose_verdict
+    answers_after_verdict typed_text
 worked = refl

@@ -112,16 +112,16 @@ module _ (e : Example) where
   IsAsWritten = computed ≡ written
 
 worked : IsAsWritten Worked.example
-unfolding lowest all_below build sum_below digit_value digit_of line_ok byte_of char_of answer_frames too_short most_frames
-    read_text frame_at type_of item_of row_of member_of component_of fields_fit order_ok start starts_of names_ok early_ok index_ok
-    check_frames read_file type_in row_in listed equal_types identical same_in same_type each_part vector_parts outputs
-    frames_bytes same_types answers_after
+unfolding lowest all_below build sum_below digit_value digit_of line_ok byte_of char_of answer_frames too_short
+    most_frames read_text frame_at type_of item_of row_of member_of component_of fields_fit order_ok start starts_of
+    names_ok early_ok index_ok check_frames read_file type_in row_in listed equal_types identical same_in same_type
+    each_part vector_parts outputs frames_bytes same_types answers_after
 worked = refl
 
 -- and with chosen answers that no rule of ours makes
 chosen-worked : IsAsWritten Chosen.example
-unfolding lowest all_below build sum_below digit_value digit_of line_ok byte_of char_of answer_frames too_short most_frames
-    read_text frame_at type_of item_of row_of member_of component_of fields_fit order_ok start starts_of names_ok early_ok index_ok
-    check_frames read_file type_in row_in listed equal_types identical same_in same_type each_part vector_parts outputs
-    frames_bytes same_types answers_after
+unfolding lowest all_below build sum_below digit_value digit_of line_ok byte_of char_of answer_frames too_short
+    most_frames read_text frame_at type_of item_of row_of member_of component_of fields_fit order_ok start starts_of
+    names_ok early_ok index_ok check_frames read_file type_in row_in listed equal_types identical same_in same_type
+    each_part vector_parts outputs frames_bytes same_types answers_after
 chosen-worked = refl

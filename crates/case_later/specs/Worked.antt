@@ -42,7 +42,8 @@ components =
 -- row 4 is a u32, row 5 type 0, row 6 a refusal with a number of its own, row 11 type 1; the others are not asked for,
 -- as their rules come to nothing newer
 abbrev chosen_row : ℕ → List ℕ
-chosen_row m = get_or ([] ∷ [] ∷ [] ∷ [] ∷ scalar 1 4 ∷ numbered 0 ∷ refusal 99 3 ∷ [] ∷ [] ∷ [] ∷ [] ∷ numbered 1 ∷ []) m
+chosen_row m = get_or ([] ∷ [] ∷ [] ∷ [] ∷ scalar 1 4 ∷ numbered 0 ∷ refusal 99 3 ∷ [] ∷ [] ∷ [] ∷ [] ∷ numbered 1 ∷ [])
+    m
     []
 
 -- every verdict is number 30 on row 15; every two frames are the same type

@@ -28,13 +28,13 @@ abbrev given : List ℕ → ℕ → List (List ℕ)
 given file n = map (λ (a : Result Typed). bytes_of (row_frame a)) (answers (see file) (typing Pa.First) (λ m. newer) n)
 
 worked : map (λ (c : RowCase). given (file_of c) (length (wanted_answers c))) row_cases ≡ map wanted_answers row_cases
-unfolding listed type_in row_in frame_at type_of member_of item_of row_of component_of start starts_of lowest all_below build
-    sum_below
+unfolding listed type_in row_in frame_at type_of member_of item_of row_of component_of start starts_of lowest
+    all_below build sum_below
 worked = refl
 
 -- each file passes checks 4 to 6
 accepted : map (λ (c : RowCase). check_frames (file_of c)) row_cases
     ≡ map (λ (c : RowCase). Accepted (frame_count (file_of c))) row_cases
-unfolding lowest all_below build sum_below frame_at type_of item_of row_of member_of component_of fields_fit order_ok start
-    starts_of names_ok early_ok index_ok check_frames
+unfolding lowest all_below build sum_below frame_at type_of item_of row_of member_of component_of fields_fit order_ok
+    start starts_of names_ok early_ok index_ok check_frames
 accepted = refl

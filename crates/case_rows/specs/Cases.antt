@@ -180,7 +180,8 @@ items = record {
 abbrev pub specials : RowCase
 specials = record {
   before = [];
-  lines = row_line (plain_row 28 0) (refusal 20 0) ∷ row_line (plain_row 30 0) (refusal 20 0) ∷ row_line (plain_row 17 0)
+  lines = row_line (plain_row 28 0) (refusal 20 0) ∷ row_line (plain_row 30 0) (refusal 20 0)
+      ∷ row_line (plain_row 17 0)
       (refusal 20 0) ∷ [];
   after = [];
 }
@@ -238,5 +239,6 @@ cooperative_case = record {
 }
 
 abbrev pub row_cases : List RowCase
-row_cases = locals ∷ matrix ∷ pointers ∷ newer_things ∷ operators ∷ images ∷ items ∷ specials ∷ literals ∷ cooperative_case
+row_cases = locals ∷ matrix ∷ pointers ∷ newer_things ∷ operators ∷ images ∷ items ∷ specials ∷ literals
+    ∷ cooperative_case
     ∷ []

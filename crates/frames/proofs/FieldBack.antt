@@ -16,8 +16,10 @@ use Rattle.ir.proofs.Numbered.{vector_size-number, cooperative_role-number, scal
 use Rattle.ir.proofs.Numbered.{image_dimension-number, storage_format-number, literal-number, binary_operator-number}
 use Rattle.ir.proofs.Numbered.{relational_function-number, image_query-number}
 use Rattle.ir.specs.declared.AddressSpace.TheVariants as Sp
-use Rattle.ir.specs.Numbers.{vector_size_of, vector_size_number, cooperative_size_of, cooperative_size_number, scalar_kind_of}
-use Rattle.ir.specs.Numbers.{scalar_kind_number, width_of, width_number, flag_of, flag_number, access_of, access_number, spaces}
+use Rattle.ir.specs.Numbers.{vector_size_of, vector_size_number, cooperative_size_of, cooperative_size_number}
+use Rattle.ir.specs.Numbers.{scalar_kind_of}
+use Rattle.ir.specs.Numbers.{scalar_kind_number, width_of, width_number, flag_of, flag_number, access_of, access_number}
+use Rattle.ir.specs.Numbers.{spaces}
 use Rattle.ir.specs.Numbers.{space_of, space_number, space_access}
 use Rattle.frames.specs.declared.Frame.{Frame}
 use Rattle.frames.specs.Bytes.{bytes_of, byte, half, word, framed}
@@ -263,7 +265,8 @@ write_read (vector_size i) f w h k t = size_number (byte f i) h ∙ ap (byte f) 
 write_read (option_size i) f w h k t = option_size-number (byte f i) h ∙ ap (byte f) (sym (eqb-true k i t))
 write_read (cooperative_size i) f w h k t = cooperative-number (byte f i) h ∙ ap (byte f) (sym (eqb-true k i t))
 write_read (role i) f w h k t = cooperative_role-number (byte f i) (ltb-true _ 3 h) ∙ ap (byte f) (sym (eqb-true k i t))
-write_read (scalar_kind i) f w h k t = scalar_kind-number (byte f i) (ltb-true _ 6 h) ∙ ap (byte f) (sym (eqb-true k i t))
+write_read (scalar_kind i) f w h k t =
+    scalar_kind-number (byte f i) (ltb-true _ 6 h) ∙ ap (byte f) (sym (eqb-true k i t))
 write_read (dimension i) f w h k t =
     let q = both (leb 1 (byte f i)) (ltb (byte f i) 5) h in
     image_dimension-number (byte f i) (leb-true 1 _ q.0) (ltb-true _ 5 q.1) ∙ ap (byte f) (sym (eqb-true k i t))

@@ -50,7 +50,8 @@ module _ (s : List ℕ) (p : ℕ) (f : Frame) (fits : p + 16 ≤ length s) where
       let m : ℕ = i - (p + 16) in
       let e : i ≡ p + (16 + m) = omega arith in
       let g : p + 16 + m ≡ i = omega arith in
-      ap (λ (n : ℕ). get_or (placed s p f) n 0) e ∙ from-p (16 + m) ∙ get_or-append-add (bytes_of f) (drop (p + 16) s) m 0
+      ap (λ (n : ℕ). get_or (placed s p f) n 0) e ∙ from-p (16 + m)
+      ∙ get_or-append-add (bytes_of f) (drop (p + 16) s) m 0
       ∙ get_or-drop (p + 16) s m 0
       ∙ ap (λ (n : ℕ). get_or s n 0) g
 

@@ -4,7 +4,8 @@ use Prim.Native.Nat.{ℕ, ◌+◌, ◌*◌, ◌/◌, ◌%◌}
 use native.Mathlib.Omega.{arith}
 use mathlib.Core.Path.{◌≡◌, refl, ap}
 use borrow.Author.Tests.{ne_eqb}
-use Rattle.ir.proofs.Numbered.{vector_size-back, cooperative_size-back, cooperative_role-back, scalar_kind-back, width_back}
+use Rattle.ir.proofs.Numbered.{vector_size-back, cooperative_size-back, cooperative_role-back, scalar_kind-back}
+use Rattle.ir.proofs.Numbered.{width_back}
 use Rattle.ir.proofs.Numbered.{image_dimension-back, storage_format-back, flag-back, access-back, space-back}
 use Rattle.ir.specs.declared.RowNumber.{RowNumber}
 use Rattle.ir.specs.declared.VectorSize.TheVariants as Vs

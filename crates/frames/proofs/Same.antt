@@ -202,7 +202,8 @@ row_below b n = go (dec_lt b 35)
     go (yes l) = l
     go (no l) = absurd (n ((unknown-row b).1 (inr (omega arith))))
 
-row-again : (f : Frame) → Below f → Typed (row_kind_of (byte f 1)) → fits_all (row_layout (row_kind_of (byte f 1))) f ≡ true
+row-again : (f : Frame) → Below f → Typed (row_kind_of (byte f 1))
+    → fits_all (row_layout (row_kind_of (byte f 1))) f ≡ true
     → row_form_frame (byte f 0) (row_of f) ≡ f
 unfolding row_of
 row-again f w n h =
@@ -274,13 +275,15 @@ same_item f g v w e m n h q t =
 
 -- MEMBERS AND COMPONENTS
 
-member-again : (f : Frame) → Below f → fits_all member_layout f ≡ true → member_frame (byte f 0) (byte f 1) (member_of f)
+member-again : (f : Frame) → Below f → fits_all member_layout f ≡ true
+    → member_frame (byte f 0) (byte f 1) (member_of f)
     ≡ f
 unfolding member_of
 member-again f w h = layout-back member_layout tt f w h
 
 -- frames of one family and one kind that read as the same member are the same
-pub same-member : (f g : Frame) → Below f → Below g → byte f 0 ≡ byte g 0 → byte f 1 ≡ byte g 1 → fits_all member_layout f
+pub same-member : (f g : Frame) → Below f → Below g → byte f 0 ≡ byte g 0 → byte f 1 ≡ byte g 1
+    → fits_all member_layout f
     ≡ true
     → fits_all member_layout g ≡ true → member_of f ≡ member_of g → f ≡ g
 same-member f g v w e k h q t =

@@ -1,7 +1,8 @@
 -- The fields of a frame (document 01, "The file"): for each, the bytes that it takes, what it reads from them, which
 -- bytes may stand there, and the bytes that it writes. A layout is a list of fields; every byte that no field takes is
 -- zero.
-use Rattle.std.specs.Prelude.{ℕ, zero, suc, ◌+◌, ◌*◌, ◌-◌, ◌/◌, ◌%◌, Bool, true, false, cond, not, ◌&&◌, ◌||◌, List, [], ◌∷◌, ◌++◌, map, leb, ltb, eqb, get_or}
+use Rattle.std.specs.Prelude.{ℕ, zero, suc, ◌+◌, ◌*◌, ◌-◌, ◌/◌, ◌%◌, Bool, true, false, cond, not, ◌&&◌, ◌||◌, List, []}
+use Rattle.std.specs.Prelude.{◌∷◌, ◌++◌, map, leb, ltb, eqb, get_or}
 use Rattle.ir.specs.declared.TypeNumber.{TypeNumber}
 use Rattle.ir.specs.declared.Scalar.{Scalar}
 use Rattle.ir.specs.declared.ScalarKind.{ScalarKind}
@@ -24,11 +25,14 @@ use Rattle.ir.specs.declared.RelationalFunction.{RelationalFunction}
 use Rattle.ir.specs.declared.ImageQuery.{ImageQuery}
 use Rattle.ir.specs.declared.OptionBytes.{OptionBytes}
 use Rattle.ir.specs.declared.OptionBytes.TheVariants as Ob
-use Rattle.ir.specs.Numbers.{scalar_kind_of, scalar_kind_number, vector_size_of, vector_size_number, cooperative_size_of}
+use Rattle.ir.specs.Numbers.{scalar_kind_of, scalar_kind_number, vector_size_of, vector_size_number}
+use Rattle.ir.specs.Numbers.{cooperative_size_of}
 use Rattle.ir.specs.Numbers.{cooperative_size_number}
-use Rattle.ir.specs.Numbers.{cooperative_role_of, cooperative_role_number, space_of, space_number, space_access, access_of}
+use Rattle.ir.specs.Numbers.{cooperative_role_of, cooperative_role_number, space_of, space_number, space_access}
+use Rattle.ir.specs.Numbers.{access_of}
 use Rattle.ir.specs.Numbers.{access_number}
-use Rattle.ir.specs.Numbers.{image_dimension_of, image_dimension_number, storage_format_of, storage_format_number, flag_of}
+use Rattle.ir.specs.Numbers.{image_dimension_of, image_dimension_number, storage_format_of, storage_format_number}
+use Rattle.ir.specs.Numbers.{flag_of}
 use Rattle.ir.specs.Numbers.{flag_number}
 use Rattle.ir.specs.Numbers.{is_width, width_of, width_number}
 use Rattle.ir.specs.Numbers.{literal_of, literal_number, binary_operator_of, binary_operator_number}

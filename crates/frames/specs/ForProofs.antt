@@ -100,7 +100,8 @@ unfoldable pub verdict_of : Frame → Verdict
 verdict_of f =
     cond (eqb (byte f 1) 0) Vd.Passes
     (cond (eqb (byte f 1) 22) (newer_of (word f 4))
-    (get_or (Vd.ComposedType ∷ Vd.ComponentCount (word f 4) (word f 8) ∷ Vd.ComponentType (word f 4) ∷ Vd.ComponentRefused
+    (get_or (Vd.ComposedType ∷ Vd.ComponentCount (word f 4) (word f 8) ∷ Vd.ComponentType (word f 4)
+    ∷ Vd.ComponentRefused
     (word f 4) ∷ []) (byte f 1 - 30)
     Vd.ComposedType))
 

@@ -8,7 +8,8 @@ use Rattle.ir.specs.declared.TypeKind.TheVariants as Tk
 use Rattle.ir.specs.declared.TypeInner.{TypeInner}
 use Rattle.ir.specs.declared.TypeInner.TheVariants as Ti
 use Rattle.ir.specs.Numbers.{type_kind_number}
-use Rattle.answers.specs.Numbers.{Refused, Judged, at, not_there, outcome_values, refusal_values, verdict_values, SaidOne}
+use Rattle.answers.specs.Numbers.{Refused, Judged, at, not_there, outcome_values, refusal_values, verdict_values}
+use Rattle.answers.specs.Numbers.{SaidOne}
 use Rattle.answers.specs.Numbers.{asked, instead}
 use Rattle.answers.specs.declared.Answer.{Answer}
 use Rattle.answers.specs.declared.Answer.TheVariants as An

@@ -86,7 +86,8 @@ row_kind-tag Rk.CooperativeMultiplyAdd = refl
 pub of-row-kinds : {B : Type 0} (f : RowKind → B) {b : B} (ks : List ℕ) → map (λ (k : ℕ). f (row_kind_of k)) ks
     ≡ map (λ (k : ℕ). b) ks
     → (a : RowKind) → OneOf ks (tag_of RowKind'.the_type a) → b ≡ f a
-of-row-kinds f ks e a h = of-keys (λ (k : ℕ). f (row_kind_of k)) ks e (tag_of RowKind'.the_type a) h ∙ ap f (row_kind-tag a)
+of-row-kinds f ks e a h =
+    of-keys (λ (k : ℕ). f (row_kind_of k)) ks e (tag_of RowKind'.the_type a) h ∙ ap f (row_kind-tag a)
 
 type_kind-tag : (a : TypeKind) → type_kind_of (tag_of TypeKind'.the_type a) ≡ a
 type_kind-tag Tk.Unknown = refl

@@ -12,7 +12,8 @@ use lib.Dec.{eqb}
 use borrow.Author.Tests.{eqb-true}
 use lib.ListN.{length, get_or, get_or-eq_default}
 use Rattle.ir.proofs.Tables.{up_from, at_place}
-use Rattle.ir.specs.Numbers.{type_kinds, type_kind_of, type_kind_number, item_kinds, item_kind_of, row_kinds, row_kind_of}
+use Rattle.ir.specs.Numbers.{type_kinds, type_kind_of, type_kind_number, item_kinds, item_kind_of, row_kinds}
+use Rattle.ir.specs.Numbers.{row_kind_of}
 use Rattle.ir.specs.Numbers.{row_kind_number, vector_sizes, vector_size_of, vector_size_number, cooperative_roles}
 use Rattle.ir.specs.Numbers.{cooperative_role_of, cooperative_role_number, scalar_kinds, scalar_kind_of}
 use Rattle.ir.specs.Numbers.{scalar_kind_number, image_dimensions, image_dimension_of, image_dimension_number}
@@ -96,7 +97,8 @@ pub binary_operator-number : (k : ℕ) → k < 18 → binary_operator_number (bi
 binary_operator-number k h = numbered₀ binary_operator_number BinaryOperator'.Add binary_operators refl k h
 
 pub relational_function-number : (k : ℕ) → k < 4 → relational_function_number (relational_function_of k) ≡ k
-relational_function-number k h = numbered₀ relational_function_number RelationalFunction'.All relational_functions refl k h
+relational_function-number k h =
+    numbered₀ relational_function_number RelationalFunction'.All relational_functions refl k h
 
 pub image_query-number : (k : ℕ) → k < 4 → image_query_number (image_query_of k) ≡ k
 image_query-number k h = numbered₀ image_query_number ImageQuery'.Size image_queries refl k h
@@ -201,7 +203,8 @@ flag-back true = refl
 flag-back false = refl
 
 access-of : (l s a : Bool)
-    → access_of (access_number (record { load = l; store = s; atomic = a })) ≡ record { load = l; store = s; atomic = a }
+    → access_of (access_number (record { load = l; store = s; atomic = a }))
+    ≡ record { load = l; store = s; atomic = a }
 access-of true true true = refl
 access-of true true false = refl
 access-of true false true = refl
@@ -236,7 +239,8 @@ first-case num d l e z k h = go (dec_le (length l) k)
     go (yes le) = inr le
     go (no nle) = inl (sym (numbered₀ num d l e k (omega arith)) ∙ ap num h ∙ z)
 
-outside-cases : {A : Type 0} (d : A) (l : List A) → get_or l 0 d ≡ d → (k : ℕ) → (k ≡ 0) ⊎ (length l ≤ k) → get_or l k d ≡ d
+outside-cases : {A : Type 0} (d : A) (l : List A) → get_or l 0 d ≡ d → (k : ℕ) → (k ≡ 0) ⊎ (length l ≤ k)
+    → get_or l k d ≡ d
 outside-cases d l e k (inl z) = rw z e
 outside-cases d l e k (inr le) = get_or-eq_default l d {n = k} le
 

@@ -44,7 +44,8 @@ unfolding frame_at
 frame-after l f rest =
     let b = frames_bytes l ++ (bytes_of f ++ rest) in
     let n : length b ≡ 16 * length l + (16 + length rest) =
-    length-append (frames_bytes l) (bytes_of f ++ rest) ∙ omega (arith, bytes-length l, length-append (bytes_of f) rest) in
+    length-append (frames_bytes l) (bytes_of f ++ rest)
+    ∙ omega (arith, bytes-length l, length-append (bytes_of f) rest) in
     let h : length l < frame_count b = omega (arith, n) in
     rw (lt-ltb (length l) (frame_count b) h)
     (after_front (frames_bytes l) (bytes_of f ++ rest) (16 * length l) (sym (bytes-length l)) ∙ from_front f rest)

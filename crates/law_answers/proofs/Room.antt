@@ -137,7 +137,8 @@ compose-byte f t n c e = go (only-compose (row_kind_of (byte f 1)) f t n c e) (d
         cc)
 
 module _ (fr : List ℕ) where
-  pub row-compose : (f : RowForm) (r : Rule Judgement) (k : Frame) → f ≡ row_of k → of_shown (see_row fr (starts_of fr) f)
+  pub row-compose : (f : RowForm) (r : Rule Judgement) (k : Frame) → f ≡ row_of k
+      → of_shown (see_row fr (starts_of fr) f)
       ≡ some r
       → byte k 1 ≡ 5
   row-compose Ro.Unknown r k q h = never (cc)

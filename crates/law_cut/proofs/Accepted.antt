@@ -19,7 +19,8 @@ use Rattle.archive.specs.declared.Owner.TheVariants as Ow
 use Rattle.archive.specs.declared.Held.{Held}
 use Rattle.archive.specs.Starts.{starts_of, row_count}
 use Rattle.archive.specs.Names.{type_form_names, item_names, row_form_names, names_by, names_of, names_ok}
-use Rattle.archive.specs.Parts.{is_struct, is_compose, members_of, components_of, held_by, early_in, early_for, early_ok}
+use Rattle.archive.specs.Parts.{is_struct, is_compose, members_of, components_of, held_by, early_in, early_for}
+use Rattle.archive.specs.Parts.{early_ok}
 use Rattle.archive.specs.Checks.{index_ok}
 use Rattle.archive.proofs.Checked.{Holds}
 use Rattle.archive.proofs.Owners.{outside}
@@ -72,7 +73,8 @@ module _ (marks : List Bool) (fr : List ℕ) (good : Good fr)
   front-names : (b k : ℕ) (f : Frame) → b < 4 → names_by b s k f ≡ true → names_by b (starts_of gr) k f ≡ true
   front-names zero k f l h = refl
   front-names (suc zero) k f l h =
-      subst (λ (x : _). type_form_names (starts_of gr) (record { 0 = k }) x ≡ true) (form-stays m (stays marks) (type_of f))
+      subst (λ (x : _). type_form_names (starts_of gr) (record { 0 = k }) x ≡ true)
+      (form-stays m (stays marks) (type_of f))
       (type-names-moved m s (starts_of gr) in_place (record { 0 = k }) (type_of f) h)
   front-names (suc (suc zero)) k f l h = member-names-moved m s (starts_of gr) in_place (member_of f).ty h
   front-names (suc (suc (suc zero))) k f l h =
@@ -85,7 +87,8 @@ module _ (marks : List Bool) (fr : List ℕ) (good : Good fr)
   named-fr k l = and_first (names_of s k (frame_at fr k)) (early_ok fr k) (good.index k l)
 
   -- an earlier row is earlier in the cut
-  earlier-row : (r : ℕ) → is_marked marks r ≡ true → 0 < rank marks r → (i : ℕ) → i < r → cut_row marks i < cut_row marks r
+  earlier-row : (r : ℕ) → is_marked marks r ≡ true → 0 < rank marks r → (i : ℕ) → i < r
+      → cut_row marks i < cut_row marks r
   earlier-row r h z i l =
       cases (is_marked marks i)
       (λ e. rw (row-rank marks fr good i e, row-rank marks fr good r h) (rank_rises marks i r l e))
@@ -107,7 +110,8 @@ module _ (marks : List Bool) (fr : List ℕ) (good : Good fr)
       ∙ named-fr (s.rows + r) (row_within marks fr good r l) in
       names-4 (starts_of gr) (s.rows + rank marks r) (frame_at gr (s.rows + rank marks r))
       (cut-family marks fr good r l h)
-      ∙ ap (λ (x : ℕ). row_form_names (starts_of gr) (record { 0 = x }) (row_of (frame_at gr (s.rows + rank marks r)))) j
+      ∙ ap (λ (x : ℕ). row_form_names (starts_of gr) (record { 0 = x }) (row_of (frame_at gr (s.rows + rank marks r))))
+      j
       ∙ ap (row_form_names (starts_of gr) (record { 0 = cut_row marks r }))
       (ap row_of (row_is marks fr good r l h) ∙ (row_moved m (frame_at fr (s.rows + r))).is)
       ∙ row-names-moved m s (starts_of gr) in_place (record { 0 = r }) (row_of (frame_at fr (s.rows + r)))
@@ -119,7 +123,8 @@ module _ (marks : List Bool) (fr : List ℕ) (good : Good fr)
       by_place marks fr good (λ k. names_of (starts_of gr) k (frame_at gr k) ≡ true)
       (λ k l. let a = rows-within marks fr good in
       ap (names_of (starts_of gr) k) (front_at marks fr good k l)
-      ∙ front-names (byte (frame_at fr k) 0) k (frame_at fr k) (low-family (frame_at fr k) (front_low marks fr good k l))
+      ∙ front-names (byte (frame_at fr k) 0) k (frame_at fr k)
+      (low-family (frame_at fr k) (front_low marks fr good k l))
       (named-fr k (omega arith)))
       row-named
 
@@ -130,7 +135,8 @@ module _ (marks : List Bool) (fr : List ℕ) (good : Good fr)
   early-fr o k a b = all-each (λ (j : ℕ). early_for fr j k) (frame_count fr) o
       (and_second (names_ok fr k) (early_ok fr k) (good.index k b)) a
 
-  same-members : (o : ℕ) (f : Frame) → members_of (starts_of gr) (record { 0 = o }) f ≡ members_of s (record { 0 = o }) f
+  same-members : (o : ℕ) (f : Frame)
+      → members_of (starts_of gr) (record { 0 = o }) f ≡ members_of s (record { 0 = o }) f
   same-members o f = ap (λ (t : Starts). members_of t (record { 0 = o }) f) (cut-starts marks fr good)
 
   -- the members of a struct stand before the rows
@@ -196,7 +202,8 @@ module _ (marks : List Bool) (fr : List ℕ) (good : Good fr)
           rw (no-struct, four, e) (go (dec_lt k ((starts_of gr).components + word f 12)) z)
         where
           go : Dec (k < (starts_of gr).components + word f 12) → half f 4 ≡ 0
-              → early_in gr (components_of (starts_of gr) (record { 0 = s.rows + rank marks r - (starts_of gr).rows }) f) k
+              → early_in gr (components_of (starts_of gr) (record { 0 = s.rows + rank marks r - (starts_of gr).rows })
+              f) k
               ≡ true
           go (yes w) z = outside gr ((starts_of gr).components + word f 12)
               (min ((starts_of gr).components + word f 12 + half f 4) (starts_of gr).end)

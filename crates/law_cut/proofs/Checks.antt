@@ -56,7 +56,8 @@ module _ (marks : List Bool) (fr : List ℕ) (good : Good fr) where
 
   -- a frame of the cut: before the rows, or a row
   pub by_place : (P : ℕ → Type 0) → ((k : ℕ) → k < s.rows → P k)
-      → ((r : ℕ) → r < count → is_marked marks r ≡ true → P (s.rows + rank marks r)) → (k : ℕ) → k < frame_count gr → P k
+      → ((r : ℕ) → r < count → is_marked marks r ≡ true → P (s.rows + rank marks r)) → (k : ℕ) → k < frame_count gr
+      → P k
   by_place P front row k l = go (dec_lt k s.rows)
     where
       go : Dec (k < s.rows) → P k

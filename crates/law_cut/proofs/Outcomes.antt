@@ -21,7 +21,8 @@ use Rattle.frames.specs.declared.Frame.{Frame}
 use Rattle.frames.specs.Bytes.{byte, frame_count}
 use Rattle.archive.specs.Starts.{starts_of, row_count}
 use Rattle.archive.specs.Names.{is_row}
-use Rattle.rule.specs.Answers.{number, value, malformed, Typed, given, refused, chosen_refusal, row, component, composed}
+use Rattle.rule.specs.Answers.{number, value, malformed, Typed, given, refused, chosen_refusal, row, component}
+use Rattle.rule.specs.Answers.{composed}
 use Rattle.rule.specs.Answers.{nowhere, chosen, Result, told, newer, row_frame}
 use Rattle.rule.specs.Things.{see}
 use Rattle.rule_rows.specs.declared.Pass.TheVariants as Pa

@@ -96,7 +96,8 @@ said-over t k x (Field j) e h = never (cc)
 said-over t k x (Index j) e h = never (cc)
 
 frame-of : (limit : ℕ) (t : List ℕ) (f a : ℕ) (k : RowNumber) (x : Frame)
-    → row_said (row_type Pa.First limit t f a k) ≡ asked x → row_frame (row_answer Pa.First (see (text_frames t)) k.0) ≡ x
+    → row_said (row_type Pa.First limit t f a k) ≡ asked x
+    → row_frame (row_answer Pa.First (see (text_frames t)) k.0) ≡ x
 unfolding row_type
 frame-of limit t f a k x e =
     said-over t k x (read_file limit t f (Lent a)) e (λ c q. lines_are limit t f (Lent a) c q)
@@ -210,7 +211,8 @@ module _ (limit : ℕ) (t : List ℕ) (f : ℕ) (n : RowNumber) (marked : smalle
           0 = rank (part_marks limit t f n)
               k;
         }))
-        ≡ asked (moved_out (cut_moves (part_marks limit t f n)) (row_frame (row_answer Pa.First (see (text_frames t)) k)))
+        ≡ asked (moved_out (cut_moves (part_marks limit t f n))
+        (row_frame (row_answer Pa.First (see (text_frames t)) k)))
     cut-said k h =
         let l = marked-le Pa.First fr file.good n.0 there file.few k (rw marks-of at h) in
         ap row_said (cut-type k h)

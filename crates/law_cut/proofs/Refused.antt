@@ -123,7 +123,8 @@ module _ (marks : List Bool) (fr : List ℕ) (good : Good fr) where
         parts = λ n j l. refl;
       }
 
-  pub rises : (k n : ℕ) → is_marked marks k ≡ true → is_marked marks n ≡ true → k < n → cut_row marks k < cut_row marks n
+  pub rises : (k n : ℕ) → is_marked marks k ≡ true → is_marked marks n ≡ true → k < n
+      → cut_row marks k < cut_row marks n
   rises k n a b l = rw (row-rank k a, row-rank n b) (rank_rises marks k n l a)
 
 -- THE READING OF A MARKED ROW comes to marked rows only
@@ -171,7 +172,8 @@ module _ (pass : Pass) (fr : List ℕ) (good : Good fr) where
     -- EVERY MARKED ROW is answered in the cut as in the file, with rows renumbered
     pub cut-answers : (k : ℕ) → is_marked (marks_of pass fr n) k ≡ true → k < row_count (starts_of fr)
         → row_answer pass (see (cut_file (marks_of pass fr n) fr)) (cut_row (marks_of pass fr n) k)
-        ≡ result_to (cut_moves (marks_of pass fr n)) (typed_to (cut_moves (marks_of pass fr n))) (row_answer pass (see fr) k)
+        ≡ result_to (cut_moves (marks_of pass fr n)) (typed_to (cut_moves (marks_of pass fr n)))
+        (row_answer pass (see fr) k)
     cut-answers k h l =
         rows-carried pass fr good (cut_moves marks) (λ j. is_marked marks j ≡ true) (cut_file marks fr)
         (carried marks fr good) (rises marks fr good) kept-along k h l

@@ -55,7 +55,8 @@ which-each m (i ∷ l) j h =
 
 kept_set : (m : List Bool) (i k : ℕ) → is_marked m k ≡ true → is_marked (set m i true) k ≡ true
 kept_set m i k h =
-    cases (eqb k i) (λ e. rw (eqb-true k i e) (get_or-set_same m i true false (marked-in m i (rw (eqb-true k i e) at h))))
+    cases (eqb k i) (λ e. rw (eqb-true k i e)
+    (get_or-set_same m i true false (marked-in m i (rw (eqb-true k i e) at h))))
     (λ e. get_or-set_other m i k true false (eqb-false k i e) ∙ h)
 
 kept-each : (m : List Bool) (l : List ℕ) (k : ℕ) → is_marked m k ≡ true → is_marked (set_each m l) k ≡ true
@@ -67,7 +68,8 @@ set-each m [] k x h = elim x [ ]
 set-each m (i ∷ l) k first h = kept-each (set m k true) l k (get_or-set_same m k true false h)
 set-each m (i ∷ l) k (next x) h = set-each (set m i true) l k x (rw (length-set m i true) h)
 
-other-each : (m : List Bool) (l : List ℕ) (k : ℕ) → ((j : ℕ) → In j l → j < k) → is_marked (set_each m l) k ≡ is_marked m k
+other-each : (m : List Bool) (l : List ℕ) (k : ℕ) → ((j : ℕ) → In j l → j < k)
+    → is_marked (set_each m l) k ≡ is_marked m k
 other-each m [] k h = refl
 other-each m (i ∷ l) k h =
     other-each (set m i true) l k (λ j x. h j (next x))

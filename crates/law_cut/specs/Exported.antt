@@ -22,7 +22,8 @@ by_table table short enough = cond (ltb (length table) max_marks) short enough
 
 -- the number that is returned, and its frame
 unfoldable pub part_exported : ℕ → List ℕ → ℕ → RowNumber → List ℕ → Refused
-part_exported limit t f n table = by_table table (outcome_values (short_read limit t)) (part_said (smallest_part limit t f n))
+part_exported limit t f n table =
+    by_table table (outcome_values (short_read limit t)) (part_said (smallest_part limit t f n))
 
 -- the frame buffer and the table after it: with any number of the file or the row the table is all 0
 unfoldable pub frames_marked : ℕ → List ℕ → List ℕ → List ℕ → List ℕ

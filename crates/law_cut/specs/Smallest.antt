@@ -25,4 +25,5 @@ pub record Closed (pass : Pass) (fr : List ℕ) (n : ℕ) (marks : List Bool) : 
 -- the least of these: each mark of it stands in each of them
 pub record Least (pass : Pass) (fr : List ℕ) (n : ℕ) (marks : List Bool) : Type 0 where
   pub closed : Closed pass fr n marks
-  pub least : (other : List Bool) → Closed pass fr n other → (k : ℕ) → is_marked marks k ≡ true → is_marked other k ≡ true
+  pub least : (other : List Bool) → Closed pass fr n other → (k : ℕ) → is_marked marks k ≡ true
+      → is_marked other k ≡ true

@@ -39,9 +39,9 @@ use Rattle.law_equality.specs.Cases.{grouped_file, text, Grouped, forward, backw
 
 -- THE TEXT is accepted, and its frames are the file's
 accepted : read_file max_frames text 320 NotLent ≡ Accepted 20
-unfolding lowest all_below build sum_below digit_value line_ok byte_of answer_frames too_short most_frames read_text frame_at
-    type_of item_of row_of member_of component_of fields_fit order_ok start starts_of names_ok early_ok index_ok check_frames
-    read_file digit_of char_of
+unfolding lowest all_below build sum_below digit_value line_ok byte_of answer_frames too_short most_frames read_text
+    frame_at type_of item_of row_of member_of component_of fields_fit order_ok start starts_of names_ok early_ok
+    index_ok check_frames read_file digit_of char_of
 accepted = refl
 
 frames-are : decoded text 20 ≡ grouped_file
@@ -78,16 +78,16 @@ abbrev groups : (Frame → Frame → Sameness) → List Grouped → List (Option
 groups by l = map (group by (answers_of l)) (answers_of l)
 
 forward-in : groups compare_in forward ≡ firsts forward
-unfolding same_type same_in equal_types identical listed type_in frame_at type_of member_of start starts_of lowest all_below
-    build sum_below
+unfolding same_type same_in equal_types identical listed type_in frame_at type_of member_of start starts_of lowest
+    all_below build sum_below
 forward-in = refl
 
 forward-worked : groups compare forward ≡ firsts forward
 forward-worked = ap (λ (by : Frame → Frame → Sameness). groups by forward) over-frames ∙ forward-in
 
 backward-in : groups compare_in backward ≡ firsts backward
-unfolding same_type same_in equal_types identical listed type_in frame_at type_of member_of start starts_of lowest all_below
-    build sum_below
+unfolding same_type same_in equal_types identical listed type_in frame_at type_of member_of start starts_of lowest
+    all_below build sum_below
 backward-in = refl
 
 backward-worked : groups compare backward ≡ firsts backward
@@ -98,8 +98,8 @@ abbrev outcomes : (Frame → Frame → Sameness) → List Sameness
 outcomes by = map (λ (c : Pair). by c.left c.right) pairs
 
 pairs-in : outcomes compare_in ≡ map (λ (c : Pair). c.outcome) pairs
-unfolding same_type same_in equal_types identical listed type_in frame_at type_of member_of start starts_of lowest all_below
-    build sum_below
+unfolding same_type same_in equal_types identical listed type_in frame_at type_of member_of start starts_of lowest
+    all_below build sum_below
 pairs-in = refl
 
 pairs-worked : outcomes compare ≡ map (λ (c : Pair). c.outcome) pairs

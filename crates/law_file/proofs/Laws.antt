@@ -179,7 +179,8 @@ buffer-long limit t fr room l = ap (λ (o : Outcome). frames_read o t fr) ((T.lo
 pub buffer-torn : (limit : ℕ) (t fr : List ℕ) (room : AnswerRoom) (k : ℕ) → TornAt limit t k
     → frames_after limit t fr room ≡ fr
 unfolding frames_after
-buffer-torn limit t fr room k a = ap (λ (o : Outcome). frames_read o t fr) ((T.torn-when limit t (length fr) room k).1 a)
+buffer-torn limit t fr room k a =
+    ap (λ (o : Outcome). frames_read o t fr) ((T.torn-when limit t (length fr) room k).1 a)
 
 pub buffer-short : (limit : ℕ) (t fr : List ℕ) (room : AnswerRoom) → TooSmall limit t (length fr) room
     → frames_after limit t fr room ≡ fr
@@ -193,7 +194,8 @@ pub read_back : (limit : ℕ) (frames : List ℕ) (n : ℕ) → Bytes frames →
     → frames_after limit (text_of frames n) buffer NotLent ≡ frames ++ drop (16 * n) buffer
 unfolding frames_after
 read_back limit frames n bytes e l buffer h =
-    ap (λ (o : Outcome). frames_read o (text_of frames n) buffer) (read-written frames n bytes limit (length buffer) l h)
+    ap (λ (o : Outcome). frames_read o (text_of frames n) buffer)
+    (read-written frames n bytes limit (length buffer) l h)
     ∙ ap (λ (s : List ℕ). s ++ drop (16 * n) buffer) (decoded-text frames n bytes e)
 
 -- FRAMES AND WHAT THEY READ AS
@@ -212,7 +214,8 @@ module _ (limit : ℕ) (t : List ℕ) (f : ℕ) (room : AnswerRoom) (n : ℕ) (a
   unfolding at
   small = below_at (decoded t n) (decoded-bytes a.readable)
 
-  pub types-differ : (j k : ℕ) → j < n → k < n → byte (frame_at (decoded t n) j) 0 ≡ 1 → byte (frame_at (decoded t n) k) 0
+  pub types-differ : (j k : ℕ) → j < n → k < n → byte (frame_at (decoded t n) j) 0 ≡ 1
+      → byte (frame_at (decoded t n) k) 0
       ≡ 1
       → (type_kind_of (byte (frame_at (decoded t n) j) 1) ≡ Tk.Unknown → ⊥)
       → (type_kind_of (byte (frame_at (decoded t n) k) 1) ≡ Tk.Unknown → ⊥)
@@ -223,9 +226,11 @@ module _ (limit : ℕ) (t : List ℕ) (f : ℕ) (room : AnswerRoom) (n : ℕ) (a
       same-type (at j) (at k) (small j) (small k) (e ∙ sym d) u v (sym (fit-type (at j) e) ∙ fit j l)
       (sym (fit-type (at k) d) ∙ fit k m)
 
-  pub rows-differ : (j k : ℕ) → j < n → k < n → byte (frame_at (decoded t n) j) 0 ≡ 4 → byte (frame_at (decoded t n) k) 0
+  pub rows-differ : (j k : ℕ) → j < n → k < n → byte (frame_at (decoded t n) j) 0 ≡ 4
+      → byte (frame_at (decoded t n) k) 0
       ≡ 4
-      → Typed (row_kind_of (byte (frame_at (decoded t n) j) 1)) → Typed (row_kind_of (byte (frame_at (decoded t n) k) 1))
+      → Typed (row_kind_of (byte (frame_at (decoded t n) j) 1))
+      → Typed (row_kind_of (byte (frame_at (decoded t n) k) 1))
       → row_of (frame_at (decoded t n) j) ≡ row_of (frame_at (decoded t n) k) → frame_at (decoded t n) j
       ≡ frame_at (decoded t n) k
   unfolding at

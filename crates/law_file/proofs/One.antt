@@ -86,7 +86,8 @@ places-long pass fr p rest n e =
     )
 
 -- a row that is no compose
-pub no-verdict : (pass : Pass) (fr : List ℕ) (s : Starts) (row : RowNumber) (f : Frame) → s ≡ starts_of fr → is_row s row
+pub no-verdict : (pass : Pass) (fr : List ℕ) (s : Starts) (row : RowNumber) (f : Frame) → s ≡ starts_of fr
+    → is_row s row
     ≡ true
     → f ≡ frame_at fr (s.rows + row.0) → (f.b1 ≡ 5 → ⊥)
     → no_compose ≡ verdict_given pass row fr
@@ -126,7 +127,8 @@ module _ (pass : Pass) (fr an last p rest : List ℕ) (s : Starts) (ready : Read
         let e : to_result x ≡ row_answer pass (see fr) row.0 =
         ap to_result ex ∙ ap (λ (q : List ℕ). past_in last q row) t
         ∙ ap (λ (q : List ℕ). past_in q (places_of pass fr all) row) el
-        ∙ past_is (outputs pass (see fr) all) (places_of pass fr all) (answers (see fr) (typing pass) (λ m. newer) all) _
+        ∙ past_is (outputs pass (see fr) all) (places_of pass fr all) (answers (see fr) (typing pass) (λ m. newer) all)
+        _
         (placed-outputs pass fr all (good-held pass fr (good_of pass fr (length an) ready) all (omega arith))) row
         ∙ in-order-at (λ earlier m. run (see fr) (among earlier) newer (typing pass m)) (told absent) all
         row.0 below in

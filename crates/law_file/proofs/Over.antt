@@ -53,7 +53,8 @@ module _ (limit : ℕ) (t fr last : List ℕ) (room : AnswerRoom) (n : ℕ) (r :
   read = sym er ∙ accepted-of r n en
 
   text-read : read_text limit t (length fr) room ≡ Accepted n
-  text-read = (T.accepted-when limit t (length fr) room n).1 ((accepted-when limit t (length fr) room n).0 read).readable
+  text-read = (T.accepted-when limit t (length fr) room n).1
+      ((accepted-when limit t (length fr) room n).0 read).readable
 
   pub part-is : take (16 * n) last ≡ decoded t n
   unfolding frames_after
@@ -67,7 +68,8 @@ module _ (limit : ℕ) (t fr last : List ℕ) (room : AnswerRoom) (n : ℕ) (r :
   -- and of where its families begin
   pub given-over : {A : Type 0} (f : Outcome → A) (g : List ℕ → Starts → A) (s : Starts) → s
       ≡ starts_of (take (16 * n) last)
-      → g (take (16 * n) last) s ≡ over_file f (λ (x : List ℕ). g x (starts_of x)) t (read_file limit t (length fr) room)
+      → g (take (16 * n) last) s
+      ≡ over_file f (λ (x : List ℕ). g x (starts_of x)) t (read_file limit t (length fr) room)
   given-over f g s es = ap (g (take (16 * n) last)) es ∙ over-part f (λ (x : List ℕ). g x (starts_of x))
 
 -- A FUNCTION THAT READS A FILE and lends its frames on: reading gave r and left the frame buffer as `last`, and o says

@@ -145,7 +145,8 @@ module _ (b o : List ℕ) (n : ℕ) (en : n ≡ 33 * (length b / 16)) where
 
   pub lines-all : (last : List ℕ) (r : ℕ) → n ≤ length o → r ≡ min (length b / 16) (length o / 33) → last ≡ text_of b r
       ++ drop (33 * r) o
-      → (Pr.Bytes n ≡ printed (text_of b (frame_count b)) (length o)) × (last ≡ printed_after (text_of b (frame_count b)) o)
+      → (Pr.Bytes n ≡ printed (text_of b (frame_count b)) (length o))
+      × (last ≡ printed_after (text_of b (frame_count b)) o)
   lines-all last r h er el =
       let e : r ≡ frame_count b = omega (arith, er, en) in
       all-printed (text_of b (frame_count b)) o last n long h

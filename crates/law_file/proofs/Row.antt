@@ -195,7 +195,8 @@ module _ (pass : Pass) (fr an : List ℕ) (m : ℕ) (room : Room pass fr (length
     unfolding outputs
     row_done q =
         let e : outputs pass (see fr) (m + 1) ≡ outs ++ (f ∷ []) =
-        rw add-one (ap (λ (v : Option (Rule Judgement)). outs ++ (f ∷ verdict_frames m (judged pass (see fr) m v))) q) in
+        rw add-one (ap (λ (v : Option (Rule Judgement)). outs ++ (f ∷ verdict_frames m (judged pass (see fr) m v)))
+        q) in
         let n : length (outs ++ (f ∷ [])) ≡ at + 1 = length-append outs (f ∷ []) in (
           sym (ap length e ∙ n),
           row_put ∙ ap (λ (k : ℕ). frames_bytes (outs ++ (f ∷ [])) ++ drop (16 * k) an) n

@@ -66,7 +66,8 @@ module _ (limit : ℕ) (t : List ℕ) (f : ℕ) (n : TypeNumber) where
 
       there-or-not : (k : ℕ) → read_file limit t f NotLent ≡ Accepted k → (b : Bool)
           → is_type (starts_of (decoded t k)) n ≡ b
-          → cond b (Ts.Measured (measure_in (decoded t k) (starts_of (decoded t k)) n)) Ts.Index ≡ Ts.Measured m → Wanted
+          → cond b (Ts.Measured (measure_in (decoded t k) (starts_of (decoded t k)) n)) Ts.Index ≡ Ts.Measured m
+          → Wanted
       there-or-not k e true i h =
           record { frames = k; accepted = (accepted-when limit t f NotLent k).0 e; there = i; holds = cc }
       there-or-not k e false i h = never (cc)
@@ -102,7 +103,8 @@ module _ (fr : List ℕ) (good : Good fr) (least greatest : Counts) (n : TypeNum
   most : AllSpan fr least greatest → AtMost fr least greatest
   most h o l = (h o l).1
 
-  ranges-when : (a : Alignment) (y z : ℕ) → (type_range_in fr (starts_of fr) least greatest n ≡ Tr.Ranged (Ra.Spans a y z))
+  ranges-when : (a : Alignment) (y z : ℕ)
+      → (type_range_in fr (starts_of fr) least greatest n ≡ Tr.Ranged (Ra.Spans a y z))
       ↔ Ranges least greatest n a y z fr
   ranges-when a y z = (
     λ e.

@@ -19,7 +19,8 @@ use Rattle.rule_sizes.specs.declared.TypeSize.TheVariants as Ts
 use Rattle.rule_sizes.specs.Sizes.{measure_in, type_size_in, measure_said, size_said}
 use Rattle.rule_ranges.specs.declared.Range.{Range}
 use Rattle.rule_ranges.specs.declared.TypeRange.TheVariants as Tr
-use Rattle.rule_ranges.specs.Ranges.{counts_of, range_in, faulty_span, unless_span, type_range_in, range_said, type_range_said}
+use Rattle.rule_ranges.specs.Ranges.{counts_of, range_in, faulty_span, unless_span, type_range_in, range_said}
+use Rattle.rule_ranges.specs.Ranges.{type_range_said}
 use Rattle.rule_file.specs.File.{over_file, read_file}
 use Rattle.rule_file_sizes.specs.Sizes.{type_size, file_instead, size_values, type_size_said}
 use Rattle.rule_file_sizes.specs.Ranges.{tables_short, size_range, span_first, range_values, size_range_said}

@@ -114,7 +114,8 @@ module _ (limit : ℕ) (t : List ℕ) (f : ℕ) (least greatest : List ℕ) (n :
         ≡ Tr.Ranged (spans_or_huge n a y (z + stride))
     greatest-array-steps =
         again least (raised_at o greatest) refl (length-set greatest o.0 _)
-        ∙ R.greatest-array fr good o (counts_of least) (counts_of greatest) n a y z is _ (high-raised o inside) b stride g
+        ∙ R.greatest-array fr good o (counts_of least) (counts_of greatest) n a y z is _ (high-raised o inside) b stride
+        g
 
     pub least-array-steps : size_range limit t f (raised_at o least) greatest n
         ≡ cond (ltb (counts_of least o) (counts_of greatest o)) (Tr.Ranged (Spans a (y + stride) z)) (Tr.Span o.0)
@@ -125,9 +126,11 @@ module _ (limit : ℕ) (t : List ℕ) (f : ℕ) (least greatest : List ℕ) (n :
   -- A STRUCT with arrays over override o directly among its members, and no other member over it: its greatest size
   -- moves by no more than the sum of their strides, each rounded up to the struct's alignment, or there is 44; and so
   -- its least, or there is 45
-  module _ (o : ItemNumber) (l : o.0 < override_count (starts_of (text_frames t))) (first : MemberNumber) (count span : ℕ)
+  module _ (o : ItemNumber) (l : o.0 < override_count (starts_of (text_frames t))) (first : MemberNumber)
+      (count span : ℕ)
       (g : type_at (text_frames t) n ≡ Tf.Known (Ti.Struct first count span)) (strides : ℕ → ℕ)
-      (each : (i : ℕ) → i < count → Beside (text_frames t) o (struct_member (text_frames t) first i).ty (strides i)) where
+      (each : (i : ℕ) → i < count
+      → Beside (text_frames t) o (struct_member (text_frames t) first i).ty (strides i)) where
     pub greatest-struct-steps : GreatestSteps a y z (sum (λ i. round_up a (strides i)) count)
         (size_range limit t f least (raised_at o greatest) n)
     greatest-struct-steps =
@@ -139,5 +142,6 @@ module _ (limit : ℕ) (t : List ℕ) (f : ℕ) (least greatest : List ℕ) (n :
         (size_range limit t f (raised_at o least) greatest n)
     least-struct-steps =
         rw (again (raised_at o least) greatest (length-set least o.0 _) refl)
-        (R.least-struct fr good o (counts_of least) (counts_of greatest) n a y z is _ (low-raised o l) l first count span
+        (R.least-struct fr good o (counts_of least) (counts_of greatest) n a y z is _ (low-raised o l) l first count
+        span
         g strides each)

@@ -135,12 +135,14 @@ module _ (fr gr : List ℕ) (good : Good fr) (also : Good gr) (jf : Joinable fr)
       record {
         types = by-type (λ n. type_at J n ≡ Tf.Unknown → ⊥)
             (λ n here e. jf.types n here (form-back first_moves (type_at fr n)
-            (sym (type-carried first_moves (λ n. Unit {0}) fr J good (first-carried fr gr good also jf jg) n here) ∙ e)))
+            (sym (type-carried first_moves (λ n. Unit {0}) fr J good (first-carried fr gr good also jf jg) n here)
+            ∙ e)))
             (λ n here e. jg.types n here (form-back m (type_at gr n)
             (sym (type-carried m (λ n. Unit {0}) gr J also (second-carried fr gr good also jf jg) n here) ∙ e)));
         rows = by_row (λ n. see J (kind n) ≡ none → ⊥)
             (λ n here e. jf.rows n here (shows-back first_moves (kind n) (see fr (kind n))
-            (sym (row_shows first_moves (λ n. Unit {0}) fr J good (first-carried fr gr good also jf jg) n tt here) ∙ e)))
+            (sym (row_shows first_moves (λ n. Unit {0}) fr J good (first-carried fr gr good also jf jg) n tt here)
+            ∙ e)))
             (λ n here e. jg.rows n here (shows-back m (kind n) (see gr (kind n))
             (sym (row_shows m (λ n. Unit {0}) gr J also (second-carried fr gr good also jf jg) n tt here) ∙ e)));
         specials = let a = jf.specials in let b = jg.specials in rw (join-starts fr gr good also) (omega arith);

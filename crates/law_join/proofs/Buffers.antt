@@ -54,7 +54,8 @@ module _ (limit : ℕ) (t u : List ℕ) (f g : ℕ) (out : List ℕ) where
         let l = long in let e = is.frames in
         over-accepted limit t f NotLent (λ (x : Outcome). out)
         (λ (x : List ℕ). over_file (λ (x : Outcome). out)
-        (λ (y : List ℕ). by_tests limit x y out out (printed_after (join_text x y) out)) u (read_file limit u g NotLent))
+        (λ (y : List ℕ). by_tests limit x y out out (printed_after (join_text x y) out)) u
+        (read_file limit u g NotLent))
         is.able.both.first
         ∙ over-accepted limit u g NotLent (λ (x : Outcome). out)
         (λ (y : List ℕ). by_tests limit fr y out out (printed_after (join_text fr y) out)) is.able.both.second
@@ -99,7 +100,8 @@ module _ (limit : ℕ) (t u : List ℕ) (f g : ℕ) (out : List ℕ) where
     unwritten =
         by-text limit t f NotLent (λ (x : Outcome). out)
         (λ (x : List ℕ). over_file (λ (x : Outcome). out)
-        (λ (y : List ℕ). by_tests limit x y out out (printed_after (join_text x y) out)) u (read_file limit u g NotLent))
+        (λ (y : List ℕ). by_tests limit x y out out (printed_after (join_text x y) out)) u
+        (read_file limit u g NotLent))
         (λ s. s ≡ out) (λ x r. refl)
         (λ e. by-text limit u g NotLent (λ (x : Outcome). out)
         (λ (y : List ℕ). by_tests limit fr y out out (printed_after (join_text fr y) out)) (λ s. s ≡ out) (λ x r. refl)

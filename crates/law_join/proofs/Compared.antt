@@ -24,13 +24,15 @@ use Rattle.archive.specs.declared.Starts.{Starts}
 use Rattle.archive.specs.Starts.{starts_of}
 use Rattle.rule.specs.declared.Fault.{Fault}
 use Rattle.rule.specs.declared.Fault.TheVariants as Fa
-use Rattle.rule.specs.Answers.{TypeAnswer, number, malformed, valued, is_number, is_value, type_answer_of, nowhere, newer}
+use Rattle.rule.specs.Answers.{TypeAnswer, number, malformed, valued, is_number, is_value, type_answer_of, nowhere}
+use Rattle.rule.specs.Answers.{newer}
 use Rattle.rule.specs.Answers.{Compared}
 use Rattle.rule.specs.Things.{Thing, Seen, Sight, form, fault_of, see}
 use Rattle.rule.specs.Rule.{Rule, done, come, Answers, run}
 use Rattle.rule.specs.InOrder.{among}
 use Rattle.rule_types.specs.Canonical.{canonical, equal_types, identical}
-use Rattle.rule_types.specs.Comparison.{in_form, by_struct, by_identical, compare, answered, tested, right_tested, Sound}
+use Rattle.rule_types.specs.Comparison.{in_form, by_struct, by_identical, compare, answered, tested, right_tested}
+use Rattle.rule_types.specs.Comparison.{Sound}
 use Rattle.rule_types.specs.Comparison.{handed, given, same_in, same_type}
 use Rattle.law_rows.proofs.Good.{Good}
 use Rattle.law_moved.specs.Moves.{Moves, type_form_to, answer_to, result_to}
@@ -56,7 +58,8 @@ module _ (m : Moves) (f : Frame) where
       ap type_answer_of e ∙ rw (h, half_back (m.types (half f 2)))
 
   -- a value, moved
-  value-form : (g : Frame) (t : TypeForm) → (t ≡ Tf.Unknown → ⊥) → valued g (type_form_to m t) ≡ answer_to m (valued f t)
+  value-form : (g : Frame) (t : TypeForm) → (t ≡ Tf.Unknown → ⊥)
+      → valued g (type_form_to m t) ≡ answer_to m (valued f t)
   value-form g (Tf.Known t) h = refl
   value-form g Tf.Unknown h = absurd (h refl)
 
@@ -78,7 +81,8 @@ module _ (m : Moves) (f : Frame) where
       ∙ yes-fits in
       ap type_answer_of e
       ∙ ap (λ (c : Bool). cond c (number (record { 0 = half (moved_type m f) 2 }))
-      (cond (is_value (moved_type m f)) (valued (moved_type m f) (type_of (moved_type m f))) (malformed (moved_type m f)))) no
+      (cond (is_value (moved_type m f)) (valued (moved_type m f) (type_of (moved_type m f)))
+      (malformed (moved_type m f)))) no
       ∙ ap (λ (c : Bool). cond c (valued (moved_type m f) (type_of (moved_type m f))) (malformed (moved_type m f))) is
       ∙ ap (valued (moved_type m f)) moved.is ∙ value-form (moved_type m f) (type_of f) known
       ∙ ap (λ (c : Bool). answer_to m (cond c (valued f (type_of f)) (malformed f))) (sym h)
@@ -86,7 +90,8 @@ module _ (m : Moves) (f : Frame) where
       (cond (is_value f) (valued f (type_of f)) (malformed f)))) (sym n)
 
   -- A FRAME that a comparison meets with neither 5 nor 6 stands, moved, for its answer moved
-  pub answer-moved : (s : Starts) → Sound s (type_answer_of f) → type_answer_of (moved_out m f) ≡ answer_to m (type_answer_of f)
+  pub answer-moved : (s : Starts) → Sound s (type_answer_of f)
+      → type_answer_of (moved_out m f) ≡ answer_to m (type_answer_of f)
   answer-moved s sound = go (is_number f) (is_value f) refl refl sound
     where
       go : (n v : Bool) → is_number f ≡ n → is_value f ≡ v

@@ -57,5 +57,6 @@ module _ (fr : List ℕ) (good : Good fr) where
   unfolding item_of
   argument-has f e = rw e tt
 
-  pub argument-typed : (n : ℕ) → (starts_of fr).arguments ≤ n → n < (starts_of fr).locals → HasType (item_of (frame_at fr n))
+  pub argument-typed : (n : ℕ) → (starts_of fr).arguments ≤ n → n < (starts_of fr).locals
+      → HasType (item_of (frame_at fr n))
   argument-typed n a l = argument-has (frame_at fr n) (argument-kind n a l)

@@ -104,7 +104,8 @@ module _ (s t : Starts) (fs : Few s) (ft : Few t) where
     rest z e (and_second (ltb (half f 2) n) _ h),
   )
     where
-      rest : (z : ArraySize) → array_size_of (byte f 4) (word f 8) ≡ z → size_names t (array_size_of (byte f 4) (word f 8))
+      rest : (z : ArraySize) → array_size_of (byte f 4) (word f 8) ≡ z
+          → size_names t (array_size_of (byte f 4) (word f 8))
           ≡ true → AllFit (join_moves s) (size_numbers z) (moved_in m (two types 2 ∷ []) f)
       rest (As.Constant k) e h = tt
       rest (As.Pending o) e h =
@@ -123,7 +124,8 @@ module _ (s t : Starts) (fs : Few s) (ft : Few t) where
               let y : ◌≡◌ {A = ℕ} 0 1 = cc in absurd (omega arith)
       rest As.Dynamic e h = tt
 
-  pub type-fits : (k : TypeKind) (f : Frame) (n : ℕ) → n < 1024 → type_form_names t (record { 0 = n }) (type_as k f) ≡ true
+  pub type-fits : (k : TypeKind) (f : Frame) (n : ℕ) → n < 1024
+      → type_form_names t (record { 0 = n }) (type_as k f) ≡ true
       → AllFit (join_moves s) (type_numbers k f) f
   type-fits Tk.Unknown f n w h = tt
   type-fits Tk.Scalar f n w h = tt

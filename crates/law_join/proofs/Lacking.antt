@@ -282,7 +282,8 @@ module _ (pass : Pass) (sight : Sight) (n : ℕ) where
       → row_answer pass sight n ≡ told (refused (R.FunctionArgumentNotFound i))
   argument-own i q = rw (q, run) refl
 
-  pub return-own : sight (kind (record { 0 = n })) ≡ some (Row.ray_query_vertex_positions none) → row_answer pass sight n
+  pub return-own : sight (kind (record { 0 = n })) ≡ some (Row.ray_query_vertex_positions none)
+      → row_answer pass sight n
       ≡ told (refused R.MissingSpecialType)
   return-own q = rw (q, run) refl
 

@@ -100,7 +100,8 @@ module _ (fr gr : List ℕ) (good : Good fr) (also : Good gr) where
   -- THE SECOND's
 
   abbrev NamesSecond : ℕ → ℕ → Type 0
-  NamesSecond i y = names_of (starts_of J) (bound s (suc i) + bound t i + y) (moved_frame m (frame_at gr (bound t i + y)))
+  NamesSecond i y = names_of (starts_of J) (bound s (suc i) + bound t i + y)
+      (moved_frame m (frame_at gr (bound t i + y)))
       ≡ true
 
   second-item-names : (i y : ℕ) → 2 ≤ i → i < 10 → i < 12 → y < bound t (suc i) - bound t i → NamesSecond i y

@@ -65,7 +65,8 @@ pub frames-lines : (t : List ℕ) → frame_count (text_frames t) ≡ line_count
 frames-lines t = count-decoded t (line_count t)
 
 -- and 33 bytes for each
-pub joined_length : (t u : List ℕ) → length (join_text (text_frames t) (text_frames u)) ≡ 33 * (line_count t + line_count u)
+pub joined_length : (t u : List ℕ)
+    → length (join_text (text_frames t) (text_frames u)) ≡ 33 * (line_count t + line_count u)
 joined_length t u =
     let J = join_file (text_frames t) (text_frames u) in
     let a = length-text J (frame_count J) in let b = joined-count (text_frames t) (text_frames u) in

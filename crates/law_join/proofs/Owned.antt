@@ -63,7 +63,8 @@ module _ (fr gr : List ℕ) (good : Good fr) (also : Good gr) (jf : Joinable fr)
 
   module _ (k : ℕ) where
     abbrev EarlyFirst : ℕ → ℕ → Type 0
-    EarlyFirst i y = early_in J (held_by (starts_of J) (bound s i + bound t i + y) (frame_at fr (bound s i + y))) k ≡ true
+    EarlyFirst i y = early_in J (held_by (starts_of J) (bound s i + bound t i + y) (frame_at fr (bound s i + y))) k
+        ≡ true
 
     first-item-early : (i y : ℕ) → 2 ≤ i → i < 10 → i < 12 → y < bound s (suc i) - bound s i → EarlyFirst i y
     first-item-early i y a b l w =

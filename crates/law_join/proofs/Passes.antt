@@ -104,28 +104,28 @@ parted = indexed 10 0 0 ++ marked 1 0 1 ++ marked 1 0 6 ++ binary 0 1 0 ++ binar
 
 -- it is accepted
 pub parted-accepted : check_frames parted ≡ Accepted 6
-unfolding lowest all_below build sum_below frame_at type_of item_of row_of member_of component_of fields_fit order_ok start
-    starts_of names_ok early_ok index_ok check_frames
+unfolding lowest all_below build sum_below frame_at type_of item_of row_of member_of component_of fields_fit order_ok
+    start starts_of names_ok early_ok index_ok check_frames
 parted-accepted = refl
 
 -- row 3 is 19 in the second pass, and has a type in the first
 pub second-alone : Refuses Pa.Second parted 3 (R.FunctionArgumentNotFound 0)
-unfolding listed type_in row_in frame_at type_of member_of item_of row_of component_of start starts_of lowest all_below build
-    sum_below
+unfolding listed type_in row_in frame_at type_of member_of item_of row_of component_of start starts_of lowest
+    all_below build sum_below
 second-alone = refl
 
 pub second-not-first : Refuses Pa.First parted 3 (R.FunctionArgumentNotFound 0) → ⊥
-unfolding listed type_in row_in frame_at type_of member_of item_of row_of component_of start starts_of lowest all_below build
-    sum_below
+unfolding listed type_in row_in frame_at type_of member_of item_of row_of component_of start starts_of lowest
+    all_below build sum_below
 second-not-first e = let z : ◌≡◌ {A = ℕ} 0 1 = cc in omega arith
 
 -- row 5 is 19 in the first pass, and 41 in the second
 pub first_alone : Refuses Pa.First parted 5 (R.FunctionArgumentNotFound 0)
-unfolding listed type_in row_in frame_at type_of member_of item_of row_of component_of start starts_of lowest all_below build
-    sum_below
+unfolding listed type_in row_in frame_at type_of member_of item_of row_of component_of start starts_of lowest
+    all_below build sum_below
 first_alone = refl
 
 pub first-not-second : Refuses Pa.Second parted 5 R.Mismatch
-unfolding listed type_in row_in frame_at type_of member_of item_of row_of component_of start starts_of lowest all_below build
-    sum_below
+unfolding listed type_in row_in frame_at type_of member_of item_of row_of component_of start starts_of lowest
+    all_below build sum_below
 first-not-second = refl

@@ -13,7 +13,8 @@ use Rattle.frames.specs.Bytes.{byte, frame_at, frame_count}
 use Rattle.frames.specs.Forms.{type_of, member_of, item_of, row_of, component_of}
 use Rattle.archive.specs.declared.Starts.{Starts}
 use Rattle.archive.specs.Starts.{starts_of, row_count}
-use Rattle.archive.specs.Names.{is_type, is_row, type_form_names, item_names, row_form_names, names_by, names_of, names_ok}
+use Rattle.archive.specs.Names.{is_type, is_row, type_form_names, item_names, row_form_names, names_by, names_of}
+use Rattle.archive.specs.Names.{names_ok}
 use Rattle.archive.specs.Parts.{early_ok}
 use Rattle.archive.specs.Checks.{index_ok}
 use Rattle.law_rows.proofs.Good.{Good}
@@ -29,7 +30,8 @@ module _ (mm : Moves) (x J : List ℕ) (good : Good x) (in_place : InPlace mm (s
   unfolding index_ok names_ok
   named-one k l = and_first (names_of (starts_of x) k (frame_at x k)) (early_ok x k) (good.index k l)
 
-  named_by : (b k : ℕ) → k < frame_count x → byte (frame_at x k) 0 ≡ b → names_by b (starts_of x) k (frame_at x k) ≡ true
+  named_by : (b k : ℕ) → k < frame_count x → byte (frame_at x k) 0 ≡ b
+      → names_by b (starts_of x) k (frame_at x k) ≡ true
   named_by b k l e = ap (λ (z : ℕ). names_by z (starts_of x) k (frame_at x k)) (sym e) ∙ named-one k l
 
   pub type-names : (n k : ℕ) (g : Frame) → n < frame_count x → byte (frame_at x n) 0 ≡ 1 → byte g 0 ≡ 1 → type_of g
@@ -64,7 +66,8 @@ module _ (mm : Moves) (x J : List ℕ) (good : Good x) (in_place : InPlace mm (s
       (row_form_to mm (row_of (frame_at x ((starts_of x).rows + n))))) q
       ∙ row-names-moved mm (starts_of x) (starts_of J) in_place (record { 0 = n })
       (row_of (frame_at x ((starts_of x).rows + n))) (λ w r z. rises r n z)
-      (ap (λ (z : ℕ). row_form_names (starts_of x) (record { 0 = z }) (row_of (frame_at x ((starts_of x).rows + n)))) (sym i)
+      (ap (λ (z : ℕ). row_form_names (starts_of x) (record { 0 = z }) (row_of (frame_at x ((starts_of x).rows + n))))
+      (sym i)
       ∙ named_by 4 ((starts_of x).rows + n) l a)
 
   pub component-names : (row_in : (n : ℕ) → n < row_count (starts_of x) → mm.rows n < row_count (starts_of J))

@@ -78,7 +78,8 @@ module _ (limit : ℕ) (t u : List ℕ) (f g o k : ℕ) (joins : join_files limi
 
   -- and read back as the join
   pub join-lines : line_count (join_text (text_frames t) (text_frames u)) ≡ k
-  join-lines = let n = join-frames in let c = count-text (join_file fr gr) (frame_count (join_file fr gr)) in omega arith
+  join-lines = let n = join-frames in let c = count-text (join_file fr gr) (frame_count (join_file fr gr)) in
+      omega arith
 
   pub join-decoded : text_frames (join_text (text_frames t) (text_frames u)) ≡ join_file (text_frames t) (text_frames u)
   join-decoded =
@@ -152,7 +153,8 @@ module _ (limit : ℕ) (t u : List ℕ) (f g o k : ℕ) (joins : join_files limi
         let alone : read_file limit t max_frame_bytes (Lent max_answer_bytes) ≡ Accepted (line_count t) =
         with-buffers limit t f (line_count t) max_frame_bytes max_answer_bytes is-joined.able.both.first (omega arith)
         (omega arith) in
-        let first : over_file outcome_text (output_text pass) t (read_file limit t max_frame_bytes (Lent max_answer_bytes))
+        let first : over_file outcome_text (output_text pass) t
+        (read_file limit t max_frame_bytes (Lent max_answer_bytes))
         ≡ text_of (frames_bytes one) (length one) =
         over-accepted limit t max_frame_bytes (Lent max_answer_bytes) outcome_text (output_text pass) alone
         ∙ ap (text_of (frames_bytes one)) (file-count one) in

@@ -20,7 +20,8 @@ use Rattle.rule.specs.Things.{see}
 use Rattle.rule_rows.specs.declared.Pass.{Pass}
 use Rattle.rule_compose.specs.Rows.{verdict_of}
 use Rattle.rule_answers.specs.Outputs.{row_answer}
-use Rattle.rule_file.specs.Typing.{RowGiven, row_given, row_type, row_said, VerdictGiven, verdict_given, compose_verdict}
+use Rattle.rule_file.specs.Typing.{RowGiven, row_given, row_type, row_said, VerdictGiven, verdict_given}
+use Rattle.rule_file.specs.Typing.{compose_verdict}
 use Rattle.rule_file.specs.Typing.{verdict_said}
 use Rattle.law_rows.proofs.Good.{Good}
 use Rattle.law_verdicts.proofs.Numbers.{verdict-numbers}
@@ -91,7 +92,8 @@ module _ (pass : Pass) (limit : ℕ) (t : List ℕ) (f a : ℕ) (n : RowNumber) 
       (λ d. go (is_row (starts_of (text_frames t)) n) refl (verdict_of pass (see (text_frames t)) n.0) refl)
     where
       go : (b : Bool) → is_row (starts_of (text_frames t)) n ≡ b → (v : Option (Result Judgement))
-          → verdict_of pass (see (text_frames t)) n.0 ≡ v → verdict_given pass n (text_frames t) ≡ VerdictGiven.no_compose
+          → verdict_of pass (see (text_frames t)) n.0 ≡ v
+          → verdict_given pass n (text_frames t) ≡ VerdictGiven.no_compose
           → NoVerdict
       go true q (some j) d e = never (cc (rw (q, d) at e))
       go true q none d e = record { below = ltb-true _ _ q; is = d }

@@ -109,7 +109,8 @@ module _ (limit : ℕ) (t u : List ℕ) (f g o k : ℕ) (joins : join_files limi
 
   -- a type of the second, and its place, moved
   pub second-size : type_size limit u whole n ≡ Ts.Measured x
-      → type_size limit (join_text (text_frames t) (text_frames u)) b (type_to (join_moves (starts_of (text_frames t))) n)
+      → type_size limit (join_text (text_frames t) (text_frames u)) b
+      (type_to (join_moves (starts_of (text_frames t))) n)
       ≡ Ts.Measured (measure_to (join_moves (starts_of (text_frames t))) x)
   second-size e =
       let a = alone limit u whole n x e in

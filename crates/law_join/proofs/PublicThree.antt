@@ -25,7 +25,8 @@ join_of t u = join_text (text_frames t) (text_frames u)
 
 -- A JOIN THAT IS MADE is accepted, with any frame buffer of 16 bytes a frame, and may be joined
 module _ (limit : ℕ) (t u : List ℕ) (f g o k : ℕ) (joins : join_files limit t u f g o ≡ Jf.Frames k) where
-  pub joined-accepted : (b : ℕ) → 16 * k ≤ b → read_file limit (join_of t u) b NotLent ≡ Accepted (line_count (join_of t u))
+  pub joined-accepted : (b : ℕ) → 16 * k ≤ b
+      → read_file limit (join_of t u) b NotLent ≡ Accepted (line_count (join_of t u))
   joined-accepted b room =
       join-accepted limit t u f g o k joins b room ∙ ap Accepted (sym (join-lines limit t u f g o k joins))
 
@@ -85,7 +86,8 @@ module _ (limit : ℕ) (t u v : List ℕ) where
                       (line_count u + line_count v) two b frames;
                 };
                 first = a.able.first;
-                second = joined-joinable limit u v g i (33 * (line_count u + line_count v)) (line_count u + line_count v)
+                second = joined-joinable limit u v g i (33 * (line_count u + line_count v))
+                    (line_count u + line_count v)
                     two;
               };
           within = omega arith;

@@ -96,7 +96,8 @@ module _ (limit : ℕ) (t u : List ℕ) (f g o k : ℕ) (joins : join_files limi
 
   -- two frames of the second, moved
   pub second-types : same_types limit u whole l r ≡ x
-      → same_types limit (join_text (text_frames t) (text_frames u)) b (moved_out (join_moves (starts_of (text_frames t))) l)
+      → same_types limit (join_text (text_frames t) (text_frames u)) b
+      (moved_out (join_moves (starts_of (text_frames t))) l)
       (moved_out (join_moves (starts_of (text_frames t))) r)
       ≡ x
   second-types e =

@@ -53,7 +53,8 @@ module _ (a b : ℕ → Frame) (p q : ℕ → ℕ) (p0 : p 0 ≡ 0) (q0 : q 0 �
       ∙ (let x = part_length n in let y = regrouped-length n in let u = rise-p n in let v = rise-q n in omega arith)
 
   -- a frame of a part, in the last part and before it
-  last_one : (n x : ℕ) → x < p (suc n) - p n → get_or (regrouped a b p q (suc n)) (p n + q n + x) zero_frame ≡ a (p n + x)
+  last_one : (n x : ℕ) → x < p (suc n) - p n
+      → get_or (regrouped a b p q (suc n)) (p n + q n + x) zero_frame ≡ a (p n + x)
   last_one n x l =
       let y = regrouped-length n in
       let z = one-length n in
@@ -75,7 +76,8 @@ module _ (a b : ℕ → Frame) (p q : ℕ → ℕ) (p0 : p 0 ≡ 0) (q0 : q 0 �
       ∙ ap (λ (k : ℕ). get_or (regrouped a b p q n ++ part a b p q n) k zero_frame) e
       ∙ get_or-append-add (regrouped a b p q n) (part a b p q n) ((p (suc n) - p n) + x) zero_frame
       ∙ ap (λ (k : ℕ). get_or (part a b p q n) k zero_frame) f
-      ∙ get_or-append-add (one n) (two n) x zero_frame ∙ listed_at (λ (k : ℕ). b (q n + k)) zero_frame (q (suc n) - q n) x l
+      ∙ get_or-append-add (one n) (two n) x zero_frame
+      ∙ listed_at (λ (k : ℕ). b (q n + k)) zero_frame (q (suc n) - q n) x l
 
   -- a frame among the first n parts stays where it is
   stays : (n k : ℕ) → k < p n + q n → get_or (regrouped a b p q (suc n)) k zero_frame
@@ -96,7 +98,8 @@ module _ (a b : ℕ → Frame) (p q : ℕ → ℕ) (p0 : p 0 ≡ 0) (q0 : q 0 �
       let d = rises-far q rise-q (suc i) n v in
       stays n (p i + q i + x) (omega arith) ∙ first-at n i x v w) (eq-or-lt_of_le (le_of_suc-le-suc l))
 
-  pub second_at : (n i x : ℕ) → i < n → x < q (suc i) - q i → get_or (regrouped a b p q n) (p (suc i) + q i + x) zero_frame
+  pub second_at : (n i x : ℕ) → i < n → x < q (suc i) - q i
+      → get_or (regrouped a b p q n) (p (suc i) + q i + x) zero_frame
       ≡ b (q i + x)
   second_at zero i x l w = absurd (omega arith)
   second_at (suc n) i x l w =

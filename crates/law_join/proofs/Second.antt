@@ -130,7 +130,8 @@ module _ (fr gr : List ℕ) (good : Good fr) (also : Good gr) where
           (omega arith) in
           rw (h, g) refl
 
-  pub second-carried : Joinable fr → Joinable gr → Carries (join_moves (starts_of fr)) (λ n. Unit {0}) gr (join_file fr gr)
+  pub second-carried : Joinable fr → Joinable gr
+      → Carries (join_moves (starts_of fr)) (λ n. Unit {0}) gr (join_file fr gr)
   second-carried jf jg =
       let o = starts-ordered fr in
       let p = starts-ordered gr in

@@ -108,11 +108,13 @@ module _ (fr gr : List ℕ) (good : Good fr) (also : Good gr) (jf : Joinable fr)
   component-fit f h = (own-row-fit s t (few-of fr few) (few-of gr fewer) (half f 2) h, tt)
 
   -- by the family of a frame of the second
-  frame-fits : (k : ℕ) → k < frame_count gr → (b : ℕ) → byte (frame_at gr k) 0 ≡ b → names_by b t k (frame_at gr k) ≡ true
+  frame-fits : (k : ℕ) → k < frame_count gr → (b : ℕ) → byte (frame_at gr k) 0 ≡ b
+      → names_by b t k (frame_at gr k) ≡ true
       → AllFit (join_moves s) (numbers_by b (frame_at gr k)) (frame_at gr k)
   unfolding type_of item_of row_of
   frame-fits k l zero e h = tt
-  frame-fits k l (suc zero) e h = type-fits s t (few-of fr few) (few-of gr fewer) (type_kind_of (byte (frame_at gr k) 1))
+  frame-fits k l (suc zero) e h =
+      type-fits s t (few-of fr few) (few-of gr fewer) (type_kind_of (byte (frame_at gr k) 1))
       (frame_at gr k) k (omega arith) h
   frame-fits k l (suc (suc zero)) e h = member-fit (frame_at gr k) h
   frame-fits k l (suc (suc (suc zero))) e h = item-fits s t (few-of fr few) (few-of gr fewer)

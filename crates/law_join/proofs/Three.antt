@@ -160,7 +160,8 @@ module _ (a b c : List ℕ) (ga : Good a) (gb : Good b) (gc : Good c) where
             ∙ sym (second-place (x - (p (suc i) - p i)) (omega arith)) ∙ ap (frame_at R) f
 
     last-place : (x : ℕ) → x < r (suc i) - r i
-        → moved_frame (join_moves (starts_of (join_file a b))) (frame_at c (r i + x)) ≡ frame_at R (pq (suc i) + r i + x)
+        → moved_frame (join_moves (starts_of (join_file a b))) (frame_at c (r i + x))
+        ≡ frame_at R (pq (suc i) + r i + x)
     last-place x w =
         let e2 = pq-next in
         let e : p (suc i) + (q (suc i) + r i) + x ≡ pq (suc i) + r i + x = omega arith in
@@ -182,6 +183,7 @@ module _ (a b c : List ℕ) (ga : Good a) (gb : Good b) (gc : Good c) where
   pub join-three : join_file (join_file a b) c ≡ join_file a (join_file b c)
   join-three =
       let s = same_count in let w = file-count (join_frames (join_file a b) c) in
-      ap frames_bytes (ext_get_or zero_frame (join_frames (join_file a b) c) (join_frames a (join_file b c)) same_count (λ i h.
+      ap frames_bytes (ext_get_or zero_frame (join_frames (join_file a b) c) (join_frames a (join_file b c)) same_count
+      (λ i h.
       sym (file-at (join_frames (join_file a b) c) i h) ∙ same-frame i (omega arith)
       ∙ file-at (join_frames a (join_file b c)) i (omega arith)))

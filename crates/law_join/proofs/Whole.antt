@@ -160,6 +160,7 @@ module _ (fr : List ℕ) where
   -- what a row shows is what its frame reads as
   pub shows-frame : (n : RowNumber) → is_row (starts_of fr) n ≡ true → see fr (kind n)
       ≡ see_row fr (starts_of fr)
-      (row_as (row_kind_of (byte (frame_at fr ((starts_of fr).rows + n.0)) 1)) (frame_at fr ((starts_of fr).rows + n.0)))
+      (row_as (row_kind_of (byte (frame_at fr ((starts_of fr).rows + n.0)) 1))
+      (frame_at fr ((starts_of fr).rows + n.0)))
   unfolding row_in row_of
   shows-frame n here = rw here

@@ -48,16 +48,17 @@ archived = text_of (short 1 1 0 0 2 4 0 0 ++ short 1 1 0 0 0 4 0 0 ++ short 1 2 
 -- the join is made, also where the limit and the three buffers are just enough
 pub joins : join_files 1024 calm windy 48 80 264 ∷ join_files 8 calm windy 48 80 264 ∷ []
     ≡ Jf.Frames 8 ∷ Jf.Frames 8 ∷ []
-unfolding lowest all_below build sum_below digit_value digit_of line_ok byte_of char_of too_short most_frames read_text frame_at
-    type_of item_of row_of member_of component_of fields_fit order_ok start starts_of names_ok early_ok index_ok check_frames
-    read_file listed frames_bytes moved_frame regrouped joinable printed join_files
+unfolding lowest all_below build sum_below digit_value digit_of line_ok byte_of char_of too_short most_frames
+    read_text frame_at type_of item_of row_of member_of component_of fields_fit order_ok start starts_of names_ok
+    early_ok index_ok check_frames read_file listed frames_bytes moved_frame regrouped joinable printed join_files
 joins = refl
 
 -- its lines
 pub lines : joined_after 1024 calm windy 48 80 (replicate 264 0 ++ 7 ∷ []) ≡ archived ++ 7 ∷ []
-unfolding lowest all_below build sum_below digit_value digit_of line_ok byte_of char_of too_short most_frames read_text frame_at
-    type_of item_of row_of member_of component_of fields_fit order_ok start starts_of names_ok early_ok index_ok check_frames
-    read_file listed frames_bytes moved_frame regrouped joinable printed_after joined_after
+unfolding lowest all_below build sum_below digit_value digit_of line_ok byte_of char_of too_short most_frames
+    read_text frame_at type_of item_of row_of member_of component_of fields_fit order_ok start starts_of names_ok
+    early_ok index_ok check_frames read_file listed frames_bytes moved_frame regrouped joinable printed_after
+    joined_after
 lines = refl
 
 -- its answers, in both passes: a type of the first; a type of the second, past the first's, and a refusal that names
@@ -68,20 +69,21 @@ handed_back = numbered 0 ++ numbered 2 ++ bound 1 5
 pub answers : answers_after Pa.First 1024 archived 128 (replicate 48 0)
     ∷ answers_after Pa.Second 1024 archived 128 (replicate 48 0) ∷ []
     ≡ handed_back ∷ handed_back ∷ []
-unfolding lowest all_below build sum_below digit_value digit_of line_ok byte_of char_of answer_frames too_short most_frames
-    read_text frame_at type_of item_of row_of member_of component_of fields_fit order_ok start starts_of names_ok early_ok index_ok
-    check_frames read_file listed type_in row_in outputs frames_bytes answers_after
+unfolding lowest all_below build sum_below digit_value digit_of line_ok byte_of char_of answer_frames too_short
+    most_frames read_text frame_at type_of item_of row_of member_of component_of fields_fit order_ok start starts_of
+    names_ok early_ok index_ok check_frames read_file listed type_in row_in outputs frames_bytes answers_after
 answers = refl
 
 -- THE NUMBERS
 
 -- 1, with the limit as place, before 3; then 3
-pub too_many : join_files 7 calm windy 48 80 264 ∷ join_files 7 calm windy 48 80 0 ∷ join_files 1024 calm windy 48 80 263
+pub too_many : join_files 7 calm windy 48 80 264 ∷ join_files 7 calm windy 48 80 0
+    ∷ join_files 1024 calm windy 48 80 263
     ∷ []
     ≡ Jf.Long 7 ∷ Jf.Long 7 ∷ Jf.Short ∷ []
-unfolding lowest all_below build sum_below digit_value digit_of line_ok byte_of char_of too_short most_frames read_text frame_at
-    type_of item_of row_of member_of component_of fields_fit order_ok start starts_of names_ok early_ok index_ok check_frames
-    read_file listed frames_bytes moved_frame regrouped joinable printed join_files
+unfolding lowest all_below build sum_below digit_value digit_of line_ok byte_of char_of too_short most_frames
+    read_text frame_at type_of item_of row_of member_of component_of fields_fit order_ok start starts_of names_ok
+    early_ok index_ok check_frames read_file listed frames_bytes moved_frame regrouped joinable printed join_files
 too_many = refl
 
 -- 49: a type of unknown kind, a row of unknown kind, a Math row, the item of either special type, a row answered 19,
@@ -97,16 +99,16 @@ unfit =
 pub not-joinable : map (λ (x : List ℕ). join_files 1024 calm x 48 32 264) unfit
     ++ map (λ (x : List ℕ). join_files 3 x calm 32 48 0) unfit
     ≡ replicate 16 Jf.NotJoinable
-unfolding lowest all_below build sum_below digit_value digit_of line_ok byte_of char_of too_short most_frames read_text frame_at
-    type_of item_of row_of member_of component_of fields_fit order_ok start starts_of names_ok early_ok index_ok check_frames
-    read_file listed frames_bytes moved_frame regrouped joinable printed join_files
+unfolding lowest all_below build sum_below digit_value digit_of line_ok byte_of char_of too_short most_frames
+    read_text frame_at type_of item_of row_of member_of component_of fields_fit order_ok start starts_of names_ok
+    early_ok index_ok check_frames read_file listed frames_bytes moved_frame regrouped joinable printed join_files
 not-joinable = refl
 
 -- the first's own number comes first, then the second's, before 49
 pub own-numbers : join_files 1024 (text_of (short 1 1 0 0 9 4 0 0) 1) (0 ∷ []) 16 16 0 ∷ join_files 1024
     (text_of (plain_row 22 0) 1) (0 ∷ []) 16 16 0 ∷ []
     ≡ Jf.First (O.Field 0) ∷ Jf.Second (O.Torn 0) ∷ []
-unfolding lowest all_below build sum_below digit_value digit_of line_ok byte_of char_of too_short most_frames read_text frame_at
-    type_of item_of row_of member_of component_of fields_fit order_ok start starts_of names_ok early_ok index_ok check_frames
-    read_file listed frames_bytes moved_frame regrouped joinable printed join_files
+unfolding lowest all_below build sum_below digit_value digit_of line_ok byte_of char_of too_short most_frames
+    read_text frame_at type_of item_of row_of member_of component_of fields_fit order_ok start starts_of names_ok
+    early_ok index_ok check_frames read_file listed frames_bytes moved_frame regrouped joinable printed join_files
 own-numbers = refl

@@ -40,7 +40,8 @@ module _ {pass : Pass} {r : Reader} {t fr : List ℕ} {choice : Choice} (k : Kee
       → r.row t m ≡ row_bytes (theirs pass fr choice m (row_answer_of (choice.rows m)) (typing pass m))
   row_kept m h s = kept-equal (k.rows m h) s
 
-  pub verdict-kept : (m : ℕ) → m < row_count (starts_of fr) → (rule : Rule Judgement) → verdict_rule (see fr) m ≡ some rule
+  pub verdict-kept : (m : ℕ) → m < row_count (starts_of fr) → (rule : Rule Judgement)
+      → verdict_rule (see fr) m ≡ some rule
       → (SaysNewer 11 (r.verdict t m) → ⊥)
       → r.verdict t m ≡ verdict_bytes m (theirs pass fr choice m (chosen_judgement (choice.verdicts m)) rule)
   verdict-kept m h rule e s = kept-equal (k.verdicts m h rule e) s

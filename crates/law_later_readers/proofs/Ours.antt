@@ -178,7 +178,8 @@ at-seam front x back rest i e =
     ∙ get_or-append_seam front x back zero_frame)
 
 module _ (pass : Pass) (fr : List ℕ) (good : Good fr) (rest : List ℕ) (m : ℕ) (h : m < row_count (starts_of fr)) where
-  answer-stands : frame_at (output_bytes pass fr ++ rest) (m + composes_below fr m) ≡ row_frame (row_answer pass (see fr) m)
+  answer-stands : frame_at (output_bytes pass fr ++ rest) (m + composes_below fr m)
+      ≡ row_frame (row_answer pass (see fr) m)
   unfolding outputs
   answer-stands =
       let g = outputs-go-on pass (see fr) (suc m) (row_count (starts_of fr)) h in
@@ -246,7 +247,8 @@ module _ (pass : Pass) (limit : ℕ) (t : List ℕ) (n f : ℕ) (an : List ℕ) 
   buffer-is = rw read-lent
 
   row-given : (m : ℕ) → m < row_count (starts_of fr)
-      → row_given_bytes (row_type pass limit t f (length an) (record { 0 = m })) ≡ row_bytes (row_answer pass (see fr) m)
+      → row_given_bytes (row_type pass limit t f (length an) (record { 0 = m }))
+      ≡ row_bytes (row_answer pass (see fr) m)
   unfolding row_type
   row-given m h = rw (read-lent, row-there fr m h)
 

@@ -42,9 +42,9 @@ fr = decoded three_rows 3
 
 -- WHAT THE TEXT IS, computed
 at_most : IsAccepted max_frames three_rows 3
-unfolding most_frames lowest all_below build sum_below digit_value digit_of line_ok byte_of char_of answer_frames too_short
-    read_text frame_at type_of item_of row_of member_of component_of fields_fit order_ok start starts_of names_ok early_ok index_ok
-    check_frames read_file
+unfolding most_frames lowest all_below build sum_below digit_value digit_of line_ok byte_of char_of answer_frames
+    too_short read_text frame_at type_of item_of row_of member_of component_of fields_fit order_ok start starts_of
+    names_ok early_ok index_ok check_frames read_file
 at_most = refl
 
 long : length three_rows ≡ 99
@@ -108,6 +108,7 @@ module _ (pass : Pass) (limit : ℕ) (few : 3 ≤ most_frames limit) (r : Reader
   pub not-at-itself : Claim pass limit (newer_at_itself r) → ⊥
   not-at-itself c = go (is_newer (r.row three_rows 2)) refl (third-is limit few c)
     where
-      go : (b : Bool) → is_newer (r.row three_rows 2) ≡ b → cond b (newer_at_row 2) (r.row three_rows 2) ≡ newer_at_row 0 → ⊥
+      go : (b : Bool) → is_newer (r.row three_rows 2) ≡ b
+          → cond b (newer_at_row 2) (r.row three_rows 2) ≡ newer_at_row 0 → ⊥
       go true q e = let z : ◌≡◌ {A = ℕ} 2 0 = ap (λ (l : List ℕ). get_or l 2 0) e in omega arith
       go false q e = never (cc)

@@ -10,7 +10,8 @@ use Rattle.frames.specs.Out.{one_frame}
 use Rattle.rule_rows.specs.declared.Pass.{Pass}
 use Rattle.law_verdicts.specs.Each.{composes_below}
 use Rattle.rule_file.specs.Types.{same_types}
-use Rattle.rule_file.specs.Typing.{answers_after, RowGiven, row_type, row_said, VerdictGiven, compose_verdict, verdict_said}
+use Rattle.rule_file.specs.Typing.{answers_after, RowGiven, row_type, row_said, VerdictGiven, compose_verdict}
+use Rattle.rule_file.specs.Typing.{verdict_said}
 use Rattle.law_later_readers.specs.Reader.{Reader, said_bytes}
 
 -- the buffers suffice for every text ("Numbers handed back": 16 bytes a frame, and 16 a row with 16 more a compose)
@@ -37,7 +38,8 @@ abbrev pub by_buffer : Pass → ℕ → (frames answers : List ℕ → List ℕ)
 by_buffer pass limit frames answers =
     record {
       row = λ t m. bytes_of (frame_at (answers_after pass limit t (length (frames t)) (answers t)) (stands_at t m));
-      verdict = λ t m. bytes_of (frame_at (answers_after pass limit t (length (frames t)) (answers t)) (stands_at t m + 1));
+      verdict = λ t m. bytes_of
+          (frame_at (answers_after pass limit t (length (frames t)) (answers t)) (stands_at t m + 1));
       same = λ t a b. said_bytes (sameness_said (same_types limit t (length (frames t)) a b));
     }
 

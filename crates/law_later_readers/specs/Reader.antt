@@ -17,7 +17,8 @@ use Rattle.frames.specs.declared.Frame.{Frame}
 use Rattle.frames.specs.Bytes.{bytes_of}
 use Rattle.frames.specs.Out.{refused_frame}
 use Rattle.archive.specs.Starts.{starts_of, row_count}
-use Rattle.rule.specs.Answers.{Typed, Judgement, Compared, Place, Result, newer, row_frame, verdict_frame, type_answer_of}
+use Rattle.rule.specs.Answers.{Typed, Judgement, Compared, Place, Result, newer, row_frame, verdict_frame}
+use Rattle.rule.specs.Answers.{type_answer_of}
 use Rattle.rule.specs.Answers.{row_answer_of, chosen_judgement}
 use Rattle.rule.specs.Things.{see}
 use Rattle.rule.specs.Rule.{Rule, met}

@@ -19,12 +19,14 @@ use Rattle.frames.specs.declared.Frame.{Frame}
 use Rattle.frames.specs.Bytes.{byte, frame_at}
 use Rattle.frames.specs.Forms.{item_of}
 use Rattle.archive.specs.declared.Starts.{Starts}
-use Rattle.archive.specs.Starts.{start, starts_of, constant_count, override_count, global_count, local_count, function_count}
+use Rattle.archive.specs.Starts.{start, starts_of, constant_count, override_count, global_count, local_count}
+use Rattle.archive.specs.Starts.{function_count}
 use Rattle.archive.specs.Starts.{row_count}
 use Rattle.archive.specs.Names.{is_type, is_row, row_names, row_form_names}
 use Rattle.archive.specs.Access.{row_in}
 use Rattle.archive.proofs.Files.{row-names}
-use Rattle.rule.specs.Things.{item_type, item_space, item_result, shown, Thing, kind, form, texels, struct_number, fault}
+use Rattle.rule.specs.Things.{item_type, item_space, item_result, shown, Thing, kind, form, texels, struct_number}
+use Rattle.rule.specs.Things.{fault}
 use Rattle.rule.specs.Things.{see_row, see}
 use Rattle.rule.specs.Things as Row
 use Rattle.law_rows.proofs.Good.{Good, IsItem, item-at}

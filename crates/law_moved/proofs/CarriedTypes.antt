@@ -25,7 +25,8 @@ use Rattle.archive.proofs.Files.{type-names}
 use Rattle.rule.specs.declared.Fault.{Fault}
 use Rattle.rule.specs.declared.Fault.TheVariants as Fa
 use Rattle.rule.specs.Answers.{TypeAnswer, number, value, malformed}
-use Rattle.rule.specs.Things.{member_types, form, struct_number, fault, is_count, in_range, array_fault, value_fault, fault_of}
+use Rattle.rule.specs.Things.{member_types, form, struct_number, fault, is_count, in_range, array_fault, value_fault}
+use Rattle.rule.specs.Things.{fault_of}
 use Rattle.rule.specs.Things.{sound_form, see_form, is_struct_form, see}
 use Rattle.law_rows.proofs.Good.{Good, type-at}
 use Rattle.law_moved.specs.Moves.{Moves, type_to, size_to, inner_to, answer_to, shows_to, type_form_to}
@@ -43,7 +44,8 @@ module _ (m : Moves) (kept : ℕ → Type 0) (fr gr : List ℕ) (good : Good fr)
   type-there : (n : TypeNumber) → is_type s n ≡ true → is_type t (type_to m n) ≡ true
   type-there n h = lt-ltb (m.types n.0) (type_count t) (to.type-in n.0 (ltb-true n.0 (type_count s) h))
 
-  pub type-carried : (n : TypeNumber) → is_type s n ≡ true → type_in gr t (type_to m n) ≡ type_form_to m (type_in fr s n)
+  pub type-carried : (n : TypeNumber) → is_type s n ≡ true
+      → type_in gr t (type_to m n) ≡ type_form_to m (type_in fr s n)
   unfolding type_in
   type-carried n h =
       rw (h, type-there n h)

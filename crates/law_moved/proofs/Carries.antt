@@ -56,7 +56,8 @@ pub record Carries (m : Moves) (kept : ℕ → Type 0) (fr gr : List ℕ) : Type
       ≡ item_to m (item_of (frame_at fr ((starts_of fr).functions + n)))
   pub row-in : (n : ℕ) → kept n → n < row_count (starts_of fr) → m.rows n < row_count (starts_of gr)
   pub rows : (n : ℕ) → kept n → n < row_count (starts_of fr)
-      → row_of (frame_at gr ((starts_of gr).rows + m.rows n)) ≡ row_form_to m (row_of (frame_at fr ((starts_of fr).rows + n)))
+      → row_of (frame_at gr ((starts_of gr).rows + m.rows n))
+      ≡ row_form_to m (row_of (frame_at fr ((starts_of fr).rows + n)))
   -- the argument that a kept row names, or that there is none
   pub arguments : (n i : ℕ) → kept n → row_in fr (starts_of fr) (record { 0 = n }) ≡ Ro.Known (Ex.FunctionArgument i)
       → maybe_item gr (starts_of gr).arguments (starts_of gr).locals (record { 0 = m.arguments i })

@@ -19,7 +19,8 @@ use Rattle.rule.specs.Answers.{TypeAnswer, number, value, malformed, Place, nowh
 use Rattle.rule.specs.Things.{form}
 use Rattle.rule.specs.Rule.{Rule, come}
 use Rattle.rule_types.specs.Canonical.{canonical, equal_types, identical}
-use Rattle.rule_types.specs.Comparison.{in_form, in_forms, by_struct, by_identical, compare, answered, tested, right_tested}
+use Rattle.rule_types.specs.Comparison.{in_form, in_forms, by_struct, by_identical, compare, answered, tested}
+use Rattle.rule_types.specs.Comparison.{right_tested}
 use Rattle.rule_types.specs.Comparison.{handed}
 use Rattle.rule_types.proofs.Equality.{equal-types, identical-frames, identical-self}
 use Rattle.law_moved.specs.Moves.{Moves, size_to, inner_to, answer_to, place_to}
@@ -170,7 +171,8 @@ module _ (m i : Moves) (u : Undone m i) where
         structs true = h false
         structs false = forms
 
-        go : (x : Bool) → Like (by_identical p a b k x) (by_identical (place_to m p) (answer_to m a) (answer_to m b) j x)
+        go : (x : Bool) → Like (by_identical p a b k x)
+            (by_identical (place_to m p) (answer_to m a) (answer_to m b) j x)
         go true = h true
         go false = comes (λ s. comes (λ t. structs (s || t)))
 

@@ -145,7 +145,8 @@ module _ (m i : Moves) (u : Undone m i) (fr gr : List ℕ) (good : Good fr) (to 
         (verdict-no-default pass fr good n l (verdict t parts) h).steps))
 
     shown-judged : (n : ℕ) → n < row_count (starts_of fr) → (x : Shown) → see fr (kind (record { 0 = n })) ≡ some x
-        → judged pass (see gr) (m.rows n) (of_compose (shown_to m x)) ≡ judged_to m (judged pass (see fr) n (of_compose x))
+        → judged pass (see gr) (m.rows n) (of_compose (shown_to m x))
+        ≡ judged_to m (judged pass (see fr) n (of_compose x))
     shown-judged n l (Row.compose t parts) q = ap some (compose-carried n l t parts (ap of_shown q))
     shown-judged n l (Row.literal x) q = refl
     shown-judged n l (Row.constant x) q = refl

@@ -43,7 +43,8 @@ module _ (one two : List ℕ) (n m : ℕ) (long : length one ≡ 16 * n) where
       let r : (33 * n + i) % 33 ≡ i % 33 = omega arith in
       let e : 16 * (n + i / 33) + i % 33 / 2 ≡ length one + (16 * (i / 33) + i % 33 / 2) = omega arith in
       rw (q, r)
-      (feed-or (i % 33) (get_or (one ++ two) (16 * (n + i / 33) + i % 33 / 2) 0) (get_or two (16 * (i / 33) + i % 33 / 2) 0)
+      (feed-or (i % 33) (get_or (one ++ two) (16 * (n + i / 33) + i % 33 / 2) 0)
+      (get_or two (16 * (i / 33) + i % 33 / 2) 0)
       (omega arith)
       (λ w. ap (λ (k : ℕ). get_or (one ++ two) k 0) e ∙ get_or-append-add one two (16 * (i / 33) + i % 33 / 2) 0))
 

@@ -137,7 +137,8 @@ module _ (m : Moves) (s t : Starts) (to : InPlace m s t) where
     inner-named (Ti.RayQuery q) h = refl
     inner-named (Ti.BindingArray b z) h = array-named b z h
 
-    pub type-names-moved : (x : TypeForm) → type_form_names s n x ≡ true → type_form_names t (type_to m n) (type_form_to m x)
+    pub type-names-moved : (x : TypeForm) → type_form_names s n x ≡ true
+        → type_form_names t (type_to m n) (type_form_to m x)
         ≡ true
     type-names-moved (Tf.Known x) h = inner-named x h
     type-names-moved Tf.Unknown h = refl

@@ -16,7 +16,8 @@ use Rattle.answers.specs.declared.Refusal.TheVariants as R
 use Rattle.frames.specs.Out.{type_frame}
 use Rattle.frames.proofs.ReadBack.{half_back, word_back}
 use Rattle.archive.specs.Starts.{starts_of, row_count}
-use Rattle.rule.specs.Answers.{number, value, malformed, Typed, given, refused, chosen_refusal, row, component, composed}
+use Rattle.rule.specs.Answers.{number, value, malformed, Typed, given, refused, chosen_refusal, row, component}
+use Rattle.rule.specs.Answers.{composed}
 use Rattle.rule.specs.Answers.{nowhere, chosen, Result, told, newer, Judgement, typed_frame, row_frame, verdict_frame}
 use Rattle.rule.specs.Things.{see}
 use Rattle.rule_rows.specs.declared.Pass.{Pass}

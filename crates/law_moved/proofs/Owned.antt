@@ -165,11 +165,13 @@ module _ (fr : List ℕ) (good : Good fr) where
         ≡ row_to m (component_of (frame_at fr ((starts_of fr).components + k))))
         → (run : (k i : ℕ) → m.components (k + i) ≡ m.components k + i)
         → (rises : (k n : ℕ) → k < n → m.rows k < m.rows n)
-        → (n : ℕ) → n < row_count (starts_of fr) → (o : ℕ) (g : Frame) → o - (starts_of gr).rows ≡ m.rows n → byte g 0 ≡ 4
+        → (n : ℕ) → n < row_count (starts_of fr) → (o : ℕ) (g : Frame) → o - (starts_of gr).rows ≡ m.rows n
+        → byte g 0 ≡ 4
         → byte g 1 ≡ byte (frame_at fr ((starts_of fr).rows + n)) 1
         → (byte (frame_at fr ((starts_of fr).rows + n)) 1 ≡ 5 → word g 12
         ≡ m.components (word (frame_at fr ((starts_of fr).rows + n)) 12))
-        → (byte (frame_at fr ((starts_of fr).rows + n)) 1 ≡ 5 → half g 4 ≡ half (frame_at fr ((starts_of fr).rows + n)) 4)
+        → (byte (frame_at fr ((starts_of fr).rows + n)) 1 ≡ 5
+        → half g 4 ≡ half (frame_at fr ((starts_of fr).rows + n)) 4)
         → (k : ℕ) → early_in gr (held_by (starts_of gr) o g) k ≡ true
     compose-early components run rises n l o g number family same first count k = cases (eqb (byte g 1) 5) held
         (λ e. rw (family, e) refl)

@@ -210,7 +210,8 @@ module _ (m : Moves) where
   size_same Id.Cube = refl
   size_same Id.D3 = refl
 
-  times-same : (a : TypeAnswer) (y : TypeInner) → Same m (times_scalar a y) (times_scalar (answer_to m a) (inner_to m y))
+  times-same : (a : TypeAnswer) (y : TypeInner)
+      → Same m (times_scalar a y) (times_scalar (answer_to m a) (inner_to m y))
   times-same a y = to-scalar m (Same m) y (λ j. refl) refl
 
   pub product-same : (a b : TypeAnswer) (x y : TypeInner)

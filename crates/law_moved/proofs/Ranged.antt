@@ -126,7 +126,8 @@ module _ (pass : Pass) (fr : List ℕ) where
       newer-told (some p) q = absurd (let z : ◌≡◌ {A = ℕ} 0 1 = cc in omega arith)
       newer-told none q = absurd (let z : ◌≡◌ {A = ℕ} 0 1 = cc in omega arith)
 
-      go : (o : Option Typed) → (follow (see fr) (among_readings (readings (see fr) (typing pass) n)) (typing pass n)).end
+      go : (o : Option Typed)
+          → (follow (see fr) (among_readings (readings (see fr) (typing pass) n)) (typing pass n)).end
           ≡ o
           → outcome_of (see fr) (follow (see fr) (among_readings (readings (see fr) (typing pass) n)) (typing pass n))
           ≡ told t → o ≡ some t

@@ -131,7 +131,8 @@ module _ (m : Moves) where
   row_stays Rk.CooperativeMultiplyAdd f = (refl, refl)
 
   -- what is not a number stays within its values
-  query-fits : (f : Frame) (q : ImageQuery) → image_query_of (byte f 6) ≡ q → fits_all (row_layout Rk.ImageQuery) f ≡ true
+  query-fits : (f : Frame) (q : ImageQuery) → image_query_of (byte f 6) ≡ q
+      → fits_all (row_layout Rk.ImageQuery) f ≡ true
       → fits_all (row_layout Rk.ImageQuery) (moved_in m (query_numbers q) f) ≡ true
   query-fits f Iq.Size e h =
       let l : byte f 6 < 4 = ltb-true (byte f 6) 4 (and_first (ltb (byte f 6) 4) _ (and_first _ _ h)) in

@@ -24,7 +24,8 @@ use Rattle.rule_rows.specs.Images.{sampled, image_sample, image_query}
 use Rattle.rule_rows.specs.Operators.{binary, binary_by, relational}
 use Rattle.rule_rows.specs.Results.{cooperative_of, base_scalar}
 use Rattle.rule_rows.specs.Typed.{resolve, typing}
-use Rattle.law_moved.specs.Moves.{Moves, type_to, row_to, inner_to, answer_to, typed_to, queried_to, related_to, shown_to}
+use Rattle.law_moved.specs.Moves.{Moves, type_to, row_to, inner_to, answer_to, typed_to, queried_to, related_to}
+use Rattle.law_moved.specs.Moves.{shown_to}
 use Rattle.law_moved.specs.Moves.{form_to}
 use Rattle.law_moved.proofs.Alike.{PlainType, Plain, Alike, ends, comes, reads}
 use Rattle.law_moved.proofs.Selected.{to-scalar, to_vector, to-atomic, to-image, to-pointer}

@@ -12,7 +12,8 @@ use Rattle.ir.specs.declared.ImageClass.{ImageClass}
 use Rattle.ir.specs.declared.TypeInner.{TypeInner}
 use Rattle.ir.specs.declared.TypeInner.TheVariants as Ti
 use Rattle.rule_types.specs.Canonical.{if_pointer}
-use Rattle.rule_rows.specs.Selectors.{if_scalar, if_vector, if_matrix, if_cooperative_matrix, if_atomic, if_value_pointer}
+use Rattle.rule_rows.specs.Selectors.{if_scalar, if_vector, if_matrix, if_cooperative_matrix, if_atomic}
+use Rattle.rule_rows.specs.Selectors.{if_value_pointer}
 use Rattle.rule_rows.specs.Selectors.{if_array, if_struct, if_image, if_binding_array}
 use Rattle.law_moved.specs.Moves.{Moves, type_to, inner_to}
 

@@ -63,7 +63,8 @@ answers-most t zero = omega arith
 answers-most t (suc n) =
     let a = answers-most t n in
     by-test (λ (x : ℕ). sum_below (answer_frames t) n + x ≤ 2 * suc n) (eqb (frame_byte t n 0) 4)
-    (λ q. by-test (λ (x : ℕ). sum_below (answer_frames t) n + x ≤ 2 * suc n) (eqb (frame_byte t n 1) 5) (λ r. omega arith)
+    (λ q. by-test (λ (x : ℕ). sum_below (answer_frames t) n + x ≤ 2 * suc n) (eqb (frame_byte t n 1) 5)
+    (λ r. omega arith)
     (λ r. omega arith)) (λ q. omega arith)
 
 -- a text that is accepted without an answer buffer is accepted with one, and with any frame buffer that suffices

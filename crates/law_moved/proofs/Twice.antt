@@ -73,7 +73,8 @@ module _ (m l k : Moves) (both : (c : Counted) (n : ℕ) → move_of m c (move_o
       ))
       (λ q e. rw (q, e, half_back (l.types (half f 2)), both types (half f 2)))
 
-  type-twice : (x : TypeKind) (f : Frame) → Twice (type_numbers x f) (type_numbers x (moved_in l (type_numbers x f) f)) f
+  type-twice : (x : TypeKind) (f : Frame)
+      → Twice (type_numbers x f) (type_numbers x (moved_in l (type_numbers x f) f)) f
   type-twice Tk.Unknown f = refl
   type-twice Tk.Scalar f = refl
   type-twice Tk.Vector f = refl
@@ -96,7 +97,8 @@ module _ (m l k : Moves) (both : (c : Counted) (n : ℕ) → move_of m c (move_o
   result-twice f true e = rw (e, half_back (l.types (half f 2)), both types (half f 2))
   result-twice f false e = rw e
 
-  item-twice : (x : ItemKind) (f : Frame) → Twice (item_numbers x f) (item_numbers x (moved_in l (item_numbers x f) f)) f
+  item-twice : (x : ItemKind) (f : Frame)
+      → Twice (item_numbers x f) (item_numbers x (moved_in l (item_numbers x f) f)) f
   item-twice Ik.Unknown f = refl
   item-twice Ik.Constant f = half_twice types f
   item-twice Ik.Override f = half_twice types f

@@ -32,9 +32,11 @@ module _ (m : Moves) where
   by_form f P constant pending rest =
       by-test P (eqb (byte f 4) 0) constant (λ q. by-test P (eqb (byte f 4) 1) (pending q) (rest q))
 
-  array-reads : (f : Frame) → type_as Tk.Array (moved_in m (type_numbers Tk.Array f) f) ≡ type_form_to m (type_as Tk.Array f)
+  array-reads : (f : Frame)
+      → type_as Tk.Array (moved_in m (type_numbers Tk.Array f) f) ≡ type_form_to m (type_as Tk.Array f)
   array-reads f =
-      by_form f (λ z. type_as Tk.Array (moved_in m (two types 2 ∷ size_numbers z) f) ≡ type_form_to m (type_as Tk.Array f))
+      by_form f (λ z. type_as Tk.Array (moved_in m (two types 2 ∷ size_numbers z) f)
+      ≡ type_form_to m (type_as Tk.Array f))
       (λ q. rw (q, half_back (m.types (half f 2))))
       (λ q e. rw (q, e, half_back (m.types (half f 2)), word_back (m.overrides (word f 8))))
       (λ q e. rw (q, e, half_back (m.types (half f 2))))
@@ -64,10 +66,12 @@ module _ (m : Moves) where
   binding-fits : (f : Frame) → fits_all (type_layout Tk.BindingArray) f ≡ true
       → fits_all (type_layout Tk.BindingArray) (moved_in m (type_numbers Tk.BindingArray f) f) ≡ true
   binding-fits f h =
-      by_form f (λ z. fits_all (type_layout Tk.BindingArray) (moved_in m (two types 2 ∷ size_numbers z) f) ≡ true) (λ q. h)
+      by_form f (λ z. fits_all (type_layout Tk.BindingArray) (moved_in m (two types 2 ∷ size_numbers z) f) ≡ true)
+      (λ q. h)
       (λ q e. rw (q, e) (rw (q, e) at h)) (λ q e. h)
 
-  pub type_reads : (k : TypeKind) (f : Frame) → type_as k (moved_in m (type_numbers k f) f) ≡ type_form_to m (type_as k f)
+  pub type_reads : (k : TypeKind) (f : Frame)
+      → type_as k (moved_in m (type_numbers k f) f) ≡ type_form_to m (type_as k f)
   type_reads Tk.Unknown f = refl
   type_reads Tk.Scalar f = refl
   type_reads Tk.Vector f = refl

@@ -131,7 +131,8 @@ component_numbers = two rows 2 ∷ []
 abbrev pub numbers_by : ℕ → Frame → List Spot
 numbers_by family f =
     get_or
-    ([] ∷ type_numbers (type_kind_of (byte f 1)) f ∷ member_numbers ∷ item_numbers (item_kind_of (byte f 1)) f ∷ row_numbers
+    ([] ∷ type_numbers (type_kind_of (byte f 1)) f ∷ member_numbers ∷ item_numbers (item_kind_of (byte f 1)) f
+    ∷ row_numbers
     (row_kind_of (byte f 1)) f
     ∷ component_numbers ∷ [])
     family []

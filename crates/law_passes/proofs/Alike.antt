@@ -179,7 +179,8 @@ module _ (fr : List ℕ) where
           → follow (see fr) one (typed Pa.First r) ≡ follow (see fr) two (typed Pa.Second r)
       go r none q h = rw (q, follow)
       go r (some x) q h =
-          let g : None (step (row r) (kind r) ∷ (follow (see fr) one (resolve Pa.First r x)).steps) = rw (q, follow) at h
+          let g : None (step (row r) (kind r) ∷ (follow (see fr) one (resolve Pa.First r x)).steps) =
+          rw (q, follow) at h
           in
           let e : resolve Pa.First r x ≡ resolve Pa.Second r x = rw q at (row-alike r g.0) in
           rw (q, follow)
@@ -264,7 +265,8 @@ module _ (fr : List ℕ) (good : Good fr) (without : HasNoBinary fr) where
           verdicts-alike fr n rule q
           (verdict-steps (length k.row.parts) (reading (see fr) (typing Pa.First) n rule) k.steps)
 
-  pub outputs-alike : (n : ℕ) → n ≤ row_count (starts_of fr) → outputs Pa.First (see fr) n ≡ outputs Pa.Second (see fr) n
+  pub outputs-alike : (n : ℕ) → n ≤ row_count (starts_of fr)
+      → outputs Pa.First (see fr) n ≡ outputs Pa.Second (see fr) n
   unfolding outputs
   outputs-alike zero w = refl
   outputs-alike (suc n) w =

@@ -41,9 +41,9 @@ fr = decoded scalar_plus_vector 5
 
 -- WHAT THE TEXT IS, computed
 at_most : IsAccepted max_frames scalar_plus_vector 5
-unfolding most_frames lowest all_below build sum_below digit_value digit_of line_ok byte_of char_of answer_frames too_short
-    read_text frame_at type_of item_of row_of member_of component_of fields_fit order_ok start starts_of names_ok early_ok index_ok
-    check_frames read_file
+unfolding most_frames lowest all_below build sum_below digit_value digit_of line_ok byte_of char_of answer_frames
+    too_short read_text frame_at type_of item_of row_of member_of component_of fields_fit order_ok start starts_of
+    names_ok early_ok index_ok check_frames read_file
 at_most = refl
 
 long : length scalar_plus_vector ≡ 165
@@ -69,11 +69,13 @@ unfolding lowest build digit_value digit_of byte_of char_of frame_at start start
 second-unmet = refl
 
 -- a later reader's bytes: a type number, family 8, and a value, family 9
-first-family : get_or (row_bytes (theirs Pa.First fr choice 2 (row_answer_of (choice.rows 2)) (typing Pa.First 2))) 0 0 ≡ 8
+first-family : get_or (row_bytes (theirs Pa.First fr choice 2 (row_answer_of (choice.rows 2)) (typing Pa.First 2))) 0 0
+    ≡ 8
 unfolding lowest build digit_value digit_of byte_of char_of frame_at start starts_of row_in row_of type_in type_of
 first-family = refl
 
-second-family : get_or (row_bytes (theirs Pa.Second fr choice 2 (row_answer_of (choice.rows 2)) (typing Pa.Second 2))) 0 0
+second-family : get_or (row_bytes (theirs Pa.Second fr choice 2 (row_answer_of (choice.rows 2)) (typing Pa.Second 2))) 0
+    0
     ≡ 9
 unfolding lowest build digit_value digit_of byte_of char_of frame_at start starts_of row_in row_of type_in type_of
 second-family = refl

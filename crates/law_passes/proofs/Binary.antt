@@ -70,7 +70,8 @@ module _ (gives : RowNumber → RowGiven) (fr : List ℕ) (n : ℕ) where
   Is c g d = (c ≡ d.0) × (g ≡ d.1)
 
   -- its case holds
-  module _ (a b : TypeAnswer) (el : GivesType (left_given gives fr n) a) (er : GivesType (right_given gives fr n) b) where
+  module _ (a b : TypeAnswer) (el : GivesType (left_given gives fr n) a)
+      (er : GivesType (right_given gives fr n) b) where
     result-holds : (x y : Form) → see fr (form a) ≡ some x → see fr (form b) ≡ some y → (o : Option TypeInner)
         → wgsl_result (operator_at fr n) x.inner y.inner ≡ o → Holds (by_result o)
     result-holds x y p q (some t) e = of_line a b el er x y p q t ((wgsl-is _ _ _ t).0 e)

@@ -67,7 +67,8 @@ products-given : (a b : TypeAnswer) (n : OptionVectorSize) (s : Scalar)
 products-given a b Ov.None s = is-given _
 products-given a b (Ov.Some z) s = is-given _
 
-line-given : (a b : TypeAnswer) {op : BinaryOperator} {x y t : TypeInner} → Wgsl op x y t → IsGiven (first_of op a b x y)
+line-given : (a b : TypeAnswer) {op : BinaryOperator} {x y t : TypeInner} → Wgsl op x y t
+    → IsGiven (first_of op a b x y)
 line-given a b W.logical-or = is-given _
 line-given a b W.logical-and = is-given _
 line-given a b (W.or-bools n) = is-given _

@@ -241,6 +241,6 @@ module _ (limit : ℕ) (t : List ℕ) (f a k : ℕ) (e : read_file limit t f (Le
 pub parted : (check_frames index_of_sum ≡ Accepted 6)
     × ((row_answer Pa.Second (see index_of_sum) 3 ≡ told (given (value (Ti.Scalar F32))))
     × (row_answer Pa.First (see index_of_sum) 3 ≡ told (refused (InvalidAccess (record { 0 = 2 }) true))))
-unfolding lowest all_below build sum_below frame_at type_of item_of row_of member_of component_of fields_fit order_ok start
-    starts_of names_ok early_ok index_ok check_frames row_in type_in
+unfolding lowest all_below build sum_below frame_at type_of item_of row_of member_of component_of fields_fit order_ok
+    start starts_of names_ok early_ok index_ok check_frames row_in type_in
 parted = (refl, (refl, refl))

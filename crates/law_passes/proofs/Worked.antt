@@ -27,13 +27,13 @@ abbrev given : List ℕ → List (List ℕ)
 given file = map bytes_of (outputs Pa.Second (see file) (row_count (starts_of file)))
 
 worked : map (λ (c : PassCase). given (file_of c)) pass_cases ≡ map wanted_of_pass pass_cases
-unfolding outputs each_part vector_parts equal_types identical listed type_in row_in frame_at type_of member_of item_of row_of
-    component_of start starts_of lowest all_below build sum_below
+unfolding outputs each_part vector_parts equal_types identical listed type_in row_in frame_at type_of member_of
+    item_of row_of component_of start starts_of lowest all_below build sum_below
 worked = refl
 
 -- each file passes checks 4 to 6
 accepted : map (λ (c : PassCase). check_frames (file_of c)) pass_cases
     ≡ map (λ (c : PassCase). Accepted (frame_count (file_of c))) pass_cases
-unfolding lowest all_below build sum_below frame_at type_of item_of row_of member_of component_of fields_fit order_ok start
-    starts_of names_ok early_ok index_ok check_frames
+unfolding lowest all_below build sum_below frame_at type_of item_of row_of member_of component_of fields_fit order_ok
+    start starts_of names_ok early_ok index_ok check_frames
 accepted = refl

@@ -57,7 +57,8 @@ pub record Known (fr : List ℕ) (m : ℕ) : Type 0 where
 
 -- what the second pass gives for a Binary row of two typed and known operands: the value t exactly where a line of
 -- WGSL's tables gives t, and number 41 exactly where none does
-pub record Judged (fr : List ℕ) (n : ℕ) (left : Known fr (left_at fr n)) (right : Known fr (right_at fr n)) : Type 0 where
+pub record Judged (fr : List ℕ) (n : ℕ) (left : Known fr (left_at fr n)) (right : Known fr (right_at fr n)) : Type
+    0 where
   pub gives : (t : TypeInner)
       → (row_answer Second (see fr) n ≡ told (given (value t))) ↔ Wgsl (operator_at fr n) left.shows.inner
       right.shows.inner t

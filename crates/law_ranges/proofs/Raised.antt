@@ -49,7 +49,8 @@ module _ (fr : List ℕ) (good : Good fr) (o : ItemNumber) (least greatest : Cou
   asks : Asked fr least greatest n (Spans a y z)
   asks = (asked-when fr least greatest n (Spans a y z)).0 e
 
-  sizes : (measure_at fr (starts_of fr) least n ≡ Me.Fills a y) × (measure_at fr (starts_of fr) greatest n ≡ Me.Fills a z)
+  sizes : (measure_at fr (starts_of fr) least n ≡ Me.Fills a y)
+      × (measure_at fr (starts_of fr) greatest n ≡ Me.Fills a z)
   sizes = (range-when fr least greatest good (λ p l. (asks.spans p l).1) n a y z).0 asks.is
 
   -- at other counts, where each override has a good span

@@ -69,7 +69,8 @@ module _ (fr : List ℕ) (least greatest : Counts) where
   unfolding type_range_in faulty_span
   said n = go (is_type (starts_of fr) n) refl (faulty_span (starts_of fr) least greatest) refl
     where
-      go : (b : Bool) → is_type (starts_of fr) n ≡ b → (f : Found) → faulty_span (starts_of fr) least greatest ≡ f → Said n
+      go : (b : Bool) → is_type (starts_of fr) n ≡ b → (f : Found) → faulty_span (starts_of fr) least greatest ≡ f
+          → Said n
       go false e f q = Said.none e (rw e)
       go true e (At o) q = Said.span o e (found_at ok (override_count (starts_of fr)) o q) (rw (e, q))
       go true e Nothing q =
@@ -146,7 +147,8 @@ module _ (fr : List ℕ) (least greatest : Counts) where
     -- least and greatest are the sizes at the least and at the greatest counts
     pub range-when : (n : TypeNumber) (a : Alignment) (y z : ℕ)
         → (range_in fr (starts_of fr) least greatest n ≡ Spans a y z)
-        ↔ ((measure_at fr (starts_of fr) least n ≡ Me.Fills a y) × (measure_at fr (starts_of fr) greatest n ≡ Me.Fills a z))
+        ↔ ((measure_at fr (starts_of fr) least n ≡ Me.Fills a y)
+        × (measure_at fr (starts_of fr) greatest n ≡ Me.Fills a z))
     unfolding range_in
     range-when n a y z = (λ e. two-measures _ _ (grows fr good least greatest most n) a y z e, λ h. rw (h.0, h.1))
 

@@ -22,7 +22,8 @@ use Rattle.rule_sizes.specs.declared.Measure.TheVariants.{Faulty}
 use Rattle.rule_sizes.specs.Meaning.{struct_member}
 use Rattle.law_sizes.proofs.Fixed.{PartOf, form-alike, early}
 use Rattle.rule_ranges.specs.Pending.{size_holds, member_holds, form_holds, holds_pending}
-use Rattle.rule_ranges.specs.Counts.{Counts, fresh_parts, fresh_struct, counted_array, counted_form, form_by, measure_by}
+use Rattle.rule_ranges.specs.Counts.{Counts, fresh_parts, fresh_struct, counted_array, counted_form, form_by}
+use Rattle.rule_ranges.specs.Counts.{measure_by}
 use Rattle.rule_ranges.proofs.Laws.{holds-earlier, by-earlier}
 
 -- a choice between likes

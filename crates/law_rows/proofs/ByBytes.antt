@@ -24,7 +24,8 @@ use Rattle.archive.specs.Access.{type_in, row_in}
 use Rattle.archive.proofs.Files.{row-names}
 use Rattle.rule.specs.Answers.{number}
 use Rattle.rule.specs.Things.{listed, Shown, constant, override, compose, function_argument, global_variable}
-use Rattle.rule.specs.Things.{local_variable, call_result, ray_query_vertex_positions, ray_query_get_intersection, kind, form}
+use Rattle.rule.specs.Things.{local_variable, call_result, ray_query_vertex_positions, ray_query_get_intersection, kind}
+use Rattle.rule.specs.Things.{form}
 use Rattle.rule.specs.Things.{see}
 use Rattle.rule.proofs.Named.{constant-named, override-named, global-named, local-named, function-named, argument-named}
 use Rattle.rule.proofs.Named.{no-argument, intersection-named, no-intersection}
@@ -57,7 +58,8 @@ pub record RowByBytes (fr : List ℕ) (n : RowNumber) : Type 0 where
       → let k = (starts_of fr).overrides + half (row_frame fr n) 2 in ShowsItem fr n 2 k (override (type_named fr k))
   pub globals : byte (row_frame fr n) 1 ≡ 11
       → let k = (starts_of fr).globals + half (row_frame fr n) 2 in
-      ShowsItem fr n 3 k (global_variable (type_named fr k) (space_of (byte (frame_at fr k) 6) (byte (frame_at fr k) 7)))
+      ShowsItem fr n 3 k (global_variable (type_named fr k)
+      (space_of (byte (frame_at fr k) 6) (byte (frame_at fr k) 7)))
   pub locals : byte (row_frame fr n) 1 ≡ 12
       → let k = (starts_of fr).locals + half (row_frame fr n) 2 in ShowsItem fr n 5 k (local_variable (type_named fr k))
   pub functions : byte (row_frame fr n) 1 ≡ 24
@@ -65,7 +67,8 @@ pub record RowByBytes (fr : List ℕ) (n : RowNumber) : Type 0 where
       (starts_of fr).functions + half (row_frame fr n) 2 in
       ShowsItem fr n 6 k (call_result (result_of (byte (frame_at fr k) 4) (record { 0 = half (frame_at fr k) 2 })))
   -- an argument index is free: an argument where there is one, else none
-  pub arguments : byte (row_frame fr n) 1 ≡ 10 → word (row_frame fr n) 12 < (starts_of fr).locals - (starts_of fr).arguments
+  pub arguments : byte (row_frame fr n) 1 ≡ 10
+      → word (row_frame fr n) 12 < (starts_of fr).locals - (starts_of fr).arguments
       → let k =
       (starts_of fr).arguments + word (row_frame fr n) 12 in
       ShowsItem fr n 4 k (function_argument (word (row_frame fr n) 12) (some (type_named fr k)))
@@ -74,7 +77,8 @@ pub record RowByBytes (fr : List ℕ) (n : RowNumber) : Type 0 where
       → see fr (kind n) ≡ some (function_argument (word (row_frame fr n) 12) none)
   -- a special type where there is one, else none
   pub intersections : byte (row_frame fr n) 1 ≡ 30 → 0 < (starts_of fr).vertex_returns - (starts_of fr).intersections
-      → let k = (starts_of fr).intersections + 0 in ShowsItem fr n 7 k (ray_query_get_intersection (some (type_named fr k)))
+      → let k = (starts_of fr).intersections + 0 in
+      ShowsItem fr n 7 k (ray_query_get_intersection (some (type_named fr k)))
   pub no-intersections : byte (row_frame fr n) 1 ≡ 30 → (starts_of fr).vertex_returns - (starts_of fr).intersections ≤ 0
       → see fr (kind n) ≡ some (ray_query_get_intersection none)
   pub vertex-returns : byte (row_frame fr n) 1 ≡ 28 → 0 < (starts_of fr).rows - (starts_of fr).vertex_returns
@@ -90,7 +94,8 @@ pub record RowByBytes (fr : List ℕ) (n : RowNumber) : Type 0 where
       }) (listed (λ (i : ℕ). row_named fr ((starts_of fr).components + word (row_frame fr n) 12 + i)) (half
       (row_frame fr n) 4)))
   pub components : byte (row_frame fr n) 1 ≡ 5
-      → (i : ℕ) → i < half (row_frame fr n) 4 → IsComponent fr n ((starts_of fr).components + word (row_frame fr n) 12 + i)
+      → (i : ℕ) → i < half (row_frame fr n) 4
+      → IsComponent fr n ((starts_of fr).components + word (row_frame fr n) 12 + i)
 
 -- what type n shows where it is a struct, kind 9: its members, each of an earlier type
 pub record StructByBytes (fr : List ℕ) (n : TypeNumber) : Type 0 where
@@ -104,7 +109,8 @@ pub record StructByBytes (fr : List ℕ) (n : TypeNumber) : Type 0 where
 
 module _ (fr : List ℕ) (good : Good fr) where
   module _ (n : RowNumber) (here : is_row (starts_of fr) n ≡ true) where
-    names_at : (b : ℕ) → byte (row_frame fr n) 1 ≡ b → row_form_names (starts_of fr) n (row_as (row_kind_of b) (row_frame fr n))
+    names_at : (b : ℕ) → byte (row_frame fr n) 1 ≡ b
+        → row_form_names (starts_of fr) n (row_as (row_kind_of b) (row_frame fr n))
         ≡ true
     unfolding row_of
     names_at b e =

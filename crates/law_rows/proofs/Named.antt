@@ -86,7 +86,8 @@ module _ (fr : List ℕ) (good : Good fr) where
               (omega arith));
         }
 
-    type-there : (k : TypeKind) → type_kind_of (byte of-type 1) ≡ k → type_form_names (starts_of fr) n (type_as k of-type)
+    type-there : (k : TypeKind) → type_kind_of (byte of-type 1) ≡ k
+        → type_form_names (starts_of fr) n (type_as k of-type)
         ≡ true
         → TypeThere fr n (type_as k of-type)
     type-there Tk.Unknown e h = tt
@@ -139,7 +140,8 @@ module _ (fr : List ℕ) (good : Good fr) where
         → IsItem fr j (start fr (768 + j) + i)
     item-there j i a b l = item-at fr good j _ a b (omega arith) (omega arith)
 
-    row-there : (k : RowKind) → row_kind_of (byte of_row 1) ≡ k → row_form_names (starts_of fr) n (row_as k of_row) ≡ true
+    row-there : (k : RowKind) → row_kind_of (byte of_row 1) ≡ k
+        → row_form_names (starts_of fr) n (row_as k of_row) ≡ true
         → RowThere fr n (row_as k of_row)
     unfolding starts_of
     row-there Rk.Unknown e h = tt

@@ -76,7 +76,8 @@ module _ (pass : Pass) (fr : List ℕ) (m : ℕ) where
       own = kept (earlier n).steps (all n l).steps
 
       go : (o : Option Typed) → (earlier n).end ≡ o → IfSome (TypedInRange pass (starts_of fr)) o
-          → ((t : Typed) → TypedInRange pass (starts_of fr) t → ReadingInRange pass fr m (follow (see fr) earlier (k t)))
+          → ((t : Typed) → TypedInRange pass (starts_of fr) t
+          → ReadingInRange pass fr m (follow (see fr) earlier (k t)))
           → ReadingInRange pass fr m (follow (see fr) earlier (past n (λ p. p) k))
       go none q h ih = rw (q, follow) (record { steps = own; end = tt })
       go (some t) q h ih =

@@ -30,7 +30,8 @@ use Rattle.rule_rows.specs.Images.{sampled, sampled_from, sampled_of, image_samp
 use Rattle.rule_rows.specs.Operators.{product, binary, wgsl_of, binary_by, relational}
 use Rattle.rule_rows.specs.Typed.{resolve, typed, typing}
 use Rattle.law_rows.specs.Reads.{reads, sample_reads, query_reads, binary_reads, binary_reads_by, relational_reads}
-use Rattle.law_rows.specs.Reads.{unless_refused, unless_newer, base_thing, class_thing, step_to, line_steps, shown_steps}
+use Rattle.law_rows.specs.Reads.{unless_refused, unless_newer, base_thing, class_thing, step_to, line_steps}
+use Rattle.law_rows.specs.Reads.{shown_steps}
 use Rattle.law_rows.specs.Reads.{row_reading}
 
 -- an operand's steps keep their places

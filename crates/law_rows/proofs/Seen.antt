@@ -30,7 +30,8 @@ use Rattle.archive.specs.Access.{type_in, row_in}
 use Rattle.archive.proofs.Files.{item-names}
 use Rattle.rule.specs.declared.Fault.TheVariants as Fa
 use Rattle.rule.specs.Answers.{TypeAnswer, number, value, malformed}
-use Rattle.rule.specs.Things.{listed, item_type, item_result, maybe_item, shown, kind, form, is_count, in_range, array_fault}
+use Rattle.rule.specs.Things.{listed, item_type, item_result, maybe_item, shown, kind, form, is_count, in_range}
+use Rattle.rule.specs.Things.{array_fault}
 use Rattle.rule.specs.Things.{value_fault, fault_of, see_form, see_row, see}
 use Rattle.rule.proofs.Shows.{value-shows}
 use Rattle.law_rows.proofs.Good.{Good, IsItem}
@@ -108,7 +109,8 @@ module _ (fr : List ℕ) (good : Good fr) where
       ∙ item-names fr good.index k i.within i.family-is
 
   -- its type, by the law for its kind
-  typed-item : (j k : ℕ) (i : IsItem fr j k) → is_type (starts_of fr) (item_type (item_as (item_kind_of j) (frame_at fr k)))
+  typed-item : (j k : ℕ) (i : IsItem fr j k)
+      → is_type (starts_of fr) (item_type (item_as (item_kind_of j) (frame_at fr k)))
       ≡ true
       → is_type (starts_of fr) (item_type (item_of (frame_at fr k))) ≡ true
   typed-item j k i h = ap (λ (x : Item). is_type (starts_of fr) (item_type x)) (item-is j k i) ∙ h
@@ -145,7 +147,8 @@ module _ (fr : List ℕ) (good : Good fr) where
   expression-shows n (Ex.Relational f m) h = h
   expression-shows n Ex.Math h = tt
   expression-shows n (Ex.As m k c) h = h
-  expression-shows n (Ex.CallResult i) h = ap (λ (x : Item). result_names (starts_of fr) (item_result x)) (item-is 6 _ h)
+  expression-shows n (Ex.CallResult i) h =
+      ap (λ (x : Item). result_names (starts_of fr) (item_result x)) (item-is 6 _ h)
       ∙ item_in 6 _ h
   expression-shows n (Ex.AtomicResult t) h = h
   expression-shows n (Ex.WorkGroupUniformLoadResult t) h = h
@@ -206,5 +209,6 @@ module _ (fr : List ℕ) (good : Good fr) where
   sound-seen (malformed f) e = never (cc)
 
   -- and so what a type in range shows
-  pub form-seen : (a : TypeAnswer) → TypeInRange (starts_of fr) a → IfSome (FormInRange (starts_of fr)) (see fr (form a))
+  pub form-seen : (a : TypeAnswer) → TypeInRange (starts_of fr) a
+      → IfSome (FormInRange (starts_of fr)) (see fr (form a))
   form-seen a h = sound-seen a (in-range-sound (starts_of fr) a h)

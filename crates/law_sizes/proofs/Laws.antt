@@ -33,7 +33,8 @@ module _ (fr : List ℕ) (good : Good fr) where
 
   -- THE LAWS
 
-  pub fills-when : (n : TypeNumber) (a : Alignment) (z : ℕ) → (measure_in fr (starts_of fr) n ≡ Fills a z) ↔ Has fr n a z
+  pub fills-when : (n : TypeNumber) (a : Alignment) (z : ℕ) → (measure_in fr (starts_of fr) n ≡ Fills a z)
+      ↔ Has fr n a z
   fills-when n a z = (λ e. rw e at (meant fr good n), has-is fr good n a z)
 
   lowest-fault : (n m : TypeNumber) (k : SizeFault) → measure_in fr (starts_of fr) n ≡ Faulty k m → LowestFault fr n m k

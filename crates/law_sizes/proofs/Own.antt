@@ -27,7 +27,8 @@ use Rattle.rule_sizes.specs.declared.SizeFault.TheVariants.{Unmeasured, Misplace
 use Rattle.rule_sizes.specs.declared.Measure.{Measure}
 use Rattle.rule_sizes.specs.declared.Measure.TheVariants.{Fills, Faulty}
 use Rattle.rule_sizes.specs.Wgsl.{integer_align, float_align, number_align}
-use Rattle.rule_sizes.specs.Sizes.{scalar_measure, vector_measure, matrix_measure, array_of, parts_of, spanned, struct_of}
+use Rattle.rule_sizes.specs.Sizes.{scalar_measure, vector_measure, matrix_measure, array_of, parts_of, spanned}
+use Rattle.rule_sizes.specs.Sizes.{struct_of}
 use Rattle.rule_sizes.specs.Sizes.{of_inner, of_form, measure_in}
 use Rattle.rule_sizes.specs.Meaning.{Integer, Float, Number, Listed, struct_member, Greatest, Has, RestsOn}
 use Rattle.law_sizes.proofs.Scalars.{Given, integer-given, float-given, number-given, integer-has, float-has}

@@ -39,7 +39,8 @@ rule-is fr n rule h c = let q : of_shown (see fr (kind (record { 0 = n })))
 pub composes : (fr : List ℕ) (n : ℕ) (rule : Rule Judgement) → verdict_rule (see fr) n ≡ some rule → Composes fr n
 composes fr n rule h = go (row_in fr (starts_of fr) (record { 0 = n })) refl h
   where
-    go : (f : RowForm) → row_in fr (starts_of fr) (record { 0 = n }) ≡ f → of_shown (see_row fr (starts_of fr) f) ≡ some rule
+    go : (f : RowForm) → row_in fr (starts_of fr) (record { 0 = n }) ≡ f
+        → of_shown (see_row fr (starts_of fr) f) ≡ some rule
         → Composes fr n
     go Ro.Unknown q e = never (cc)
     go (Ro.Known x) q e =

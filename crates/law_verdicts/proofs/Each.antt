@@ -13,7 +13,8 @@ use borrow.Author.Tests.{eqb-true, eqb-false}
 use Rattle.scan.specs.Lists.{sum_below}
 use Rattle.frames.specs.Bytes.{byte}
 use Rattle.archive.specs.Starts.{starts_of, row_count}
-use Rattle.rule.specs.Answers.{number, value, malformed, Typed, given, refused, chosen_refusal, row, component, composed}
+use Rattle.rule.specs.Answers.{number, value, malformed, Typed, given, refused, chosen_refusal, row, component}
+use Rattle.rule.specs.Answers.{composed}
 use Rattle.rule.specs.Answers.{nowhere, chosen, Judgement, Result, told, newer, row_frame}
 use Rattle.rule.specs.Things.{see}
 use Rattle.rule.specs.Rule.{Rule}
@@ -60,7 +61,8 @@ module _ (pass : Pass) (fr : List ℕ) (good : Good fr) where
     other = λ e. alone (verdict_rule (see fr) n) refl e;
   }
     where
-      judged : {r : Rule Judgement} (o : Option (Rule Judgement)) → verdict_rule (see fr) n ≡ o → verdict_rule (see fr) n
+      judged : {r : Rule Judgement} (o : Option (Rule Judgement)) → verdict_rule (see fr) n ≡ o
+          → verdict_rule (see fr) n
           ≡ some r
           → ThenVerdict pass fr n (row_frame (row_answer pass (see fr) n))
       judged none q e = never (cc)
@@ -84,7 +86,8 @@ module _ (pass : Pass) (fr : List ℕ) (good : Good fr) where
       go false q = ap length ((one_each n h).other (eqb-false (row_kind fr n) 5 q))
 
   -- ALL ROWS: one frame a row, and one more a compose
-  pub outputs-below : (n : ℕ) → n ≤ row_count (starts_of fr) → length (outputs pass (see fr) n) ≡ n + composes_below fr n
+  pub outputs-below : (n : ℕ) → n ≤ row_count (starts_of fr)
+      → length (outputs pass (see fr) n) ≡ n + composes_below fr n
   unfolding outputs sum_below
   outputs-below zero h = refl
   outputs-below (suc n) h =
@@ -95,5 +98,6 @@ module _ (pass : Pass) (fr : List ℕ) (good : Good fr) where
         frames-of n (omega arith),
       )
 
-  pub one-a-row : length (outputs pass (see fr) (row_count (starts_of fr))) ≡ row_count (starts_of fr) + compose_count fr
+  pub one-a-row : length (outputs pass (see fr) (row_count (starts_of fr))) ≡ row_count (starts_of fr)
+      + compose_count fr
   one-a-row = outputs-below (row_count (starts_of fr)) (omega arith)

@@ -31,7 +31,8 @@ use Rattle.rule.specs.Rule.{Rule, done, come, past, Answers, run, Step, step, Re
 use Rattle.rule.specs.InOrder.{answers, among_readings, readings, ours, reading}
 use Rattle.rule.proofs.InOrder.{at-within}
 use Rattle.rule_types.specs.Canonical.{canonical, equal_types, identical}
-use Rattle.rule_types.specs.Comparison.{in_form, by_struct, by_identical, compare, answered, Sound, tested, right_tested}
+use Rattle.rule_types.specs.Comparison.{in_form, by_struct, by_identical, compare, answered, Sound, tested}
+use Rattle.rule_types.specs.Comparison.{right_tested}
 use Rattle.rule_types.specs.Comparison.{handed}
 use Rattle.rule_rows.specs.declared.Pass.{Pass}
 use Rattle.rule_rows.specs.declared.Pass.TheVariants as Pa

@@ -175,7 +175,8 @@ module _ (sight : Sight) (earlier : Readings) where
       row-steps i n _ _ (λ a.
       h i a (or_part i (each_part asked (suc i) parts))
       ∙ ap (thing_steps sight (component i) (comes_to sight (each i) a))
-      (or-part i (each_part asked (suc i) parts) _ (each-steps asked each h (suc i) parts) (is_as_asked sight (each i) a)))
+      (or-part i (each_part asked (suc i) parts) _ (each-steps asked each h (suc i) parts)
+      (is_as_asked sight (each i) a)))
 
   column-steps : (z : VectorSize) (k : Scalar) (i : ℕ) (a : TypeAnswer) (rest : Bool → Rule Judgement)
       → steps (column_is z k i a rest)

@@ -53,7 +53,8 @@ member_at members i = get_or members i (record { 0 = 0 })
 -- last.
 abbrev pub read_line : List TypeNumber → TypeInner → Option ReadLine
 read_line members (Ti.Vector z k) = some (record { counts = none; each = λ (i : ℕ). part_of k })
-read_line members (Ti.Matrix c r k) = some (record { counts = some (vector_size_number c); each = λ (i : ℕ). column r k })
+read_line members (Ti.Matrix c r k) =
+    some (record { counts = some (vector_size_number c); each = λ (i : ℕ). column r k })
 read_line members (Ti.Array b z t) = array_line b z
 read_line members (Ti.Struct m n t) = some
     (record { counts = some (length members); each = λ (i : ℕ). same_as (member_at members i) })

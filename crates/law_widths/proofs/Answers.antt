@@ -20,7 +20,8 @@ use Rattle.frames.specs.Bytes.{byte, bytes_of, frame_at, frame_count}
 use Rattle.frames.specs.Out.{refused_frame, one_frame}
 use Rattle.archive.specs.Starts.{starts_of, row_count}
 use Rattle.archive.specs.Names.{is_row}
-use Rattle.rule.specs.Answers.{number, value, malformed, Typed, given, refused, chosen_refusal, row, component, composed}
+use Rattle.rule.specs.Answers.{number, value, malformed, Typed, given, refused, chosen_refusal, row, component}
+use Rattle.rule.specs.Answers.{composed}
 use Rattle.rule.specs.Answers.{nowhere, chosen, Judgement, Result, told, newer, row_frame}
 use Rattle.rule.specs.Things.{see}
 use Rattle.rule_rows.specs.declared.Pass.{Pass}
@@ -33,7 +34,8 @@ use Rattle.law_answers.proofs.Bytes.{bytes-length, bytes-append, frame-after}
 use Rattle.law_verdicts.specs.Numbers.{frame_of}
 use Rattle.law_verdicts.proofs.Numbers.{verdict-numbers}
 use Rattle.rule_file.specs.File.{over_file, read_file}
-use Rattle.rule_file.specs.Typing.{answers_after, output_count, RowGiven, answer, no_row, not_accepted, row_given, row_type}
+use Rattle.rule_file.specs.Typing.{answers_after, output_count, RowGiven, answer, no_row, not_accepted, row_given}
+use Rattle.rule_file.specs.Typing.{row_type}
 use Rattle.rule_file.specs.Typing.{row_said}
 use Rattle.law_file.proofs.Laws.{accepted-when}
 use Rattle.law_widths.specs.Widths.{ValueWidth}
@@ -54,7 +56,8 @@ in-range-width pass fr n (told (given (malformed f))) h = absurd h
 in-range-width pass fr n (told (refused e)) h = other-family (row_frame (told (refused e))) 10 refl
     (λ q. absurd (omega arith))
 in-range-width pass fr n (told (chosen_refusal f)) h = absurd h
-in-range-width pass fr n (newer (row r)) h = other-family (row_frame (newer (row r))) 10 refl (λ e. absurd (omega arith))
+in-range-width pass fr n (newer (row r)) h =
+    other-family (row_frame (newer (row r))) 10 refl (λ e. absurd (omega arith))
 in-range-width pass fr n (newer (component i)) h = absurd h
 in-range-width pass fr n (newer composed) h = absurd h
 in-range-width pass fr n (newer nowhere) h = absurd h

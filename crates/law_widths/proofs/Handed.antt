@@ -19,7 +19,8 @@ use Rattle.frames.specs.Layout.{type_layout, number_layout}
 use Rattle.frames.specs.Forms.{type_of}
 use Rattle.archive.specs.Starts.{starts_of}
 use Rattle.rule.specs.declared.Fault.TheVariants as Fa
-use Rattle.rule.specs.Answers.{TypeAnswer, number, malformed, valued, is_number, is_value, type_answer_of, row_answer_of}
+use Rattle.rule.specs.Answers.{TypeAnswer, number, malformed, valued, is_number, is_value, type_answer_of}
+use Rattle.rule.specs.Answers.{row_answer_of}
 use Rattle.rule.specs.Answers.{given, chosen_refusal, chosen, told, newer}
 use Rattle.rule.specs.Things.{form, fault_of, see}
 use Rattle.rule_types.specs.Comparison.{sameness_of, same_in, same_type}
@@ -41,7 +42,8 @@ other-malformed f o =
     let u : fit ≡ false = unfit f o fit refl in
     let p : is_number f ≡ false = ap (λ (b : ℕ). eqb b 8 && (eqb (byte f 1) 0 && fits_all number_layout f)) o.value in
     let q : is_value f ≡ false = ap (λ (b : Bool). eqb (byte f 0) 9 && b) u ∙ and-false (eqb (byte f 0) 9) in
-    ap (λ (b : Bool). cond b (number (record { 0 = half f 2 })) (cond (is_value f) (valued f (type_of f)) (malformed f)))
+    ap (λ (b : Bool). cond b (number (record { 0 = half f 2 }))
+    (cond (is_value f) (valued f (type_of f)) (malformed f)))
     p
     ∙ ap (λ (b : Bool). cond b (valued f (type_of f)) (malformed f)) q
 
@@ -70,7 +72,8 @@ module _ (limit : ℕ) (t : List ℕ) (f n : ℕ) (e : read_file limit t f NotLe
   -- whatever the right one is
   pub other-left : (l r : Frame) → OtherWidth l → same_types limit t f l r ≡ Sa.Field
   unfolding same_in
-  other-left l r o = asked l r ∙ ap sameness_of (left-five fr (starts_of fr) (type_answer_of l) (type_answer_of r) (five l o))
+  other-left l r o = asked l r
+      ∙ ap sameness_of (left-five fr (starts_of fr) (type_answer_of l) (type_answer_of r) (five l o))
 
   -- where the left one gets neither 5 nor 6
   pub other-right : (l r : Frame) → fault_of (starts_of (decoded t n)) (type_answer_of l) ≡ Fa.Sound → OtherWidth r

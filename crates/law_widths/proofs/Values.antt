@@ -78,7 +78,8 @@ moved : (f : Frame) (k n : ℕ) → eqb k n ≡ true → fits_all (type_layout (
 moved f k n p t = ap (λ (j : ℕ). fits_all (type_layout (type_kind_of j)) f) (sym (eqb-true k n p)) ∙ t
 
 -- the scalar of a frame that fits its kind's layout fits
-holds : (f : Frame) (k : ℕ) → holds_scalar k ≡ true → fits_all (type_layout (type_kind_of k)) f ≡ true → fits scalar f ≡ true
+holds : (f : Frame) (k : ℕ) → holds_scalar k ≡ true → fits_all (type_layout (type_kind_of k)) f ≡ true
+    → fits scalar f ≡ true
 holds f k h t = go (eqb k 1) (eqb k 2) (eqb k 3) (eqb k 4) (eqb k 5) (eqb k 7) refl refl refl refl refl refl h
   where
     go : (a b c d e g : Bool) → eqb k 1 ≡ a → eqb k 2 ≡ b → eqb k 3 ≡ c → eqb k 4 ≡ d → eqb k 5 ≡ e → eqb k 7 ≡ g
@@ -117,6 +118,7 @@ converts f h =
 -- an As row that fits its layout
 pub as-width : (f : Frame) → byte f 1 ≡ 23 → fits_all (row_layout (row_kind_of (byte f 1))) f ≡ true → AsWidth f
 as-width f e t =
-    let u : fits_all (row_layout (row_kind_of 23)) f ≡ true = ap (λ (k : ℕ). fits_all (row_layout (row_kind_of k)) f) (sym e)
+    let u : fits_all (row_layout (row_kind_of 23)) f ≡ true =
+    ap (λ (k : ℕ). fits_all (row_layout (row_kind_of k)) f) (sym e)
     ∙ t in
     converts f (and_first (fits convert f) _ (and_second (fits (scalar_kind 6) f) _ u))

@@ -33,7 +33,8 @@ module _ (less more : Sight) (wider : (c : Thing) (s : Seen c) → less c ≡ so
       go : (o : Option Place) → met less (reading less rules n rule) ≡ o → ours more rules n rule ≡ told a
       go none q = sym (carried less more wider rules n rule q) ∙ e
       go (some p) q =
-          let h : ours less rules n rule ≡ newer p = ((claim less rules (λ m. newer p) n (newer p) rule).exactly p).1 q in
+          let h : ours less rules n rule ≡ newer p =
+          ((claim less rules (λ m. newer p) n (newer p) rule).exactly p).1 q in
           absurd (let z : ◌≡◌ {A = ℕ} 0 1 = cc in omega arith)
 
   kept_fresh : {A : Type 0} (n : ℕ) (rule : Rule A) (o : Result A) → ours less rules n rule ≡ o
@@ -50,6 +51,7 @@ module _ (less more : Sight) (wider : (c : Thing) (s : Seen c) → less c ≡ so
 
   -- and of a verdict, or any rule, over them
   pub carried-rule : {A : Type 0} (n : ℕ) (rule : Rule A)
-      → kept_or (ours less rules n rule) (run more (among (carried_rows (λ m. ours less rules m (rules m)) n)) newer rule)
+      → kept_or (ours less rules n rule)
+      (run more (among (carried_rows (λ m. ours less rules m (rules m)) n)) newer rule)
       ≡ ours more rules n rule
   carried-rule n rule = rw (carried-fresh n) (kept_fresh n rule (ours less rules n rule) refl)

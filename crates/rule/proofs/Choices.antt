@@ -38,7 +38,8 @@ module _ (f : Frame) (below : Below f) where
       ∙ laid-back (number 2 ∷ []) f below (and_second (eqb (byte f 1) 0) _ r)
 
   -- a value
-  value-again : (eqb (byte f 0) 9 && fits_all (type_layout (type_kind_of (byte f 1))) f) ≡ true → (t : TypeForm) → type_of f
+  value-again : (eqb (byte f 0) 9 && fits_all (type_layout (type_kind_of (byte f 1))) f) ≡ true → (t : TypeForm)
+      → type_of f
       ≡ t
       → type_answer_frame (A.valued f t) ≡ f
   unfolding type_of

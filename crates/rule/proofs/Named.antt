@@ -37,7 +37,8 @@ use Rattle.archive.specs.Access.{type_in, type_at, row_in}
 use Rattle.archive.specs.ForProofs.{row_at}
 use Rattle.rule.specs.Things.{listed, item_type, item_space, item_result, maybe_item, Shown, constant, override}
 use Rattle.rule.specs.Things.{compose, function_argument, global_variable, local_variable, call_result}
-use Rattle.rule.specs.Things.{ray_query_vertex_positions, ray_query_get_intersection, kind, form, Form, see_form, see_row}
+use Rattle.rule.specs.Things.{ray_query_vertex_positions, ray_query_get_intersection, kind, form, Form, see_form}
+use Rattle.rule.specs.Things.{see_row}
 use Rattle.rule.specs.Things.{see}
 
 -- an item of a rank between two kinds is of the first

@@ -100,7 +100,8 @@ module _ (fr : List ℕ) where
   value-shows (Ti.Atomic x0) e = refl
   value-shows (Ti.Pointer x0 x1) e = ap (λ (v : Fault). see_form fr (starts_of fr) (sound_form (Ti.Pointer x0 x1) v)) e
   value-shows (Ti.ValuePointer x0 x1 x2) e = refl
-  value-shows (Ti.Array x0 x1 x2) e = ap (λ (v : Fault). see_form fr (starts_of fr) (sound_form (Ti.Array x0 x1 x2) v)) e
+  value-shows (Ti.Array x0 x1 x2) e =
+      ap (λ (v : Fault). see_form fr (starts_of fr) (sound_form (Ti.Array x0 x1 x2) v)) e
   value-shows (Ti.Struct x0 x1 x2) e = never (cc)
   value-shows (Ti.Image x0 x1 x2) e = refl
   value-shows (Ti.Sampler x0) e = refl
@@ -194,7 +195,8 @@ module _ (fr : List ℕ) where
     where
       go : row_kind_of (byte f 1) ≡ Rk.Math → Dec (byte f 1 < 35) → byte f 1 ≡ 22
       go m (yes l) = sym (row_kind-number (byte f 1) l) ∙ ap row_kind_number m
-      go m (no l) = never (let u : row_kind_of (byte f 1) ≡ Rk.Unknown = (unknown-row (byte f 1)).1 (inr (omega arith)) in
+      go m (no l) = never (let u : row_kind_of (byte f 1) ≡ Rk.Unknown =
+          (unknown-row (byte f 1)).1 (inr (omega arith)) in
           cc)
 
   row-none : (n : RowNumber) (r : RowForm) → row_at fr n ≡ r

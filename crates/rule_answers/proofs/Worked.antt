@@ -13,6 +13,6 @@ use Rattle.rule_answers.specs.Outputs.{outputs, frames_bytes, output_bytes}
 use Rattle.rule_answers.specs.Cases.{composed_file, handed_back}
 
 pub worked : output_bytes First composed_file ≡ handed_back
-unfolding lowest all_below build sum_below frame_at type_of item_of row_of member_of component_of start starts_of listed type_in
-    row_in vector_parts outputs frames_bytes
+unfolding lowest all_below build sum_below frame_at type_of item_of row_of member_of component_of start starts_of
+    listed type_in row_in vector_parts outputs frames_bytes
 worked = refl

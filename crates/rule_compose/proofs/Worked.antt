@@ -32,12 +32,12 @@ from n [] = []
 from n (w ∷ ws) = as_bytes n (verdict_of Pa.First (see compose_file) n) ∷ from (suc n) ws
 
 worked : from 0 wanted_verdicts ≡ wanted_verdicts
-unfolding each_part vector_parts equal_types identical listed type_in row_in frame_at type_of member_of item_of row_of component_of
-    start starts_of lowest all_below build sum_below
+unfolding each_part vector_parts equal_types identical listed type_in row_in frame_at type_of member_of item_of row_of
+    component_of start starts_of lowest all_below build sum_below
 worked = refl
 
 -- the file passes checks 4 to 6
 accepted : check_frames compose_file ≡ Accepted 191
-unfolding lowest all_below build sum_below frame_at type_of item_of row_of member_of component_of fields_fit order_ok start
-    starts_of names_ok early_ok index_ok check_frames
+unfolding lowest all_below build sum_below frame_at type_of item_of row_of member_of component_of fields_fit order_ok
+    start starts_of names_ok early_ok index_ok check_frames
 accepted = refl

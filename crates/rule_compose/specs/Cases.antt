@@ -55,7 +55,8 @@ types =
 -- rows 0 to 7, from which the others are composed: f32, vec3, u32, type 6, a row of kind 200, a row that is refused
 -- (number 10), a pointer to type 6, the struct of type 5
 abbrev values : List ℕ
-values = plain_row 4 0 ++ plain_row 4 1 ++ plain_row 4 8 ++ plain_row 4 6 ++ plain_row 200 0 ++ indexed 7 1 3 ++ plain_row 4 9
+values = plain_row 4 0 ++ plain_row 4 1 ++ plain_row 4 8 ++ plain_row 4 6 ++ plain_row 200 0 ++ indexed 7 1 3
+    ++ plain_row 4 9
     ++ plain_row 4 5
 
 abbrev composes : List Composed

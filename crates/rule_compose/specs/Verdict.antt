@@ -12,7 +12,8 @@ use Rattle.ir.specs.declared.ArraySize.TheVariants as As
 use Rattle.ir.specs.declared.TypeInner.{TypeInner}
 use Rattle.ir.specs.declared.TypeInner.TheVariants as Ti
 use Rattle.ir.specs.Numbers.{vector_size_number}
-use Rattle.rule.specs.Answers.{TypeAnswer, number, Typed, given, refused, chosen_refusal, component, composed, Judgement}
+use Rattle.rule.specs.Answers.{TypeAnswer, number, Typed, given, refused, chosen_refusal, component, composed}
+use Rattle.rule.specs.Answers.{Judgement}
 use Rattle.rule.specs.Answers.{passes, not_composed, count, part, broken}
 use Rattle.rule.specs.Things.{Form, form}
 use Rattle.rule.specs.Rule.{Rule, done, come, past}

@@ -21,17 +21,18 @@ wanted_lines = map (λ (c : List ℕ × String). characters c.1)
 
 pub answers-worked : map (λ (c : List ℕ × String). line_of [] (record { 0 = 5 }) (frame_at c.0 0)) answer_cases
     ≡ wanted_lines answer_cases
-unfolding frame_at word_table word_bytes digits piece_bytes spelled picked named scalar_words around vector brief within
-    pointer array_words cooperative_words class_name arrayed_name image whole manner reason refusal judged_words said shown
-    ending line_of
+unfolding frame_at word_table word_bytes digits piece_bytes spelled picked named scalar_words around vector brief
+    within pointer array_words cooperative_words class_name arrayed_name image whole manner reason refusal
+    judged_words said shown ending line_of
 answers-worked = refl
 
 pub faults-worked : map (λ (c : List ℕ × String). fault_line (frame_at c.0 0)) fault_cases ≡ wanted_lines fault_cases
 unfolding frame_at word_table word_bytes digits piece_bytes spelled picked fault_words
 faults-worked = refl
 
-pub sizes-worked : map (λ (c : List ℕ × String). size_line_of vector_file (record { 0 = 0 }) (frame_at c.0 0)) size_cases
+pub sizes-worked : map (λ (c : List ℕ × String). size_line_of vector_file (record { 0 = 0 }) (frame_at c.0 0))
+    size_cases
     ≡ wanted_lines size_cases
-unfolding frame_at word_table word_bytes digits piece_bytes spelled picked named scalar_words around vector brief within
-    whole size_words size_line_of
+unfolding frame_at word_table word_bytes digits piece_bytes spelled picked named scalar_words around vector brief
+    within whole size_words size_line_of
 sizes-worked = refl

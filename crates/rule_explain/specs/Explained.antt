@@ -59,7 +59,8 @@ fault_lines o = record { count = 1; line = λ (k : ℕ). fault_line (outcome_fra
 
 -- those of a text by a pass and within a limit, with buffers of the largest sizes that a file asks for
 unfoldable pub lines_of : Pass → (limit : ℕ) → List ℕ → Lines
-lines_of pass limit t = over_file fault_lines (file_lines pass) t (read_file limit t max_frame_bytes (Lent max_answer_bytes))
+lines_of pass limit t =
+    over_file fault_lines (file_lines pass) t (read_file limit t max_frame_bytes (Lent max_answer_bytes))
 
 -- THE TEXT for people
 abbrev pub explained : Pass → (limit : ℕ) → List ℕ → List ℕ

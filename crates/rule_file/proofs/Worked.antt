@@ -26,12 +26,12 @@ verdict_of_file n = verdict_given First (record { 0 = n }) composed_file
 pub rows-worked : row_of_file 0 ∷ row_of_file 1 ∷ row_of_file 2 ∷ []
     ≡ Ty.RowGiven.answer (told (given (number (record { 0 = 0 }))))
     ∷ Ty.RowGiven.answer (told (given (number (record { 0 = 1 })))) ∷ Ty.RowGiven.no_row ∷ []
-unfolding lowest all_below build sum_below frame_at type_of item_of row_of member_of component_of start starts_of listed type_in
-    row_in vector_parts
+unfolding lowest all_below build sum_below frame_at type_of item_of row_of member_of component_of start starts_of
+    listed type_in row_in vector_parts
 rows-worked = refl
 
 pub verdicts-worked : verdict_of_file 0 ∷ verdict_of_file 1 ∷ verdict_of_file 2 ∷ []
     ≡ Ty.VerdictGiven.no_compose ∷ Ty.VerdictGiven.verdict (told passes) ∷ Ty.VerdictGiven.no_row ∷ []
-unfolding lowest all_below build sum_below frame_at type_of item_of row_of member_of component_of start starts_of listed type_in
-    row_in vector_parts
+unfolding lowest all_below build sum_below frame_at type_of item_of row_of member_of component_of start starts_of
+    listed type_in row_in vector_parts
 verdicts-worked = refl

@@ -130,7 +130,8 @@ if_judged written an (not_accepted o) = an
 
 unfoldable pub answers_after_verdict : Pass → ℕ → List ℕ → ℕ → List ℕ → RowNumber → List ℕ
 answers_after_verdict pass limit t f an n =
-    over_file (λ (o : Outcome). an) (λ (fr : List ℕ). if_judged (answers_written pass an fr) an (verdict_given pass n fr)) t
+    over_file (λ (o : Outcome). an)
+    (λ (fr : List ℕ). if_judged (answers_written pass an fr) an (verdict_given pass n fr)) t
     (read_file limit t f (Lent (length an)))
 
 -- AS LINES, what the typing program prints
@@ -145,4 +146,5 @@ output_text pass fr = text_of (output_bytes pass fr) (frame_count (output_bytes 
 
 -- with buffers of the largest sizes that a file asks for
 unfoldable pub typed_text : Pass → ℕ → List ℕ → List ℕ
-typed_text pass limit t = over_file outcome_text (output_text pass) t (read_file limit t max_frame_bytes (Lent max_answer_bytes))
+typed_text pass limit t =
+    over_file outcome_text (output_text pass) t (read_file limit t max_frame_bytes (Lent max_answer_bytes))

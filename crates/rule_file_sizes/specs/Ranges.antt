@@ -29,7 +29,8 @@ by_tables least greatest short enough = cond (tables_short least greatest) short
 unfoldable pub size_range : ℕ → List ℕ → ℕ → List ℕ → List ℕ → TypeNumber → TypeRange
 size_range limit t f least greatest n =
     by_tables least greatest (Tr.NotAccepted (short_read limit t))
-    (over_file Tr.NotAccepted (λ (fr : List ℕ). type_range_in fr (starts_of fr) (counts_of least) (counts_of greatest) n) t
+    (over_file Tr.NotAccepted
+    (λ (fr : List ℕ). type_range_in fr (starts_of fr) (counts_of least) (counts_of greatest) n) t
     (read_file limit t f NotLent))
 
 -- IN THE DOCUMENT'S NUMBERS: alignment, least and greatest size in bytes; 45 and the lowest override at fault, before

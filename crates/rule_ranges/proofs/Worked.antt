@@ -38,13 +38,14 @@ said_from c k (x ∷ l) =
     numbers (type_range_said (range_at c (record { 0 = k }))) ∷ said_from c (suc k) l
 
 worked : map (λ (c : CountCase). said_from c 0 c.said) count_cases ≡ map (λ (c : CountCase). c.said) count_cases
-unfolding type_in frame_at type_of member_of item_of start starts_of lowest all_below array_of joined parts_of spanned struct_of
-    member_holds holding holds_pending fresh_parts fresh_struct measures_by measure_by range_in faulty_span type_range_in
+unfolding type_in frame_at type_of member_of item_of start starts_of lowest all_below array_of joined parts_of spanned
+    struct_of member_holds holding holds_pending fresh_parts fresh_struct measures_by measure_by range_in faulty_span
+    type_range_in
 worked = refl
 
 -- each file passes checks 4 to 6
 accepted : map (λ (c : CountCase). check_frames c.file) count_cases
     ≡ map (λ (c : CountCase). Accepted (frame_count c.file)) count_cases
-unfolding lowest all_below build sum_below frame_at type_of item_of row_of member_of component_of fields_fit order_ok start
-    starts_of names_ok early_ok index_ok check_frames
+unfolding lowest all_below build sum_below frame_at type_of item_of row_of member_of component_of fields_fit order_ok
+    start starts_of names_ok early_ok index_ok check_frames
 accepted = refl

@@ -71,7 +71,8 @@ between =
 abbrev strides : CountCase
 strides =
     case
-    (f32 ∷ vector 3 ∷ pending 1 0 12 ∷ struct 0 1 16 ∷ f16 ∷ pending 4 0 6 ∷ struct 1 2 0 ∷ struct 3 2 0 ∷ member_frame 2
+    (f32 ∷ vector 3 ∷ pending 1 0 12 ∷ struct 0 1 16 ∷ f16 ∷ pending 4 0 6 ∷ struct 1 2 0 ∷ struct 3 2 0
+    ∷ member_frame 2
     0
     ∷ member_frame 5 0 ∷ member_frame 0 0 ∷ member_frame 4 0
     ∷ member_frame 6 0 ∷ override ∷ [])
@@ -109,7 +110,8 @@ huge =
 abbrev over : CountCase
 over =
     case
-    (f32 ∷ pending 0 0 3 ∷ array_frame 1 2 4 ∷ array_frame 2 2 8 ∷ pending 1 0 4 ∷ dynamic 1 4 ∷ array_frame 5 2 4 ∷ struct
+    (f32 ∷ pending 0 0 3 ∷ array_frame 1 2 4 ∷ array_frame 2 2 8 ∷ pending 1 0 4 ∷ dynamic 1 4 ∷ array_frame 5 2 4
+    ∷ struct
     0 1 4
     ∷ array_frame 7 2 4 ∷ member_frame 1 0
     ∷ override ∷ [])

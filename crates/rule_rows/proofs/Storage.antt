@@ -59,7 +59,8 @@ module _ (fr : List ℕ) (pass : Pass) (earlier : Answers) (new : Place → Resu
   pub first-storage-newer : OfStorage → run (first_see fr) earlier new (typed pass here) ≡ new (row here)
   first-storage-newer o = go o.shown o.reads o.own
     where
-      go : (x : Shown) → Samples image x → see fr (kind here) ≡ some x → run (first_see fr) earlier new (typed pass here)
+      go : (x : Shown) → Samples image x → see fr (kind here) ≡ some x
+          → run (first_see fr) earlier new (typed pass here)
           ≡ new (row here)
       go _ samples q = rw (q, o.answer, o.into, o.is, run)
       go _ loads q = rw (q, o.answer, o.into, o.is, run)

@@ -22,7 +22,8 @@ use Rattle.ir.specs.declared.BinaryOperator.{BinaryOperator}
 use Rattle.ir.specs.declared.BinaryOperator.TheVariants as Bo
 use Rattle.ir.specs.declared.TypeInner.{TypeInner}
 use Rattle.ir.specs.declared.TypeInner.TheVariants as Ti
-use Rattle.ir.specs.Numbers.{vector_size_number, vector_size_of, scalar_kind_number, scalar_kind_of, width_number, width_of}
+use Rattle.ir.specs.Numbers.{vector_size_number, vector_size_of, scalar_kind_number, scalar_kind_of, width_number}
+use Rattle.ir.specs.Numbers.{width_of}
 use Rattle.ir.specs.Scalars.{I32, U32, F16, F32, BOOL, equal_scalars, ABSTRACT-FLOAT}
 use Rattle.ir.proofs.Numbered.{vector_size-back, scalar_kind-back, width_back}
 use Rattle.rule_rows.specs.declared.Shape.{Shape}
@@ -49,7 +50,8 @@ wide_bool = record { kind = Sk.Bool; width = Wd.Four }
 
 in-no-line :
     -- bools with ^; matrices divided; a sum of two sizes, of two kinds and of two widths
-    wgsl_result Bo.ExclusiveOr (Ti.Scalar BOOL) (Ti.Scalar BOOL) ∷ wgsl_result Bo.Divide mat3x2 mat3x2 ∷ wgsl_result Bo.Add
+    wgsl_result Bo.ExclusiveOr (Ti.Scalar BOOL) (Ti.Scalar BOOL) ∷ wgsl_result Bo.Divide mat3x2 mat3x2
+    ∷ wgsl_result Bo.Add
     (vec2 F32) (Ti.Vector Vs.Tri F32)
     ∷ wgsl_result Bo.Add f32 (Ti.Scalar I32) ∷ wgsl_result Bo.Add f32 (Ti.Scalar F16)
     -- products of matrices and vectors whose inner sizes do not agree

@@ -12,7 +12,8 @@ use Rattle.rule_rows.specs.Variables.{literal, constant, override, zero_value, c
 use Rattle.rule_rows.specs.Variables.{global_variable, local_variable, load}
 use Rattle.rule_rows.specs.Images.{image_sample, image_load, image_query}
 use Rattle.rule_rows.specs.Operators.{unary, binary_by, select, derivative, relational, cast}
-use Rattle.rule_rows.specs.Results.{atomic_result, subgroup_operation_result, work_group_uniform_load_result, call_result}
+use Rattle.rule_rows.specs.Results.{atomic_result, subgroup_operation_result, work_group_uniform_load_result}
+use Rattle.rule_rows.specs.Results.{call_result}
 use Rattle.rule_rows.specs.Results.{array_length, ray_query_proceed_result}
 use Rattle.rule_rows.specs.Results.{ray_query_get_intersection, ray_query_vertex_positions, subgroup_ballot_result}
 use Rattle.rule_rows.specs.Results.{cooperative_load, cooperative_multiply_add}

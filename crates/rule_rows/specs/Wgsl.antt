@@ -122,7 +122,8 @@ shift_of n s m r = when (shift_test n s m r) (plain n s)
 
 -- LogicalAnd, LogicalOr: of two bools, no vectors
 abbrev pub logicals_test : OptionVectorSize → Scalar → OptionVectorSize → Scalar → Bool
-logicals_test n s m r = (equal_scalars s BOOL && equal_scalars r BOOL) && (equal_counts n Ov.None && equal_counts m Ov.None)
+logicals_test n s m r =
+    (equal_scalars s BOOL && equal_scalars r BOOL) && (equal_counts n Ov.None && equal_counts m Ov.None)
 
 abbrev pub logicals_of : OptionVectorSize → Scalar → OptionVectorSize → Scalar → Option TypeInner
 logicals_of n s m r = when (logicals_test n s m r) (plain Ov.None BOOL)

@@ -16,12 +16,12 @@ use Rattle.rule_sizes.specs.Sizes.{array_of, joined, parts_of, spanned, struct_o
 use Rattle.rule_sizes.specs.Cases.{sizes_file, wanted_measures}
 
 worked : measures sizes_file (starts_of sizes_file) 21 ≡ wanted_measures
-unfolding measures array_of joined parts_of spanned struct_of type_in frame_at type_of member_of start starts_of lowest all_below
-    build sum_below
+unfolding measures array_of joined parts_of spanned struct_of type_in frame_at type_of member_of start starts_of
+    lowest all_below build sum_below
 worked = refl
 
 -- the file passes checks 4 to 6
 accepted : check_frames sizes_file ≡ Accepted 33
-unfolding lowest all_below build sum_below frame_at type_of item_of row_of member_of component_of fields_fit order_ok start
-    starts_of names_ok early_ok index_ok check_frames
+unfolding lowest all_below build sum_below frame_at type_of item_of row_of member_of component_of fields_fit order_ok
+    start starts_of names_ok early_ok index_ok check_frames
 accepted = refl

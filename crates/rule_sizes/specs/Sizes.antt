@@ -1,7 +1,8 @@
 -- Alignment and size of each type, from those of the types that it names (document 02, request 5); or number 42, 43
 -- or 44 and the lowest faulty type that it rests on. What these mean stands apart, in Meaning.antt; crate law_sizes
 -- has the laws that join the two.
-use Rattle.std.specs.Prelude.{ℕ, zero, suc, ◌+◌, ◌*◌, ◌/◌, ◌%◌, Bool, true, cond, ◌&&◌, List, [], ◌++◌, eqb, ltb, leb, length, drop, get_or}
+use Rattle.std.specs.Prelude.{ℕ, zero, suc, ◌+◌, ◌*◌, ◌/◌, ◌%◌, Bool, true, cond, ◌&&◌, List, [], ◌++◌, eqb, ltb, leb}
+use Rattle.std.specs.Prelude.{length, drop, get_or}
 use Rattle.ir.specs.declared.TypeNumber.{TypeNumber}
 use Rattle.ir.specs.declared.MemberNumber.{MemberNumber}
 use Rattle.ir.specs.declared.VectorSize.{VectorSize}

@@ -52,7 +52,8 @@ frame_same f g e = ap (λ (l : List ℕ). framed (λ i. get_or l i 0)) (same_ali
 pub equal-types : (s t : TypeInner) → (equal_types s t ≡ true) ↔ (s ≡ t)
 unfolding equal_types
 equal-types s t = (
-  λ e. (let h : Tf.Known s ≡ Tf.Known t = sym (type-back s 9) ∙ ap type_of (frame_same (type_frame 9 s) (type_frame 9 t) e)
+  λ e. (let h : Tf.Known s ≡ Tf.Known t = sym (type-back s 9)
+      ∙ ap type_of (frame_same (type_frame 9 s) (type_frame 9 t) e)
       ∙ type-back t 9 in cc),
   λ e. ap (λ (u : TypeInner). alike_bytes (bytes_of (type_frame 9 s)) (bytes_of (type_frame 9 u))) (sym e)
       ∙ alike_same (bytes_of (type_frame 9 s)),

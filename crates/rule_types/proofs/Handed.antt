@@ -44,7 +44,8 @@ malformed-five s (value t) e = never (cc)
 malformed-five s (malformed f) e = refl
 
 module _ (fr : List ℕ) (s : Starts) where
-  pub left-sound : (a b : TypeAnswer) → fault_of s a ≡ Fa.Sound → given fr s (handed a b) ≡ given fr s (right_tested a b)
+  pub left-sound : (a b : TypeAnswer) → fault_of s a ≡ Fa.Sound
+      → given fr s (handed a b) ≡ given fr s (right_tested a b)
   left-sound a b p = rw (p, given, run)
 
   pub right-field : (a b : TypeAnswer) → fault_of s b ≡ Fa.Field → given fr s (right_tested a b) ≡ told field

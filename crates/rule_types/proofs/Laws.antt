@@ -95,7 +95,8 @@ module _ (fr : List ℕ) (s : Starts) where
     both (Tf.Known x) (Tf.Known y) h f e = e x
 
     by-forms : (a b : TypeAnswer) (k : Bool → Rule A)
-        → ran (in_forms p a b k) ≡ on_bool (by_forms (canonical_of fr s a) (canonical_of fr s b)) (λ x. ran (k x)) (new p)
+        → ran (in_forms p a b k)
+        ≡ on_bool (by_forms (canonical_of fr s a) (canonical_of fr s b)) (λ x. ran (k x)) (new p)
     by-forms a b k =
         look (λ u. come p (form b) (λ y. in_form p (λ v. k (equal_types u v)) y.inner)) a (form_in fr s a) refl
         ∙ both (canonical_of fr s a) (canonical_of fr s b) _ (λ x. ran (k x))
@@ -178,10 +179,12 @@ module _ (fr : List ℕ) (s : Starts) where
   -- YES, exactly when the frames are identical, or neither is a struct's number and the canonical forms are equal as
   -- data
 
-  yes-when : (a b : TypeAnswer) (i q : Bool) (u v : TypeForm) → identical a b ≡ i → (is_struct fr s a || is_struct fr s b)
+  yes-when : (a b : TypeAnswer) (i q : Bool) (u v : TypeForm) → identical a b ≡ i
+      → (is_struct fr s a || is_struct fr s b)
       ≡ q
       → canonical_of fr s a ≡ u
-      → canonical_of fr s b ≡ v → told_of (by_answers i q u v) ≡ told alike → (type_answer_frame a ≡ type_answer_frame b)
+      → canonical_of fr s b ≡ v → told_of (by_answers i q u v) ≡ told alike
+      → (type_answer_frame a ≡ type_answer_frame b)
       ⊎ Equal fr s a b
   yes-when a b true q u v qi qs qu qv e = inl ((identical-frames a b).0 qi)
   yes-when a b false true u v qi qs qu qv e = never (cc)
@@ -231,7 +234,8 @@ module _ (fr : List ℕ) (s : Starts) where
   structs-differ n m p q h d = compared_is (number n) (number m) p q ∙ go (identical (number n) (number m)) refl
     where
       go : (i : Bool) → identical (number n) (number m) ≡ i
-          → told_of (by_answers i (is_struct fr s (number n) || is_struct fr s (number m)) (canonical_of fr s (number n))
+          → told_of (by_answers i (is_struct fr s (number n) || is_struct fr s (number m))
+          (canonical_of fr s (number n))
           (canonical_of fr s (number m))) ≡ told unlike
       go true e = absurd (d (number_same n m ((identical-frames (number n) (number m)).0 e)))
       go false e = rw h

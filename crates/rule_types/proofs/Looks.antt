@@ -138,7 +138,8 @@ module _ (fr : List ℕ) (rd : Readings) where
   line a b (pointer_to_unknown x) (pointer y) p q = refl
   line a b (pointer_to_unknown x) (pointer_to_unknown y) p q = refl
 
-  no_line : (a b : TypeAnswer) (s t : Shape) → (is_struct_shape s || is_struct_shape t) ≡ true → looked (looks a b s t) ≡ []
+  no_line : (a b : TypeAnswer) (s t : Shape) → (is_struct_shape s || is_struct_shape t) ≡ true
+      → looked (looks a b s t) ≡ []
   no_line a b struct struct e = refl
   no_line a b struct unknown e = refl
   no_line a b struct other e = refl
@@ -207,7 +208,8 @@ module _ (fr : List ℕ) (rd : Readings) where
   struct_shape (malformed f) p = refl
 
   -- of two sound answers
-  module _ (a b : TypeAnswer) (p : fault_of (starts_of fr) a ≡ Fa.Sound) (q : fault_of (starts_of fr) b ≡ Fa.Sound) where
+  module _ (a b : TypeAnswer) (p : fault_of (starts_of fr) a ≡ Fa.Sound)
+      (q : fault_of (starts_of fr) b ≡ Fa.Sound) where
     struct-steps : (s : Bool) → (is_struct_shape (shape_of fr a) || is_struct_shape (shape_of fr b)) ≡ s
         → steps (by_struct nowhere a b answered s) ≡ looked (looks a b (shape_of fr a) (shape_of fr b))
     struct-steps true e = sym (no_line a b (shape_of fr a) (shape_of fr b) e)

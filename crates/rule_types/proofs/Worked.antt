@@ -26,12 +26,12 @@ abbrev wanted : ComparedCase → Result Compared
 wanted c = c.outcome
 
 worked : map given compared_cases ≡ map wanted compared_cases
-unfolding same_type same_in equal_types identical listed type_in frame_at type_of member_of start starts_of lowest all_below
-    build sum_below
+unfolding same_type same_in equal_types identical listed type_in frame_at type_of member_of start starts_of lowest
+    all_below build sum_below
 worked = refl
 
 -- the file passes checks 4 to 6
 accepted : check_frames compared_file ≡ Accepted 9
-unfolding lowest all_below build sum_below frame_at type_of item_of row_of member_of component_of fields_fit order_ok start
-    starts_of names_ok early_ok index_ok check_frames
+unfolding lowest all_below build sum_below frame_at type_of item_of row_of member_of component_of fields_fit order_ok
+    start starts_of names_ok early_ok index_ok check_frames
 accepted = refl

@@ -9,7 +9,8 @@ use Rattle.archive.specs.declared.Starts.{Starts}
 use Rattle.archive.specs.Starts.{starts_of}
 use Rattle.rule.specs.declared.Fault.{Fault}
 use Rattle.rule.specs.declared.Fault.TheVariants as Fa
-use Rattle.rule.specs.Answers.{TypeAnswer, number, value, malformed, type_answer_of, Place, nowhere, Result, told, newer}
+use Rattle.rule.specs.Answers.{TypeAnswer, number, value, malformed, type_answer_of, Place, nowhere, Result, told}
+use Rattle.rule.specs.Answers.{newer}
 use Rattle.rule.specs.Answers.{Compared, alike, unlike, field, index}
 use Rattle.rule.specs.Things.{form, struct_number, fault, fault_of, see_in}
 use Rattle.rule.specs.Rule.{Rule, done, come, run}

@@ -88,4 +88,5 @@ abbrev pub comparison_reading : List ℕ → TypeAnswer → TypeAnswer → List 
 comparison_reading fr a b =
     step nowhere (fault a) ∷ step nowhere (fault b)
     ∷ cond (identical a b) []
-    (step nowhere (struct_number a) ∷ step nowhere (struct_number b) ∷ looked (looks a b (shape_of fr a) (shape_of fr b)))
+    (step nowhere (struct_number a) ∷ step nowhere (struct_number b)
+    ∷ looked (looks a b (shape_of fr a) (shape_of fr b)))

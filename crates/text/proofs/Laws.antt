@@ -50,7 +50,8 @@ Bytes l = (i : ℕ) → get_or l i 0 < 256
 pub most-small : (limit : ℕ) → most_frames limit ≤ max_frames
 unfolding most_frames
 most-small limit =
-    by-test (λ m. m ≤ max_frames) (leb 1 limit && leb limit max_frames) (λ e. leb-true _ _ (and_second (leb 1 limit) _ e))
+    by-test (λ m. m ≤ max_frames) (leb 1 limit && leb limit max_frames)
+    (λ e. leb-true _ _ (and_second (leb 1 limit) _ e))
     (λ e. omega arith)
 
 -- which it is: the limit handed in from 1 to 1,024, and 1,024 for 0 and for any higher one
@@ -138,7 +139,8 @@ module _ (limit : ℕ) (t : List ℕ) (f : ℕ) (room : AnswerRoom) where
       go l (At k) e = torn k (record { within = l; line = found_at (line_ok t) (line_count t) k e })
       go l Nothing e =
           let w : Whole t = λ k. none-all (line_ok t) (line_count t) k e in
-          by-test P (too_short t f room) (λ s. short (record { within = l; whole = w; lacks = (one-lacks t f room).0 s }))
+          by-test P (too_short t f room)
+          (λ s. short (record { within = l; whole = w; lacks = (one-lacks t f room).0 s }))
           (λ s. accepted (record {
             within = l;
             whole = w;

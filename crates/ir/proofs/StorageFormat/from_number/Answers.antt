@@ -7,4 +7,5 @@ use Rattle.ir.proofs.StorageFormat.from_number.Goals as goal
 
 pub returns-in_default : goal.returns-in_default
 returns-in_default c =
-    let h : length storage_formats ≤ c.args.n = omega arith in sym (get_or-eq_default storage_formats R8Unorm {n = c.args.n} h)
+    let h : length storage_formats ≤ c.args.n = omega arith in
+    sym (get_or-eq_default storage_formats R8Unorm {n = c.args.n} h)
