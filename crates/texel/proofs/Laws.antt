@@ -5,13 +5,12 @@ use Prim.Native.Nat.{ℕ, ◌+◌, ◌*◌, ◌-◌, ◌/◌, ◌%◌, ◌≤◌
 use native.Mathlib.Decide.{dec_lt, dec_le}
 use native.Mathlib.Omega.{arith}
 use mathlib.Core.Path.{◌≡◌, refl, sym, ap, ◌∙◌}
-use mathlib.Core.Bool.{Bool, true, false, cond, ◌||◌}
+use mathlib.Core.Bool.{Bool, true, false, ◌||◌}
 use mathlib.Core.Logic.{◌↔◌}
-use lib.Dec.{ltb, leb, eqb}
+use lib.Dec.{eqb}
 use borrow.Author.Tests.{lt-ltb, le-ltb, le-leb, lt-leb, eqb-true}
 use Rattle.scan.specs.Lowest.{all_below}
 use Rattle.scan.proofs.Laws.{all-each}
-use Rattle.texel.specs.declared.Texel.{Texel}
 use Rattle.texel.specs.declared.Texel.TheVariants.{Given, Range}
 use Rattle.texel.specs.Texel.{tied, rounded, texel_of}
 

@@ -1,5 +1,5 @@
 -- The whole line is tested: a turn takes one character more, and the line feed comes last.
-use Rattle.std.proofs.Common.{◌≡◌, refl, arith}
+use Rattle.std.proofs.Common.{refl, arith}
 use native.Mathlib.Nat.{le_antisymm}
 use Rattle.scan.specs.Lowest.{all_below}
 use Rattle.scan.proofs.Laws.{all-and}
