@@ -5,9 +5,8 @@ use native.Mathlib.Numerals.{add-one}
 use native.Mathlib.Omega.{arith}
 use mathlib.Core.Path.{◌≡◌, refl, sym, ap, ◌∙◌}
 use mathlib.Core.List.{List, [], ◌∷◌, ◌++◌, append_assoc, append-nil}
-use lib.ListN.{length, take, drop, get_or, set, length-append, length-take, length-drop}
+use lib.ListN.{length, take, drop, get_or, set, length-append, length-drop}
 use lib.Seq.{take_at, drop_at, drop-drop, drop-append-add, set_split, length-take-le, append_snoc, take-suc}
-use lib.Seq.{take-length}
 use borrow.Author.Tests.{lt-ltb, le-ltb, le-leb}
 use Rattle.rule_explain.specs.Lines.{digits, piece_bytes, spelled}
 use Rattle.explain_words.specs.ForProofs.{written, put_in, put_pieces, place_after}
