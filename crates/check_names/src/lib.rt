@@ -5,7 +5,8 @@ ghost use Rattle.std.specs.Prelude.{◌≡◌, ◌&&◌, ◌+◌, ◌-◌, leb, 
 ghost use Rattle.frames.specs.Bytes.{half};
 ghost use Rattle.frames.specs.Forms.{row_as, row_of};
 ghost use Rattle.archive.specs.Starts.{member_count, component_count};
-ghost use Rattle.archive.specs.Names.{is_type, size_names, type_names, type_form_names, result_names, item_names, is_earlier};
+ghost use Rattle.archive.specs.Names.{is_type, size_names, type_names, type_form_names, result_names, item_names};
+ghost use Rattle.archive.specs.Names.{is_earlier};
 ghost use Rattle.archive.specs.Names.{query_names, relational_names, row_form_names};
 
 use archive::Starts;

@@ -1,6 +1,7 @@
 // Alignment and size of types that name no type: WGSL's scalars, vectors, matrices and atomics.
 ghost use Rattle.std.specs.Prelude.{◌≡◌};
-ghost use Rattle.rule_sizes.specs.Wgsl.{bytes, alignment_of, round_up, integer_align, float_align, number_align, align_count};
+ghost use Rattle.rule_sizes.specs.Wgsl.{bytes, alignment_of, round_up, integer_align, float_align, number_align};
+ghost use Rattle.rule_sizes.specs.Wgsl.{align_count};
 ghost use Rattle.rule_sizes.specs.Wgsl.{vector_align, vector_bytes, matrix_bytes};
 ghost use Rattle.rule_sizes.specs.Sizes.{scalar_measure, vector_measure, matrix_measure, leaf_of};
 
