@@ -17,7 +17,7 @@ def unbreakable(line):
 def main():
     wide = 0
     for top, folders, names in os.walk('crates'):
-        folders.sort()
+        folders[:] = sorted(folder for folder in folders if folder != 'out')
         for name in sorted(names):
             if not name.endswith(('.rt', '.antt')):
                 continue

@@ -1,0 +1,92 @@
+// The rows of a file, and its composes.
+ghost use Rattle.std.specs.Prelude.{◌≡◌, length};
+ghost use Rattle.text.specs.declared.AnswerRoom.TheVariants.{Lent};
+ghost use Rattle.frames.specs.Bytes.{put_frame};
+ghost use Rattle.frames.specs.Out.{outcome_frame, one_frame};
+ghost use Rattle.rule_file.specs.File.{read_file, frames_after};
+ghost use Rattle.rule_file.specs.Typing.{answers_after, row_type, row_said, answers_after_row, compose_verdict, verdict_said};
+ghost use Rattle.rule_file.specs.Typing.{answers_after_verdict};
+ghost use Rattle.rule_file.specs.Exported.{no_room, by_room, outcome_number, one_number, pass_of};
+
+// Types every row of a file and judges every compose.
+#[unsafe(no_mangle)]
+pub extern "C" fn gelmusko_type_rows(
+    text: &[u8],
+    limit: u32,
+    pass: u32,
+    frames: &mut [u8],
+    answers: &mut [u8],
+    out: &mut [u8],
+) -> u32
+    ensures outcome { result
+        ≡ by_room out.old (no_room limit text.now)
+        (outcome_number (read_file limit text.now
+        (length frames.old) (Lent (length answers.old)))) }
+    ensures frames { frames.new
+        ≡ by_room out.old frames.old
+        (frames_after limit text.now frames.old (Lent (length answers.old))) }
+    ensures answers { answers.new
+        ≡ by_room out.old answers.old
+        (answers_after (pass_of pass) limit text.now (length frames.old) answers.old) }
+    ensures out { out.new
+        ≡ put_frame out.old 0 (outcome_frame (read_file limit text.now (length frames.old)
+        (Lent (length answers.old)))) }
+{
+    gelmusko::rows::gelmusko_type_rows(text, limit, pass, frames, answers, out)
+}
+
+// The answer of one row.
+#[unsafe(no_mangle)]
+pub extern "C" fn gelmusko_row_type(
+    text: &[u8],
+    limit: u32,
+    pass: u32,
+    frames: &mut [u8],
+    answers: &mut [u8],
+    row: u32,
+    out: &mut [u8],
+) -> u32
+    ensures outcome { result
+        ≡ by_room out.old (no_room limit text.now)
+        (one_number (row_said (row_type (pass_of pass) limit text.now
+        (length frames.old) (length answers.old) (record { 0 = row })))) }
+    ensures frames { frames.new
+        ≡ by_room out.old frames.old
+        (frames_after limit text.now frames.old (Lent (length answers.old))) }
+    ensures answers { answers.new
+        ≡ by_room out.old answers.old (answers_after_row (pass_of pass) limit text.now
+        (length frames.old) answers.old (record { 0 = row })) }
+    ensures out { out.new
+        ≡ put_frame out.old 0 (one_frame (row_said (row_type (pass_of pass) limit text.now
+        (length frames.old) (length answers.old) (record { 0 = row })))) }
+{
+    gelmusko::rows::gelmusko_row_type(text, limit, pass, frames, answers, row, out)
+}
+
+// The verdict on one compose.
+#[unsafe(no_mangle)]
+pub extern "C" fn gelmusko_compose_verdict(
+    text: &[u8],
+    limit: u32,
+    pass: u32,
+    frames: &mut [u8],
+    answers: &mut [u8],
+    row: u32,
+    out: &mut [u8],
+) -> u32
+    ensures outcome { result
+        ≡ by_room out.old (no_room limit text.now)
+        (one_number (verdict_said (record { 0 = row }) (compose_verdict (pass_of pass) limit
+        text.now (length frames.old) (length answers.old) (record { 0 = row })))) }
+    ensures frames { frames.new
+        ≡ by_room out.old frames.old
+        (frames_after limit text.now frames.old (Lent (length answers.old))) }
+    ensures answers { answers.new
+        ≡ by_room out.old answers.old (answers_after_verdict (pass_of pass) limit text.now
+        (length frames.old) answers.old (record { 0 = row })) }
+    ensures out { out.new
+        ≡ put_frame out.old 0 (one_frame (verdict_said (record { 0 = row }) (compose_verdict (pass_of pass) limit
+        text.now (length frames.old) (length answers.old) (record { 0 = row })))) }
+{
+    gelmusko::rows::gelmusko_compose_verdict(text, limit, pass, frames, answers, row, out)
+}
