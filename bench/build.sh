@@ -7,7 +7,7 @@ root=$(cd "$(dirname "$0")/.." && pwd)
 mkdir -p "$1"
 out=$(cd "$1" && pwd)
 if [ -z "$GELMUSKO_LIB_DIR" ]; then
-    (cd "$root" && rt staticlib gelmusko)
+    bash "$root/bindings/library.sh"
     GELMUSKO_LIB_DIR=$root/target/staticlib
 fi
 rustc -O --edition 2024 "$root/bench/stored.rs" -o "$out/stored"

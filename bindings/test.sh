@@ -2,7 +2,7 @@
 # Proves and builds the static library, and tests it from Rust and from C.
 set -euo pipefail
 cd "$(dirname "$0")/.."
-rt staticlib gelmusko
+bash bindings/library.sh
 export CARGO_TARGET_DIR="$PWD/target/cargo"
 (cd bindings/rust && cargo test --offline)
 (cd bindings/rust && cargo run --offline --quiet --example type_rows) < crates/type_rows/stdin | diff - bindings/rust/examples/type_rows.stdout

@@ -1,5 +1,5 @@
 /* Gelmusko: types of archived shader rows, and the texel of a density. The functions of libgelmusko.a, which
- * `rt staticlib gelmusko` writes to target/staticlib (x86-64 Linux).
+ * `bash bindings/library.sh` writes to target/staticlib (x86-64 Linux).
  *
  * THE FILE. `text` is a whole file: lines of 32 lower-case hexadecimal digits and a line feed, one frame of 16 bytes
  * a line. Any bytes may be handed in; what is no file is refused by its number. docs/RULES.md has the frames and the

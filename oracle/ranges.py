@@ -1,7 +1,7 @@
 #!/usr/bin/env python3
 """ranges.py SIZES FIRST COUNT: the ranges of the bytes that types fill, over generated files with pending arrays.
 
-SIZES is the listing program (target/bin/sizes). For each seed from FIRST on a file of types, members and overrides, and a
+SIZES is the listing program (crates/sizes/out/sizes). For each seed from FIRST on a file of types, members and overrides, and a
 least and a greatest count for each override. Every line that SIZES prints is held against `ranged` below, which was written
 from the sentences of document 02's request 6; and the least and greatest size against the sizes at choices of counts: at all
 of them where they are few, else at some.

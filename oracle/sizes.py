@@ -1,7 +1,7 @@
 #!/usr/bin/env python3
 """sizes.py ORACLE SIZES FIRST COUNT: the bytes that types fill, over generated files.
 
-ORACLE is the program that build.sh builds, SIZES the listing program (target/bin/sizes). For each seed from FIRST on a file of types and members. Every line that SIZES prints is held against
+ORACLE is the program that build.sh builds, SIZES the listing program (crates/sizes/out/sizes). For each seed from FIRST on a file of types and members. Every line that SIZES prints is held against
 `measure` below, which was written from the sentences of document 02's request 5; and every size against the source's `TypeInner::try_size`, which has none over 1 GB for an array.
 """
 

@@ -12,7 +12,7 @@ fn main() {
     let library = folder.join("libgelmusko.a");
     if !library.is_file() {
         panic!(
-            "{} is not there: run `rt staticlib gelmusko`, or name its folder in GELMUSKO_LIB_DIR",
+            "{} is not there: run `bash bindings/library.sh`, or name its folder in GELMUSKO_LIB_DIR",
             library.display()
         );
     }
