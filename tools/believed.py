@@ -44,8 +44,8 @@ contract texel::texel_of
 contract gelmusko::*
 theorem law_file/proofs/Laws.antt accepted-when long-when torn-when short-when order-when field-when index-when by-file
 theorem law_file/proofs/Laws.antt buffer-written buffer-long buffer-torn buffer-short
-theorem law_file/proofs/Laws.antt read-alike buffer-alike
-theorem law_file/proofs/Alike.antt over-alike same-alike answers-alike count-alike row-alike row-answers-alike
+theorem law_file/proofs/Laws.antt read_alike buffer-alike
+theorem law_file/proofs/Alike.antt over-alike same_alike answers-alike count-alike row-alike row-answers-alike
 theorem law_file/proofs/Alike.antt verdict-alike verdict-answers-alike text-alike
 theorem file_pointers/proofs/Alike.antt canonical-alike base-alike
 theorem file_sizes/proofs/Alike.antt size-alike range-alike range-frames-alike
@@ -56,7 +56,7 @@ theorem gelmusko/proofs/Limits.antt smallest-part-alike cut-text-alike
 theorem law_cut/proofs/Public.antt marks-follow marks-named marks-by marks-refusal marks-least cut-accepted cut-type cut-said same-frame
 theorem law_join/proofs/Outcomes.antt first-when second-when not-joinable-when long-when short-when joined-when
 theorem law_join/proofs/Joinable.antt joinable-when
-theorem law_join/proofs/Public.antt join-accepted lines-fit join-answers join-printed
+theorem law_join/proofs/Public.antt join-accepted lines_fit join-answers join-printed
 theorem law_join/proofs/PublicRows.antt first-row second-row first-verdict second-verdict
 theorem law_join/proofs/PublicTypes.antt first-types second-types
 theorem law_join/proofs/PublicSizes.antt first-size second-size
@@ -66,15 +66,15 @@ theorem law_join/proofs/Passes.antt argument-somewhere special-somewhere
 theorem law_cut/proofs/Outcomes.antt outcome-is outcome-refused no-mark written-accepted written-shows
 theorem law_rows/proofs/Range.antt range
 theorem ir/proofs/Formats.antt formats-named
-theorem rule/proofs/Shows.antt texels-shown sees-more
+theorem rule/proofs/Shows.antt texels-shown sees_more
 theorem rule_rows/proofs/Storage.antt storage-typed first-storage-newer
 theorem rule_rows/proofs/Formats.antt every-format storage-gathered
 theorem law_verdicts/proofs/Numbers.antt verdict-numbers
-theorem law_verdicts/proofs/Each.antt one-each
+theorem law_verdicts/proofs/Each.antt one_each
 theorem law_file/proofs/Said.antt row-said verdict-said
 theorem law_file/proofs/Printed.antt text-fits
 theorem explain_file/proofs/Fits.antt explained-fits sized-fits ranged-fits
-theorem law_later_readers/proofs/Ours.antt type-rows-keeps row-type-keeps just-enough
+theorem law_later_readers/proofs/Ours.antt type-rows-keeps row-type-keeps just_enough
 theorem law_later_readers/proofs/Only.antt only-ours
 theorem law_later_readers/proofs/ShutOut.antt not-all-newer not-before-reading not-as-another not-at-itself
 theorem rule_rows/proofs/Wgsl.antt wgsl-is
@@ -83,28 +83,28 @@ theorem law_sizes/proofs/Laws.antt fills-when fault-when
 theorem law_sizes/proofs/Source.antt source-size
 theorem rule_ranges/proofs/Laws.antt no-counts
 theorem law_ranges/proofs/Ranges.antt range-when range-reached range-within range-fixed faults-at-greatest refused-when span-when index-when asked-when
-theorem law_ranges/proofs/Steps.antt array-steps struct-steps
-theorem law_ranges/proofs/Same.antt fixed-same same-counts holds-when
-theorem law_ranges/proofs/Grow.antt grows fills-below only-huge
+theorem law_ranges/proofs/Steps.antt array_steps struct-steps
+theorem law_ranges/proofs/Same.antt fixed_same same-counts holds-when
+theorem law_ranges/proofs/Grow.antt grows fills_below only-huge
 theorem law_ranges/proofs/Laws.antt has-at-when fault-at-when
 theorem law_ranges/proofs/Free.antt entries-free
 theorem law_file_sizes/proofs/Means.antt size-means fault-means range-means refusal-means span-means
-theorem law_file_sizes/proofs/Words.antt outside-alone never-misplaced
+theorem law_file_sizes/proofs/Words.antt outside_alone never-misplaced
 theorem law_file_sizes/proofs/Steps.antt greatest-array-steps least-array-steps greatest-struct-steps least-struct-steps
 theorem law_file_sizes/proofs/Said.antt size-said range-said
 theorem law_passes/proofs/Judged.antt binary-judged
 theorem law_passes/proofs/Binary.antt binary-one
 theorem law_passes/proofs/BinaryInBoth.antt binary-in-both
-theorem law_passes/proofs/InBoth.antt alike-at typed-in-both row-in-both
-theorem law_passes/proofs/Alike.antt passes-alike rows-alike verdicts-alike row-frames-alike outputs-alike file-alike
+theorem law_passes/proofs/InBoth.antt alike_at typed-in-both row-in-both
+theorem law_passes/proofs/Alike.antt passes-alike rows_alike verdicts-alike row-frames-alike outputs-alike file-alike
 theorem law_passes/proofs/Apart.antt not-both not-first-pass not-first-pass-by-row
 theorem law_widths/proofs/Files.antt file-widths
 theorem law_widths/proofs/Answers.antt answers-width row-type-width
 theorem law_widths/proofs/Values.antt resolution-width answer-width said-width scalar-back
 theorem law_widths/proofs/Handed.antt other-left other-right other-chosen other-newer
-theorem law_equality/proofs/Equality.antt equivalence types-known sound-equivalence either-order replaced taken-when known-when
+theorem law_equality/proofs/Equality.antt equivalence types-known sound-equivalence either_order replaced taken-when known-when
 theorem law_equality/proofs/Groups.antt one-group-when in-a-group order-free members-free members-one
-theorem law_equality/proofs/Parts.antt base-agrees rows-agree
+theorem law_equality/proofs/Parts.antt base_agrees rows_agree
 theorem law_rows/proofs/Reading.antt reads-are
 theorem rule_types/proofs/Looks.antt looks-are
 theorem law_verdicts/proofs/Reading.antt verdict-reads-are
@@ -164,9 +164,12 @@ class File:
         crate = self.path.split('/')[1]
         for line in re.findall(r'^ghost use (.*);', self.text, re.M):
             self.bring(words('use ' + line))
-        for inner in re.findall(r'^(?:pub )?use ([\w:]+::[A-Z]\w*);', self.text, re.M):
-            owner, *rest = inner.split('::')
-            self.brought[rest[-1]] = '.'.join(['Rattle·' + (crate if owner == 'crate' else owner), 'specs', 'declared'] + rest), rest[-1]
+        for path, group in re.findall(r'^(?:pub )?use ([\w:]+)(?:::\{([^}]*)\})?;', self.text, re.M):
+            for inner in [path + '::' + name.strip() for name in group.split(',') if name.strip()] if group else [path]:
+                owner, *rest = inner.split('::')
+                if rest and re.fullmatch(r'[A-Z]\w*', rest[-1]) and owner != 'std':
+                    module = ['Rattle', crate if owner == 'crate' else owner, 'specs', 'declared']
+                    self.brought[rest[-1]] = '.'.join(module + rest), rest[-1]
         for kind, name, body in re.findall(r'^pub (enum|struct) (\w+)( \{.*?^\}|\(.*?\);)', self.text, re.M | re.S):
             d = self.definitions[name] = Definition(self, name, body.count('\n') + 1)
             body = re.sub('//.*', '', body)
@@ -240,16 +243,16 @@ def file(path):
 
 
 def defined(module, name):
-    """The definitions of a name in a module: Rattle·CRATE.specs.FILE, .specs.declared.TYPE, or a file of proofs."""
-    library, *parts = module.split('.')
-    crate = re.fullmatch('Rattle·(\\w+)(?:·.*)?', library)
-    if not crate:
+    """The definitions of a name in a module: Rattle.CRATE.specs.FILE, .specs.declared.TYPE, or a file of proofs."""
+    library, crate, *parts = module.split('.') + ['']
+    parts = [p for p in parts if p]
+    if library != 'Rattle' or crate == 'std':
         return []
     if parts[:2] == ['specs', 'declared']:
-        *inner, name = [p for p in parts[2:] if p != 'the-variants']
-        f = file('crates/%s/src/%s.rt' % (crate[1], '/'.join(inner or ['lib'])))
+        *inner, name = [p for p in parts[2:] if p != 'TheVariants']
+        f = file('crates/%s/src/%s.rt' % (crate, '/'.join(inner or ['lib'])))
     else:
-        f = file('crates/%s/%s.antt' % (crate[1], '/'.join(parts)))
+        f = file('crates/%s/%s.antt' % (crate, '/'.join(parts)))
     if name not in f.definitions and name not in f.owners:
         sys.exit('%s does not define %s' % (f.path, name))
     return [f.definitions[name]] if name in f.definitions else f.owners[name]
@@ -274,7 +277,7 @@ def contract(path):
     out = []
     for f in map(file, paths):
         for text in re.findall(r'^pub (%s\(.*?)^\{' % head, f.text, re.M | re.S):
-            parameters, *clauses = re.split(r'^ +(?:requires|ensures) ', text, flags=re.M)
+            parameters, *clauses = re.split(r'^ +(?:requires|ensures)(?: \w+)? (?=\{)', text, flags=re.M)
             out += f.cited(re.findall(r'[A-Z]\w*', parameters), ())
             for c in clauses:
                 out += f.cited(words(c), re.findall(r'(\w+):', parameters))
@@ -309,7 +312,8 @@ def ordered(folder, root, ending):
 
 def reading_order():
     """The files of all crates, each crate after those that it needs: declarations, definitions, proofs."""
-    needs = dict(line.split('#')[0].split(':') for line in open('crates.txt') if ':' in line.split('#')[0])
+    lines = [line.split('#')[0].split(':') for line in open('crates.txt') if ':' in line.split('#')[0]]
+    needs = {line[0].split()[0]: line[1] for line in lines}
     crates, order = [], []
 
     def place(crate):
