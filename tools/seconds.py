@@ -1,7 +1,7 @@
 #!/usr/bin/env python3
 """Says where the seconds of a crate's check go: python3 tools/seconds.py NAME [HOW MANY]
 
-Checks the crate from nothing with `rt dev`, and takes from the times of the files that the check keeps below target/inc/NAME how long each module took.
+Checks the crate from nothing with `rt check`, and takes from the times of the files that the check keeps below crates/NAME/out how long each module took.
 A function has several modules: its contract, what follows from its code (Lts, Tie), and its Proof. The first module that names a function of another crate
 also has the time in which that function's proof is loaded. What stands before the first file, the reading of the crates below, is the rest of the time.
 """
@@ -15,13 +15,15 @@ import time
 name = sys.argv[1]
 many = int(sys.argv[2]) if len(sys.argv) > 2 else 30
 top = os.path.join(os.path.dirname(os.path.abspath(__file__)), '..')
-kept = os.path.join(top, 'target', 'inc', name)
+kept = os.path.join(top, 'crates', name, 'out', 'incremental')
 shutil.rmtree(kept, ignore_errors=True)
 began = time.time()
-said = subprocess.run(['rt', 'dev', name], cwd=top, stdout=subprocess.PIPE, stderr=subprocess.STDOUT, text=True).stdout
+said = subprocess.run(['rt', 'check', name], cwd=top, stdout=subprocess.PIPE, stderr=subprocess.STDOUT, text=True).stdout
 whole = time.time() - began
 
 written = sorted((os.stat(os.path.join(folder, file)).st_mtime_ns, file) for folder, _, files in os.walk(kept) for file in files if file.endswith('.oantt'))
+if not written:
+    sys.exit('nothing was checked anew: the check took all of it from what another copy of the repository kept')
 modules, functions, last = collections.Counter(), collections.Counter(), written[0][0]
 for at, file in written:
     module = file.replace('.decls.oantt', '').replace('.oantt', '')
