@@ -73,7 +73,9 @@ module _ (fr : List ℕ) (s : Starts) (marks : List Bool) (n : ℕ) (is : Marked
           ∙ rw (le-ltb b.0 n (omega arith), le-ltb b.0 (n + 1) (omega arith))
       go (no k) (no r) =
           let q : n ≡ b.0 = omega arith in
-          subst (λ (x : ℕ). get_or (set marks n one) x false ≡ (ltb x (n + 1) && holds_pending fr s (record { 0 = x }))) q
+          subst
+          (λ (x : ℕ). get_or (set marks n one) x false ≡ (ltb x (n + 1) && holds_pending fr s (record { 0 = x })))
+          q
           (rw (lt-ltb n (n + 1) (omega arith)) (get_or-set_same marks n one false l ∙ next-mark one t e h))
 
 -- all are marked

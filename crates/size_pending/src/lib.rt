@@ -4,7 +4,8 @@
 
 ghost use Rattle.std.specs.Prelude.{◌≡◌, ◌&&◌, ltb, get_or};
 ghost use Rattle.answers.specs.Limit.{max_frames};
-ghost use Rattle.rule_ranges.specs.Pending.{size_holds, member_holds, inner_holds, form_holds, look_holds, holds_pending};
+ghost use Rattle.rule_ranges.specs.Pending.{size_holds, member_holds, inner_holds, form_holds, look_holds};
+ghost use Rattle.rule_ranges.specs.Pending.{holds_pending};
 ghost use Rattle.rule_ranges.specs.Ranges.{counts_of, span_ok, faulty_span};
 
 use archive::Starts;

@@ -20,4 +20,5 @@ returns-else-order_ok c =
 
 pub returns : goal.returns
 returns c =
-    rw (← c.frame_count-n.ensures) (lowest-none _ _ _ c.loop-k.invariant.few c.loop-k-test.false c.loop-k.invariant.none)
+    rw (← c.frame_count-n.ensures)
+    (lowest-none _ _ _ c.loop-k.invariant.few c.loop-k-test.false c.loop-k.invariant.none)
