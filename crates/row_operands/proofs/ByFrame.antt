@@ -9,7 +9,6 @@ use lib.ListN.{length, get_or}
 use borrow.Author.Tests.{eqb-true}
 use Rattle.ir.specs.declared.TypeNumber.{TypeNumber}
 use Rattle.ir.specs.declared.RowNumber.{RowNumber}
-use Rattle.ir.specs.declared.ArraySize.{ArraySize}
 use Rattle.ir.specs.declared.ArraySize.TheVariants as As
 use Rattle.ir.specs.declared.TypeInner.{TypeInner}
 use Rattle.ir.specs.declared.TypeInner.TheVariants as Ti
@@ -24,16 +23,16 @@ use Rattle.frames.specs.declared.Frame.{Frame}
 use Rattle.frames.specs.Bytes.{byte, half, zero_frame, frame_at}
 use Rattle.frames.specs.Fields.{read, scalar}
 use Rattle.frames.specs.Forms.{type_as, type_of}
-use Rattle.frames.specs.ForProofs.{unresolved_of, answer_of, value_of}
+use Rattle.frames.specs.ForProofs.{unresolved_of, answer_of}
 use Rattle.archive.specs.declared.Starts.{Starts}
-use Rattle.archive.specs.Names.{is_type, size_names}
+use Rattle.archive.specs.Names.{is_type}
 use Rattle.archive.specs.Access.{type_in}
 use Rattle.rule.specs.declared.Fault.TheVariants as Fa
 use Rattle.rule.specs.Things.{sound_form, value_fault}
 use Rattle.rule_types.proofs.Seen.{never}
 use Rattle.row_operands.specs.declared.Looked.TheVariants as Lo
 use Rattle.rule_rows.specs.OverBuffer.{answer_in}
-use Rattle.row_operands.specs.Past.{looked_at, seen_by, looked_by, looked_in, look_starts}
+use Rattle.row_operands.specs.Past.{looked_at, looked_by, looked_in, look_starts}
 use Rattle.row_operands.specs.Plain.{past_frame, type_frame_in, typed_frame, is_plain, plain_of}
 
 -- a row's answer is that of its frame

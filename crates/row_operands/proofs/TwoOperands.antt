@@ -19,7 +19,7 @@ use Rattle.row_operands.specs.declared.Looked.{Looked}
 use Rattle.row_operands.specs.declared.Looked.TheVariants as Lo
 use Rattle.rule_rows.specs.OverBuffer.{answer_in, ruled}
 use Rattle.row_operands.specs.Past.{ended_by, looked_at, looked_by, looked_in, OfBoth, right_by, left_by, left_read}
-use Rattle.row_operands.specs.Past.{right_end, left_end}
+use Rattle.row_operands.specs.Past.{left_end}
 use Rattle.row_operands.proofs.Steps.{both_run}
 
 abbrev is_seen : Looked → ℕ

@@ -1,0 +1,9 @@
+-- `look_into`: a look goes by three of the places where families begin.
+use mathlib.Core.Path.{◌∙◌}
+use Rattle.row_operands.proofs.ByFrame.{few-look}
+use Rattle.row_operands.proofs.past.look_into.Goals as goal
+
+pub returns : goal.returns
+returns c =
+    let g = c.args in
+    c.look_in.ensures ∙ few-look g.frames.now g.s g.answers.now g.places.now g.here g.n
