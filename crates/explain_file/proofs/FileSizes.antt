@@ -26,7 +26,8 @@ use Rattle.rule_explain.specs.Sized.{size_lines, file_sizes, sizes_of, ranges_in
 use Rattle.explain_file.proofs.Fits.{few-types, overrides-few}
 
 -- after a frame for every type was written to a buffer of the largest size
-module _ (frame : ℕ → Frame) (s : Starts) (few : type_count s ≤ max_frames) (z o : List ℕ) (ez : length z ≡ max_frame_bytes)
+module _ (frame : ℕ → Frame) (s : Starts) (few : type_count s ≤ max_frames) (z o : List ℕ)
+    (ez : length z ≡ max_frame_bytes)
     (e : o ≡ frames_written frame s z) where
   there : o ≡ frames_of frame (type_count s) ++ drop (16 * type_count s) z
   unfolding frames_written

@@ -79,7 +79,8 @@ sized-fits limit t = go (read_file limit t max_frame_bytes NotLent) refl
         let z = size_frames fr s (type_count s) in
         omega (
           arith,
-          joined-long (size_line_at fr z) 176 (frame_count z) (λ k. size-line-long fr (record { 0 = k }) (frame_at z k)),
+          joined-long (size_line_at fr z) 176 (frame_count z)
+              (λ k. size-line-long fr (record { 0 = k }) (frame_at z k)),
           frames-long (size_frame fr s) s (type_count s),
           few-types limit t max_frame_bytes n e,
         )
@@ -114,7 +115,8 @@ ranged-fits limit least greatest t = go (read_file limit t max_frame_bytes NotLe
         let z = frames_of (range_frame fr s least greatest) (type_count s) in
         omega (
           arith,
-          joined-long (size_line_at fr z) 176 (frame_count z) (λ k. size-line-long fr (record { 0 = k }) (frame_at z k)),
+          joined-long (size_line_at fr z) 176 (frame_count z)
+              (λ k. size-line-long fr (record { 0 = k }) (frame_at z k)),
           frames-long (range_frame fr s least greatest) s (type_count s),
           h,
         )
@@ -123,7 +125,8 @@ ranged-fits limit least greatest t = go (read_file limit t max_frame_bytes NotLe
         → length (all_of (over_file fault_lines (λ (fr : List ℕ). ranges_in fr (starts_of fr) least greatest) t o)) ≤
         max_sized_bytes
     go (Accepted n) e =
-        by_span (decoded t n) (faulty_span (starts_of (decoded t n)) least greatest) (few-types limit t max_frame_bytes n e)
+        by_span (decoded t n) (faulty_span (starts_of (decoded t n)) least greatest)
+        (few-types limit t max_frame_bytes n e)
     go (Long m) e = omega (arith, fault-line (Long m))
     go (Torn k) e = omega (arith, fault-line (Torn k))
     go Short e = omega (arith, fault-line Short)

@@ -71,12 +71,14 @@ module _ (marks : List Bool) (fr : List ℕ) where
   -- after row k, by its mark
   pub row_more : (k : ℕ) {n m : ℕ} {b c : List ℕ}
       → Pushed
-      (listed (frame_at fr) (starts_of fr).rows ++ cut_rows marks (λ (i : ℕ). frame_at fr ((starts_of fr).rows + i)) k) n b
+      (listed (frame_at fr) (starts_of fr).rows ++ cut_rows marks (λ (i : ℕ). frame_at fr ((starts_of fr).rows + i)) k)
+      n b
       → 16 * n + 16 ≤ length b → m ≡ n + cond (is_marked marks k) 1 0
       → c ≡ cond (is_marked marks k)
       (put_frame b n (moved_row (cut_moves marks) (frame_at fr ((starts_of fr).rows + k)))) b
       → Pushed
-      (listed (frame_at fr) (starts_of fr).rows ++ cut_rows marks (λ (i : ℕ). frame_at fr ((starts_of fr).rows + i)) (k + 1))
+      (listed (frame_at fr) (starts_of fr).rows
+      ++ cut_rows marks (λ (i : ℕ). frame_at fr ((starts_of fr).rows + i)) (k + 1))
       m c
   unfolding cut_rows
   row_more k {n} {m} {b} {c} p room em ec = rw add-one (go (is_marked marks k) em ec)
@@ -89,7 +91,8 @@ module _ (marks : List Bool) (fr : List ℕ) where
 
       go : (x : Bool) → m ≡ n + cond x 1 0 → c ≡ cond x (put_frame b n f) b
           → Pushed (listed (frame_at fr) (starts_of fr).rows ++ (cut_rows marks at k ++ cond x (f ∷ []) [])) m c
-      go true e d = rw (d, e) (rw (append_assoc (listed (frame_at fr) (starts_of fr).rows) (cut_rows marks at k) (f ∷ []))
+      go true e d = rw (d, e)
+          (rw (append_assoc (listed (frame_at fr) (starts_of fr).rows) (cut_rows marks at k) (f ∷ []))
           at (pushed p f room))
       go false e d =
           let z : m ≡ n = omega (arith, e) in
@@ -107,7 +110,8 @@ rows-within fr = omega (arith, (begins fr 1024).within, (begins fr 1280).within)
 -- all rows passed, the frames are those of the cut
 pub all-pushed : (marks : List Bool) (fr : List ℕ) {k n m : ℕ} {b : List ℕ}
     → Pushed
-    (listed (frame_at fr) (starts_of fr).rows ++ cut_rows marks (λ (i : ℕ). frame_at fr ((starts_of fr).rows + i)) k) m b
+    (listed (frame_at fr) (starts_of fr).rows ++ cut_rows marks (λ (i : ℕ). frame_at fr ((starts_of fr).rows + i)) k) m
+    b
     → k ≡ n → n ≡ row_count (starts_of fr) → Pushed (cut_frames marks fr) m b
 all-pushed marks fr p e d = rw (← d, ← e) p
 

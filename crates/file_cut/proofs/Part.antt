@@ -108,7 +108,8 @@ module _ (fr an last p rest : List ℕ) (s : Starts) (ready : Ready Pa.First fr 
       cc
 
   pub read-there : (row : RowNumber) → is_row s row ≡ true
-      → answered_part (answer_in last (take n p) row) (marks_by (reads_in fr s last (take n p)) row.0) ≡ part_over row fr
+      → answered_part (answer_in last (take n p) row) (marks_by (reads_in fr s last (take n p)) row.0)
+      ≡ part_over row fr
   read-there row h =
       let below : row.0 < row_count (starts_of fr) = rw es at (ltb-true row.0 (row_count s) h) in
       let q : is_row (starts_of fr) row ≡ true = rw es at h in
@@ -130,7 +131,8 @@ typed-outcome (told (refused e)) marks = refl
 typed-outcome (told (chosen_refusal f)) marks = refl
 typed-outcome (newer p) marks = refl
 
-typed-marks : (x : Result Typed) (marks : List Bool) → (typed_part x marks).marks ≡ if_marked marks no_marks (of_answer x)
+typed-marks : (x : Result Typed) (marks : List Bool)
+    → (typed_part x marks).marks ≡ if_marked marks no_marks (of_answer x)
 typed-marks (told (given a)) marks = refl
 typed-marks (told (refused e)) marks = refl
 typed-marks (told (chosen_refusal f)) marks = refl

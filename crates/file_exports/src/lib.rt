@@ -2,14 +2,16 @@
 #![tactic(auto)]
 
 ghost use Rattle.std.specs.Prelude.{◌≡◌, min};
-ghost use Rattle.answers.specs.Numbers.{at, no_refusal, not_there, outcome_values, sameness_said, canonical_said, base_said};
+ghost use Rattle.answers.specs.Numbers.{at, no_refusal, not_there, outcome_values, sameness_said, canonical_said};
+ghost use Rattle.answers.specs.Numbers.{base_said};
 ghost use Rattle.frames.specs.Bytes.{put_frame};
 ghost use Rattle.frames.specs.Out.{refused_frame, outcome_frame, row_type_said, compose_verdict_said, one_frame};
 ghost use Rattle.law_cut.specs.File.{part_said, cut_said};
 ghost use Rattle.law_join.specs.File.{whose, joined_said};
 ghost use Rattle.rule_sizes.specs.Sizes.{size_said, size_said_frame};
 ghost use Rattle.rule_ranges.specs.Ranges.{type_range_said, range_said_frame};
-ghost use Rattle.rule_file.specs.Exported.{outcome_number, no_room, one_number, said_number, said_frame, type_said_number};
+ghost use Rattle.rule_file.specs.Exported.{outcome_number, no_room, one_number, said_number, said_frame};
+ghost use Rattle.rule_file.specs.Exported.{type_said_number};
 ghost use Rattle.rule_file.specs.Exported.{type_said_frame, pass_of, handed_frame};
 
 use answers::{CanonicalType, ComposeVerdict, Outcome, PointerBase, RowType, Sameness};

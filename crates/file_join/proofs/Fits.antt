@@ -68,11 +68,13 @@ module _ (fr gr : List ℕ) (few : frame_count fr ≤ max_frames) (fewer : frame
   component-fit f h = (own-row-fit s t (few-of fr few) (few-of gr fewer) (half f 2) h, tt)
 
   -- by the family
-  frame-fits : (k : ℕ) → k < frame_count gr → (b : ℕ) → byte (frame_at gr k) 0 ≡ b → names_by b t k (frame_at gr k) ≡ true
+  frame-fits : (k : ℕ) → k < frame_count gr → (b : ℕ) → byte (frame_at gr k) 0 ≡ b
+      → names_by b t k (frame_at gr k) ≡ true
       → AllFit (join_moves s) (numbers_by b (frame_at gr k)) (frame_at gr k)
   unfolding type_of item_of row_of
   frame-fits k l zero e h = tt
-  frame-fits k l (suc zero) e h = type-fits s t (few-of fr few) (few-of gr fewer) (type_kind_of (byte (frame_at gr k) 1))
+  frame-fits k l (suc zero) e h =
+      type-fits s t (few-of fr few) (few-of gr fewer) (type_kind_of (byte (frame_at gr k) 1))
       (frame_at gr k) k (omega arith) h
   frame-fits k l (suc (suc zero)) e h = member-fit (frame_at gr k) h
   frame-fits k l (suc (suc (suc zero))) e h = item-fits s t (few-of fr few) (few-of gr fewer)
@@ -94,7 +96,8 @@ fitting fr gr a b bytes joins =
     }
 
 -- frame k of the second, as the code moves it
-pub moved_at : (s : Starts) (gr : List ℕ) → Fitting s gr → (k : ℕ) → k < frame_count gr → {f : Frame} → f ≡ frame_at gr k
+pub moved_at : (s : Starts) (gr : List ℕ) → Fitting s gr → (k : ℕ) → k < frame_count gr → {f : Frame}
+    → f ≡ frame_at gr k
     → {r : Frame} → (AllFit (join_moves s) (numbers_of f) f → r ≡ moved_frame (join_moves s) f)
     → r ≡ moved_frame (join_moves s) (frame_at gr k)
 moved_at s gr fits k l e m =

@@ -42,7 +42,8 @@ module _ (fr gr b : List ℕ) (room : 16 * (frame_count fr + frame_count gr) ≤
         → Jf.Frames n ≡ as_frames (frame_count fr + frame_count gr) (printed (join_text fr gr) o)
     joined-all q = ap Jf.Frames en ∙ ap (as_frames (frame_count fr + frame_count gr)) (sym q ∙ printed-is)
 
-    pub joined-none : p ≡ Pr.Short → Jf.Short ≡ as_frames (frame_count fr + frame_count gr) (printed (join_text fr gr) o)
+    pub joined-none : p ≡ Pr.Short
+        → Jf.Short ≡ as_frames (frame_count fr + frame_count gr) (printed (join_text fr gr) o)
     joined-none q = ap (as_frames (frame_count fr + frame_count gr)) (sym q ∙ printed-is)
 
   -- the buffer for the lines

@@ -55,7 +55,8 @@ module _ (fr gr : List ℕ) where
   -- the frames of the first i parts
   abbrev pub parts_to : ℕ → List Frame
   parts_to i =
-      regrouped (frame_at fr) (λ (k : ℕ). moved_frame (join_moves (starts_of fr)) (frame_at gr k)) (bound (starts_of fr))
+      regrouped (frame_at fr) (λ (k : ℕ). moved_frame (join_moves (starts_of fr)) (frame_at gr k))
+      (bound (starts_of fr))
       (bound (starts_of gr)) i
 
   pub none-joined : (x : List ℕ) → x ≡ put_all x 0 (parts_to 0)

@@ -5,7 +5,8 @@ use mathlib.Core.List.{List, [], ◌∷◌}
 use Rattle.frames.specs.declared.Frame.{Frame}
 use Rattle.frames.specs.Bytes.{half, word}
 use Rattle.law_moved.specs.Moves.{Moves}
-use Rattle.law_moved.specs.Frames.{Counted, Spot, two, four, move_of, with_half, with_word, moved_at, moved_in, numbers_of}
+use Rattle.law_moved.specs.Frames.{Counted, Spot, two, four, move_of, with_half, with_word, moved_at, moved_in}
+use Rattle.law_moved.specs.Frames.{numbers_of}
 use Rattle.law_moved.specs.Frames.{moved_frame}
 use Rattle.law_moved.proofs.Written.{Fits, AllFit}
 use Rattle.frames_numbers.specs.declared.Spot as Sp

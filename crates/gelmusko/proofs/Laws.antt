@@ -81,7 +81,8 @@ pub few : (limit : ℕ) (t : List ℕ) (f : ℕ) (room : AnswerRoom) (n : ℕ) �
     → frame_count (decoded t n) ≤ max_frames
 few limit t f room n e = rw (count-decoded t n) (count_small ((accepted-when limit t f room n).0 e).readable)
 
-pub no-row : (fr : List ℕ) (m : ℕ) → frame_count fr ≤ max_frames → 65535 ≤ m → is_row (starts_of fr) (record { 0 = m }) ≡
+pub no-row : (fr : List ℕ) (m : ℕ) → frame_count fr ≤ max_frames → 65535 ≤ m
+    → is_row (starts_of fr) (record { 0 = m }) ≡
     false
 no-row fr m h l = le-ltb m (row_count (starts_of fr)) (omega (arith, (starts-small fr max_frames h).1))
 
@@ -134,8 +135,10 @@ module _ (pass : Pass) (limit : ℕ) (t : List ℕ) (f a : ℕ) where
   said-stray m l = ap (verdict_said (record { 0 = m })) (verdict-stray m l) ∙ go (read_file limit t f (Lent a))
     where
       go : (o : Outcome)
-          → verdict_said (record { 0 = m }) (over_file VerdictGiven.not_accepted (λ (x : List ℕ). VerdictGiven.no_row) t o)
-          ≡ verdict_said (record { 0 = 0 }) (over_file VerdictGiven.not_accepted (λ (x : List ℕ). VerdictGiven.no_row) t o)
+          → verdict_said (record { 0 = m })
+          (over_file VerdictGiven.not_accepted (λ (x : List ℕ). VerdictGiven.no_row) t o)
+          ≡ verdict_said (record { 0 = 0 })
+          (over_file VerdictGiven.not_accepted (λ (x : List ℕ). VerdictGiven.no_row) t o)
       go (Accepted n) = refl
       go (Long k) = refl
       go (Torn k) = refl
@@ -180,7 +183,8 @@ module _ (pass : Pass) (limit : ℕ) (t : List ℕ) (f : ℕ) (an : List ℕ) wh
       over-same (λ (o : Outcome). an)
       (λ (x : List ℕ). if_judged (answers_written pass an x) an (verdict_given pass (record { 0 = m }) x))
       (λ (x : List ℕ). an) t (read_file limit t f (Lent (length an)))
-      (λ n e. ap (if_judged (answers_written pass an (decoded t n)) an) (given-stray pass limit t f (length an) m n l e))
+      (λ n e. ap (if_judged (answers_written pass an (decoded t n)) an)
+      (given-stray pass limit t f (length an) m n l e))
 
   pub judged-clamped : (n k : ℕ) → k ≡ min n 65535
       → answers_after_verdict pass limit t f an (record { 0 = k })

@@ -57,10 +57,12 @@ module _ (limit : ℕ) (t : List ℕ) (f n : ℕ) (e : read_file limit t f NotLe
   unfolding same_in
   stray-left l r h =
       asked (handed_frame l) (handed_frame r)
-      ∙ ap sameness_of (left-six fr (starts_of fr) (type_answer_of (handed_frame l)) (type_answer_of (handed_frame r)) h)
+      ∙ ap sameness_of (left-six fr (starts_of fr) (type_answer_of (handed_frame l)) (type_answer_of (handed_frame r))
+      h)
 
   -- where the left one gets neither 5 nor 6
-  pub wrong-right : (l : Frame) (r : List ℕ) → fault_of (starts_of fr) (type_answer_of l) ≡ Fa.Sound → (length r ≡ 16 → ⊥)
+  pub wrong-right : (l : Frame) (r : List ℕ) → fault_of (starts_of fr) (type_answer_of l) ≡ Fa.Sound
+      → (length r ≡ 16 → ⊥)
       → same_types limit t f l (handed_frame r) ≡ Sa.Field
   unfolding same_in
   wrong-right l r s h =

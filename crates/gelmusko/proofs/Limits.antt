@@ -23,7 +23,8 @@ use Rattle.rule_file.specs.Types.{same_types}
 use Rattle.rule_file.specs.Forms.{canonical_type, pointer_base_type}
 use Rattle.rule_file.specs.Typing.{answers_after, row_type, row_said, answers_after_row, compose_verdict, verdict_said}
 use Rattle.rule_file.specs.Typing.{answers_after_verdict}
-use Rattle.rule_file.specs.Exported.{outcome_number, no_room, by_room, one_number, said_number, said_frame, type_said_number}
+use Rattle.rule_file.specs.Exported.{outcome_number, no_room, by_room, one_number, said_number, said_frame}
+use Rattle.rule_file.specs.Exported.{type_said_number}
 use Rattle.rule_file.specs.Exported.{type_said_frame, pass_of, handed_frame}
 use Rattle.rule_file_sizes.specs.Sizes.{type_size}
 use Rattle.rule_file_sizes.specs.Ranges.{size_range, frames_ranged}

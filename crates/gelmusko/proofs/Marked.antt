@@ -28,7 +28,8 @@ use Rattle.law_cut.specs.declared.PartOutcome.{PartOutcome}
 use Rattle.law_cut.specs.declared.PartOutcome.TheVariants as Po
 use Rattle.law_cut.specs.declared.CutText.TheVariants as Ct
 use Rattle.law_cut.specs.Marks.{max_marks, no_marks, marks_of}
-use Rattle.law_cut.specs.File.{of_answer, part_in, smallest_part, if_marked, part_marks, part_said, part_file, part_text}
+use Rattle.law_cut.specs.File.{of_answer, part_in, smallest_part, if_marked, part_marks, part_said, part_file}
+use Rattle.law_cut.specs.File.{part_text}
 use Rattle.law_cut.specs.File.{as_lines, or_number, cut_in, cut_text, cut_after}
 use Rattle.law_cut.specs.Exported.{mark_bytes, by_table, part_exported, frames_marked, table_after}
 use Rattle.gelmusko.proofs.Laws.{clamped-is, over-same, few, no-row}
@@ -76,7 +77,8 @@ module _ (limit : ℕ) (t : List ℕ) (f : ℕ) where
   lines-clamped out =
       clamped-is (λ (m : ℕ). cut_after limit t f (record { 0 = m }) out) _
       (λ m l. over-same (λ (o : Outcome). out)
-      (λ (x : List ℕ). if_marked (printed_after (part_text (record { 0 = m }) x) out) out (part_in (record { 0 = m }) x))
+      (λ (x : List ℕ). if_marked (printed_after (part_text (record { 0 = m }) x) out) out
+      (part_in (record { 0 = m }) x))
       (λ (x : List ℕ). out) t (read_file limit t f NotLent)
       (λ n e. ap (if_marked (printed_after (part_text (record { 0 = m }) (decoded t n)) out) out) (part-there m n l e)))
 

@@ -37,7 +37,8 @@ too-small-rows {out} {fr} {an} {r} {m} e h n after given f =
 
 -- it has: what was said, a, is what is to be said, b; it is returned as a number and put as a frame
 pub handed : {A : Type 0} (number : A → ℕ) (frame : A → Frame) (out : List ℕ) {last fr after : List ℕ} {r : ℕ} {a b : A}
-    → (r ≡ number a) × (last ≡ put_frame out 0 (frame a)) → a ≡ b → fr ≡ after → 16 ≤ length out → (m : ℕ) (was : List ℕ)
+    → (r ≡ number a) × (last ≡ put_frame out 0 (frame a)) → a ≡ b → fr ≡ after → 16 ≤ length out
+    → (m : ℕ) (was : List ℕ)
     → (r ≡ by_room out m (number b)) × ((fr ≡ by_room out was after) × (last ≡ put_frame out 0 (frame b)))
 handed number frame out {after = after} {b = b} p e ef h m was = (
   p.0 ∙ ap number e ∙ has_room out m (number b) h,

@@ -4,7 +4,8 @@ ghost use Rattle.text.specs.declared.AnswerRoom.TheVariants.{Lent};
 ghost use Rattle.frames.specs.Bytes.{put_frame};
 ghost use Rattle.frames.specs.Out.{outcome_frame, one_frame};
 ghost use Rattle.rule_file.specs.File.{read_file, frames_after};
-ghost use Rattle.rule_file.specs.Typing.{answers_after, row_type, row_said, answers_after_row, compose_verdict, verdict_said};
+ghost use Rattle.rule_file.specs.Typing.{answers_after, row_type, row_said, answers_after_row, compose_verdict};
+ghost use Rattle.rule_file.specs.Typing.{verdict_said};
 ghost use Rattle.rule_file.specs.Typing.{answers_after_verdict};
 ghost use Rattle.rule_file.specs.Exported.{no_room, by_room, outcome_number, one_number, pass_of};
 

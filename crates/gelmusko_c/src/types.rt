@@ -6,7 +6,8 @@ ghost use Rattle.frames.specs.Bytes.{put_frame};
 ghost use Rattle.rule_file.specs.File.{frames_after};
 ghost use Rattle.rule_file.specs.Types.{same_types};
 ghost use Rattle.rule_file.specs.Forms.{canonical_type, pointer_base_type};
-ghost use Rattle.rule_file.specs.Exported.{no_room, by_room, said_number, said_frame, type_said_number, type_said_frame};
+ghost use Rattle.rule_file.specs.Exported.{no_room, by_room, said_number, said_frame, type_said_number};
+ghost use Rattle.rule_file.specs.Exported.{type_said_frame};
 ghost use Rattle.rule_file.specs.Exported.{handed_frame};
 
 // Whether two answers of a file, as frames of family 8 or 9, are the same type.

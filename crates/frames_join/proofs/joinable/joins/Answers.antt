@@ -15,8 +15,8 @@ pub loop-k-preserved : goal.loop-k-preserved
 loop-k-preserved c = (
   omega arith,
   all-and (λ (i : ℕ). frame_joins c.find_starts-s.result (frame_at c.args.frames.now i)) c.loop-k.k
-  c.loop-k.invariant.1
-  (c.frame_joins-ok.ensures ∙ ap (frame_joins c.find_starts-s.result) c.frame_at.ensures),
+      c.loop-k.invariant.1
+      (c.frame_joins-ok.ensures ∙ ap (frame_joins c.find_starts-s.result) c.frame_at.ensures),
 )
 
 pub returns : goal.returns
