@@ -23,7 +23,8 @@ use Rattle.explain_words.proofs.Long.{number-long, none-long, piece-long, longes
 use Rattle.rule_explain.specs.declared.ScalarWords.{ScalarWords}
 use Rattle.rule_explain.specs.declared.Short.{Short}
 use Rattle.rule_explain.specs.Types.{picked, is_scalar, named, bytes_of, scalar_words, around, by_number, vector}
-use Rattle.rule_explain.specs.Types.{is_brief, brief, within, inside, pointer, array_words, cooperative_words, class_name}
+use Rattle.rule_explain.specs.Types.{is_brief, brief, within, inside, pointer, array_words, cooperative_words}
+use Rattle.rule_explain.specs.Types.{class_name}
 use Rattle.rule_explain.specs.Types.{arrayed_name, image, unknown_kind, whole}
 use Rattle.rule_explain.specs.Answers.{manner, reason, refusal, judged_words, said, shown, ending, line_of, fault_words}
 use Rattle.rule_explain.specs.Answers.{fault_line}
@@ -112,8 +113,8 @@ abbrev ShortLong : ℕ → Short → Type 0
 ShortLong m s = Pieces (inside s []) m
 
 around-long : (lead first x second less kind width close m : ℕ)
-    → length (piece_bytes lead) + length (piece_bytes first) + length (piece_bytes x) + length (piece_bytes second) + length
-    (piece_bytes less) + length (piece_bytes close) + 33 ≤ m
+    → length (piece_bytes lead) + length (piece_bytes first) + length (piece_bytes x) + length (piece_bytes second)
+    + length (piece_bytes less) + length (piece_bytes close) + 33 ≤ m
     → ShortLong m (around lead first x second less kind width close)
 unfolding around
 around-long lead first x second less kind width close m h = simp (piece-long, none-long)

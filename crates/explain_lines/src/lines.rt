@@ -351,7 +351,7 @@ fn put_runs(head: &[u64], body: &[u64], end: &[u64], line: &mut [u8]) -> usize
 
 // Writes the line of an answer or verdict at the front of a buffer, and gives its length. A buffer of fewer than 1,296
 // bytes, which are enough for any line, stays as it was.
-#[tactic(auto, unfolding(crate::specs::LinesForProofs::made_in, crate::specs::LinesForProofs::made_long, rule_explain::specs::Answers::line_of))]
+#[tactic(auto, unfolding(crate::specs::LinesForProofs::made_in, crate::specs::LinesForProofs::made_long))]
 pub fn put_line(frames: &[u8], row: RowNumber, f: Frame, line: &mut [u8]) -> usize
     ensures { (result ≡ made_long line.old (line_of frames.now row f))
         × (result ≤ 1296)
@@ -468,7 +468,7 @@ fn size_words(f: Frame) -> [u64; 8]
 
 // Writes the line of type n, whose size the frame says, at the front of a buffer, and gives its length. A buffer of
 // fewer than 1,296 bytes, which are enough for any line, stays as it was.
-#[tactic(auto, unfolding(crate::specs::LinesForProofs::made_in, crate::specs::LinesForProofs::made_long, rule_explain::specs::Sizes::size_line_of))]
+#[tactic(auto, unfolding(crate::specs::LinesForProofs::made_in, crate::specs::LinesForProofs::made_long))]
 pub fn put_size(frames: &[u8], n: TypeNumber, f: Frame, line: &mut [u8]) -> usize
     ensures { (result ≡ made_long line.old (size_line_of frames.now n f))
         × (result ≤ 1296)
@@ -484,7 +484,7 @@ pub fn put_size(frames: &[u8], n: TypeNumber, f: Frame, line: &mut [u8]) -> usiz
 }
 
 // The same of the line of number 45, by its override.
-#[tactic(auto, unfolding(rule_explain::specs::Sizes::span_words, crate::specs::LinesForProofs::made_in, crate::specs::LinesForProofs::made_long))]
+#[tactic(auto, unfolding(crate::specs::LinesForProofs::made_in, crate::specs::LinesForProofs::made_long))]
 pub fn put_span(o: u16, line: &mut [u8]) -> usize
     ensures { (result ≡ made_long line.old (span_of o))
         × (result ≤ 1296)

@@ -2,28 +2,21 @@
 // or the number that it is refused with. tools/texels.py writes what must be printed, by decimal arithmetic.
 #![tactic(auto)]
 
-use libc::STDOUT_FILENO;
+use std::io;
 use texel::{Texel, texel_of};
 
-fn print_texel(density: u32) {
-    io::print_decimal(STDOUT_FILENO, density as u64);
-    io::write_all(STDOUT_FILENO, b" ");
+fn print_texel(rt: &impl Print, density: u32) -> io::Result<()> {
     let given = texel_of(density);
     match given {
-        Texel::Given(t) => {
-            io::print_decimal(STDOUT_FILENO, t as u64);
-        }
-        Texel::Range => {
-            io::write_all(STDOUT_FILENO, b"refused 40");
-        }
+        Texel::Given(t) => println!(rt; "{density} {t}"),
+        Texel::Range => println!(rt; "{density} refused 40"),
     }
-    io::write_all(STDOUT_FILENO, b"\n");
 }
 
-fn main() {
+fn main(rt: HostRuntime) -> io::Result<()> {
     for density in 0..=10001 {
-        print_texel(density);
+        print_texel(&rt, density)?;
     }
-    print_texel(65536);
-    print_texel(4294967295);
+    print_texel(&rt, 65536)?;
+    print_texel(&rt, 4294967295)
 }
