@@ -1,6 +1,6 @@
 -- A word read digit by digit: up to `max_frames` the number so far is what the digits spell, and past it both are past
 -- it, so that both count alike as a limit.
-use Prim.Native.Nat.{ℕ, zero, suc, ◌+◌, ◌*◌, ◌-◌, ◌≤◌, ◌<◌}
+use Prim.Native.Nat.{ℕ, suc, ◌+◌, ◌*◌, ◌-◌, ◌≤◌, ◌<◌}
 use native.Mathlib.Decide.{dec_le}
 use native.Mathlib.Numerals.{add-one}
 use native.Mathlib.Omega.{arith}
@@ -38,7 +38,8 @@ begin w = record {
       (omega arith);
 }
 
-pub step : (w : List ℕ) (n k d r : ℕ) → Read w n k → k < length w → is_digit w k ≡ true → d ≡ get_or w k 0 - 48 → d ≤ 9 → r
+pub step : (w : List ℕ) (n k d r : ℕ) → Read w n k → k < length w → is_digit w k ≡ true → d ≡ get_or w k 0 - 48 → d ≤ 9
+    → r
     ≡ next_to n d
     → Read w r (k + 1)
 unfolding all_below spells

@@ -1,6 +1,7 @@
 -- The words that the programs take: a limit of frames in decimal digits (document 02, request 7: "1 to 1,024, any other
 -- counting as 1,024"), and `wgsl` for the second pass (request 3).
-use Rattle.std.specs.Prelude.{ℕ, zero, suc, ◌+◌, ◌*◌, ◌-◌, Bool, true, false, cond, ◌&&◌, List, leb, ltb, eqb, length, get_or}
+use Rattle.std.specs.Prelude.{ℕ, zero, suc, ◌+◌, ◌*◌, ◌-◌, Bool, true, false, cond, ◌&&◌, List, leb, ltb, eqb, length}
+use Rattle.std.specs.Prelude.{get_or}
 use Rattle.scan.specs.Lowest.{all_below}
 use Rattle.answers.specs.Limit.{max_frames}
 use Rattle.text.specs.Reading.{most_frames}

@@ -3,36 +3,45 @@ use super::counts::{CountWord, counts_of};
 use super::rows::{RowWord, row_of};
 use super::{Asked, Word, asked_by, word_of};
 use answers::MAX_LIMIT;
-use libc::STDERR_FILENO;
+use std::env::FillError;
+use std::io;
+use std::rt::Env;
+
+// Whether there is an argument i.
+pub fn is_given(env: &impl Env, i: usize) -> bool {
+    let mut none = [0u8; 0];
+    match env.arg(i, &mut none) {
+        Ok(_) => true,
+        Err(FillError::TooLong) => true,
+        Err(FillError::NotPresent) => false,
+    }
+}
 
 // Argument i, absent where there are fewer. The system hands over no argument longer than this buffer.
-fn word_at(i: usize) -> Word {
-    if os::arg_count() <= i {
-        return Word::Absent;
-    }
+pub fn word_at(env: &impl Env, i: usize) -> Word {
     let mut word = [0u8; 131072];
-    let n = os::arg(i, &mut word);
-    if os::errno() != 0 {
-        return Word::Neither;
+    match env.arg(i, &mut word) {
+        Ok(n) => word_of(&word[..n]),
+        Err(FillError::TooLong) => Word::Neither,
+        Err(FillError::NotPresent) => Word::Absent,
     }
-    word_of(&word[..n])
 }
 
 // What the arguments ask for: the limit that holds, which is 1,024 where none is handed in, and whether the second
 // pass.
 // Other arguments, and more than two, are told on standard error, with what is taken.
-pub fn asked() -> Asked {
-    if os::arg_count() <= 3 {
-        let words = asked_by(word_at(1), word_at(2));
+pub fn asked<R: Env + Eprint>(rt: &R) -> io::Result<Asked> {
+    if !is_given(rt, 3) {
+        let words = asked_by(word_at(rt, 1), word_at(rt, 2));
         if let Asked::Within { limit, wgsl } = words {
-            return Asked::Within { limit, wgsl };
+            return Ok(Asked::Within { limit, wgsl });
         }
     }
-    io::write_all(
-        STDERR_FILENO,
-        b"The arguments, in either order, are the limit of frames, a number in decimal (1 to 1024, any other counting as 1024), and wgsl for the second pass.\n",
-    );
-    Asked::NotTaken
+    rt.eprintln(
+        "The arguments, in either order, are the limit of frames, a number in decimal (1 to 1024, any other counting \
+         as 1024), and wgsl for the second pass.",
+    )?;
+    Ok(Asked::NotTaken)
 }
 
 // What the listing program is asked for: sizes, or ranges between counts, with the limit that holds; or its words are
@@ -45,29 +54,29 @@ pub enum Listing {
 }
 
 // Argument i as two counts.
-fn counts_at(i: usize) -> CountWord {
+fn counts_at(env: &impl Env, i: usize) -> CountWord {
     let mut word = [0u8; 131072];
-    let n = os::arg(i, &mut word);
-    if os::errno() != 0 {
-        return CountWord::Neither;
+    match env.arg(i, &mut word) {
+        Ok(n) => counts_of(&word[..n]),
+        Err(_) => CountWord::Neither,
     }
-    counts_of(&word[..n])
 }
 
 // The counts of override 0, 1 and so on, by the arguments from `first` on; false where one is no pair of counts, or
 // there are more than the tables hold.
-fn take_counts(first: usize, least: &mut [u32], greatest: &mut [u32]) -> bool {
-    let n = os::arg_count();
-    let mut i = first;
-    let mut k = 0;
-    while i < n {
+fn take_counts(env: &impl Env, first: usize, least: &mut [u32], greatest: &mut [u32]) -> bool {
+    for i in first..usize::MAX {
+        if !is_given(env, i) {
+            return true;
+        }
+        let k = i - first;
         if least.len() <= k {
             return false;
         }
         if greatest.len() <= k {
             return false;
         }
-        match counts_at(i) {
+        match counts_at(env, i) {
             CountWord::Between {
                 least: low,
                 greatest: high,
@@ -79,8 +88,6 @@ fn take_counts(first: usize, least: &mut [u32], greatest: &mut [u32]) -> bool {
                 return false;
             }
         }
-        i += 1;
-        k += 1;
     }
     true
 }
@@ -88,24 +95,28 @@ fn take_counts(first: usize, least: &mut [u32], greatest: &mut [u32]) -> bool {
 // What the words ask for: the limit, which is 1,024 where the first word is no number; then least and greatest count
 // of each override, as 3-8, into the tables, which stay where there are none. Other words are told on standard error,
 // with what is taken.
-pub fn asked_listing(least: &mut [u32], greatest: &mut [u32]) -> Listing {
+pub fn asked_listing<R: Env + Eprint>(
+    rt: &R,
+    least: &mut [u32],
+    greatest: &mut [u32],
+) -> io::Result<Listing> {
     let mut limit = MAX_LIMIT;
     let mut first = 1;
-    if let Word::Limit(given) = word_at(1) {
+    if let Word::Limit(given) = word_at(rt, 1) {
         limit = given;
         first = 2;
     }
-    if os::arg_count() <= first {
-        return Listing::Sizes(limit);
+    if !is_given(rt, first) {
+        return Ok(Listing::Sizes(limit));
     }
-    if take_counts(first, least, greatest) {
-        return Listing::Ranges(limit);
+    if take_counts(rt, first, least, greatest) {
+        return Ok(Listing::Ranges(limit));
     }
-    io::write_all(
-        STDERR_FILENO,
-        b"The arguments are the limit of frames, a number in decimal (1 to 1024, any other counting as 1024), which may be left out, and the least and greatest count of each override in order, as 3-8.\n",
-    );
-    Listing::NotTaken
+    rt.eprintln(
+        "The arguments are the limit of frames, a number in decimal (1 to 1024, any other counting as 1024), which \
+         may be left out, and the least and greatest count of each override in order, as 3-8.",
+    )?;
+    Ok(Listing::NotTaken)
 }
 
 // What the cutting program is asked for: a row, and the limit that holds; or its words are not taken.
@@ -116,37 +127,33 @@ pub enum Cutting {
 }
 
 // Argument i as a row.
-fn row_at(i: usize) -> RowWord {
-    if os::arg_count() <= i {
-        return RowWord::Neither;
-    }
+fn row_at(env: &impl Env, i: usize) -> RowWord {
     let mut word = [0u8; 131072];
-    let n = os::arg(i, &mut word);
-    if os::errno() != 0 {
-        return RowWord::Neither;
+    match env.arg(i, &mut word) {
+        Ok(n) => row_of(&word[..n]),
+        Err(_) => RowWord::Neither,
     }
-    row_of(&word[..n])
 }
 
 // What the words ask for: the row, and the limit, which is 1,024 where there is one word. Other words are told on
 // standard error, with what is taken.
-pub fn asked_cutting() -> Cutting {
-    if os::arg_count() <= 3 {
-        if let RowWord::Row(row) = row_at(1) {
-            if let Word::Absent = word_at(2) {
-                return Cutting::Row {
+pub fn asked_cutting<R: Env + Eprint>(rt: &R) -> io::Result<Cutting> {
+    if !is_given(rt, 3) {
+        if let RowWord::Row(row) = row_at(rt, 1) {
+            if let Word::Absent = word_at(rt, 2) {
+                return Ok(Cutting::Row {
                     row,
                     limit: MAX_LIMIT,
-                };
+                });
             }
-            if let Word::Limit(limit) = word_at(2) {
-                return Cutting::Row { row, limit };
+            if let Word::Limit(limit) = word_at(rt, 2) {
+                return Ok(Cutting::Row { row, limit });
             }
         }
     }
-    io::write_all(
-        STDERR_FILENO,
-        b"The arguments are the row, a number in decimal, counted from 0, and the limit of frames, a number in decimal (1 to 1024, any other counting as 1024), which may be left out.\n",
-    );
-    Cutting::NotTaken
+    rt.eprintln(
+        "The arguments are the row, a number in decimal, counted from 0, and the limit of frames, a number in \
+         decimal (1 to 1024, any other counting as 1024), which may be left out.",
+    )?;
+    Ok(Cutting::NotTaken)
 }

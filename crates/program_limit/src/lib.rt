@@ -4,6 +4,7 @@
 
 pub mod arguments;
 pub mod counts;
+pub mod input;
 pub mod rows;
 
 ghost use Rattle.std.specs.Prelude.{◌≡◌, ◌&&◌, ◌≤◌, leb};

@@ -1,0 +1,9 @@
+-- The invariant: what was read stands within the buffer. What is left of the buffer falls.
+use Rattle.std.proofs.Common.{◌≤◌, ◌-◌, length}
+use Rattle.program_limit.proofs.input.read_full.Given as goal
+
+abbrev pub invariant-loop-done : goal.invariant-loop-done
+invariant-loop-done g l = l.done ≤ length l.buf
+
+abbrev pub decreases-loop-done : goal.decreases-loop-done
+decreases-loop-done g l = length l.buf - l.done
