@@ -73,7 +73,8 @@ module _ (frame : ℕ → Frame) (s : Starts) where
     unfolding frames_written
     no_room h = rw (lt-leb (16 * type_count s) (length o) (omega arith), never (leb (type_count s) max_frames))
 
-    pub all-written : (last : List ℕ) (k : ℕ) → type_count s ≤ max_frames → type_count s ≤ length o / 16 → k ≡ type_count s
+    pub all-written : (last : List ℕ) (k : ℕ) → type_count s ≤ max_frames → type_count s ≤ length o / 16
+        → k ≡ type_count s
         → last ≡ frames_of frame k ++ drop (16 * k) o
         → last ≡ frames_written frame s o
     unfolding frames_written
