@@ -8,7 +8,7 @@ abbrev pub invariant-loop-k : goal.invariant-loop-k
 invariant-loop-k l =
     (l.k ≤ 1024)
     × (sweep (reads_in l.frames l.s l.answers l.places) l.k l.marks
-        ≡ sweep (reads_in l.frames l.s l.answers l.places) 1024 l.initial.marks)
+    ≡ sweep (reads_in l.frames l.s l.answers l.places) 1024 l.initial.marks)
 
 abbrev pub decreases-loop-k : goal.decreases-loop-k
 decreases-loop-k l = l.k
