@@ -22,4 +22,5 @@ module _ (limit other : ℕ) (t : List ℕ) (a : length t ≤ 33 * most_frames l
 
   pub base-alike : pointer_base_type limit t f n ≡ pointer_base_type other t f n
   unfolding pointer_base_type
-  base-alike = over-alike limit other t a b Pb.NotAccepted (λ (fr : List ℕ). pointer_base_in fr (starts_of fr) n) f NotLent
+  base-alike = over-alike limit other t a b Pb.NotAccepted
+      (λ (fr : List ℕ). pointer_base_in fr (starts_of fr) n) f NotLent

@@ -27,8 +27,8 @@ starts-few fr h = (omega (arith, (begins fr 512).within), omega (arith, (begins 
 
 -- after reading gave r and left the frame buffer as `last`, n frames accepted
 pub few-starts : (limit : ℕ) (t fr last : List ℕ) (room : AnswerRoom) (n : ℕ) (r : Outcome)
-    → r ≡ read_file limit t (length fr) room → last ≡ frames_after limit t fr room → frames_in r ≡ Ou.Some n → (s : Starts)
-    → s ≡ starts_of (take (16 * n) last) → (type_count s ≤ 1024) × (override_count s ≤ 1024)
+    → r ≡ read_file limit t (length fr) room → last ≡ frames_after limit t fr room → frames_in r ≡ Ou.Some n
+    → (s : Starts) → s ≡ starts_of (take (16 * n) last) → (type_count s ≤ 1024) × (override_count s ≤ 1024)
 few-starts limit t fr last room n r er el en s es =
     rw (es, part-is limit t fr last room n r er el en)
     (starts-few (decoded t n)

@@ -1,0 +1,20 @@
+-- `canonical_form`: what it asks of the frames is asked of the text.
+use Rattle.std.proofs.Common.{ℕ, List, ap}
+use Rattle.answers.specs.declared.CanonicalType.TheVariants.{NotAccepted}
+use Rattle.answers.specs.Numbers.{canonical_said}
+use Rattle.archive.specs.Starts.{starts_of}
+use Rattle.rule_types.specs.Canonical.{canonical_type_in}
+use Rattle.rule_file.specs.Forms.{canonical_type}
+use Rattle.law_file.proofs.Over.{given}
+use Rattle.file_pointers.proofs.canonical_form.Goals as goal
+
+pub returns-in-Some-clause-outcome : goal.returns-in-Some-clause-outcome
+unfolding canonical_type
+returns-in-Some-clause-outcome c =
+    let e = c.read_file-read.ensures in
+    given _ _ _ _ _ _ (e.outcome, (e.said, e.frames)) c.frames_in.ensures c.in-Some.is c.first_frames-fr.ensures
+    NotAccepted (λ (x : List ℕ). canonical_type_in x (starts_of x) c.args.n)
+    (rw c.find_starts.ensures at c.canonical_type.ensures)
+
+pub returns-in-Some-clause-said : goal.returns-in-Some-clause-said
+returns-in-Some-clause-said c = ap canonical_said (returns-in-Some-clause-outcome c)
