@@ -10,7 +10,10 @@ ghost use Rattle.std.specs.Prelude.{◌≤◌};
 
 use answers::{MAX_FRAMES, MAX_TEXT_BYTES, Outcome};
 use file_read::read_file;
-use libc::STDOUT_FILENO;
+use program_limit::input::read_full;
+use std::fs::File;
+use std::io;
+use std::io::Read;
 use text_encode::write_text;
 
 // The number that the 5 digits from `at` on spell.
@@ -96,78 +99,80 @@ fn written(text: &[u8], frames: &[u8]) -> bool {
 }
 
 // Prints what became of the buffer.
-fn print_buffer(text: &[u8], frames: &[u8]) {
+fn print_buffer(rt: &impl Print, text: &[u8], frames: &[u8]) -> io::Result<()> {
     if untouched(frames, 0) {
-        io::write_all(STDOUT_FILENO, b" kept\n");
+        rt.println(" kept")
     } else if written(text, frames) {
-        io::write_all(STDOUT_FILENO, b" written\n");
+        rt.println(" written")
     } else {
-        io::write_all(STDOUT_FILENO, b" spoilt\n");
+        rt.println(" spoilt")
     }
 }
 
 // Reads a text within a limit over a lent buffer, and prints what that gives.
-fn replay(text: &[u8], limit: u32, frames: &mut [u8]) {
+fn replay(rt: &impl Print, text: &[u8], limit: u32, frames: &mut [u8]) -> io::Result<()> {
     let outcome = read_file(text, limit, frames);
-    io::print_decimal(STDOUT_FILENO, number(outcome));
-    io::write_all(STDOUT_FILENO, b" ");
-    io::print_decimal(STDOUT_FILENO, place(outcome));
-    print_buffer(text, frames);
+    let n = number(outcome);
+    let at = place(outcome);
+    print!(rt; "{n} {at}")?;
+    print_buffer(rt, text, frames)
 }
 
 // Fills `space` with a case's text and the line feed after it, and replays the text.
-fn case(fd: i32, space: &mut [u8], limit: u32, frames: &mut [u8]) {
-    let got = io::read_full(fd, space);
+fn case<R: Read>(
+    rt: &impl Print,
+    cases: &mut R,
+    space: &mut [u8],
+    limit: u32,
+    frames: &mut [u8],
+) -> io::Result<()> {
+    let got = read_full(cases, space)?;
     if 0 < got {
         let n = got - 1;
-        replay(&space[..n], limit, frames);
+        replay(rt, &space[..n], limit, frames)?;
     }
+    Ok(())
 }
 
 // Reads one case and replays it, and answers whether there was one.
-fn one(fd: i32) -> bool {
+fn one<R: Read>(rt: &impl Print, cases: &mut R) -> io::Result<bool> {
     let mut name = [0u8; 41];
-    if io::read_full(fd, &mut name) < 41 {
-        return false;
+    if read_full(cases, &mut name)? < 41 {
+        return Ok(false);
     }
     let mut sizes = [0u8; 18];
-    if io::read_full(fd, &mut sizes) < 18 {
-        return false;
+    if read_full(cases, &mut sizes)? < 18 {
+        return Ok(false);
     }
     let f = length(&sizes, 0);
     let n = length(&sizes, 6);
     let limit = length(&sizes, 12);
     if 20000 < f {
-        return false;
+        return Ok(false);
     }
     if 40000 <= n {
-        return false;
+        return Ok(false);
     }
     if 65792 < limit {
-        return false;
+        return Ok(false);
     }
-    io::write_all(STDOUT_FILENO, &name);
+    rt.write_all(&name)?;
     let mut space = [0u8; 40000];
     let mut frames = [238u8; 20000];
     let m = n + 1;
-    case(fd, &mut space[..m], limit as u32, &mut frames[..f]);
-    true
+    case(rt, cases, &mut space[..m], limit as u32, &mut frames[..f])?;
+    Ok(true)
 }
 
-fn all(fd: i32) {
+fn all<R: Read>(rt: &impl Print, cases: &mut R) -> io::Result<()> {
     let mut turns = u64::MAX;
-    while turns > 0 && one(fd) {
+    while turns > 0 && one(rt, cases)? {
         turns -= 1;
     }
+    Ok(())
 }
 
-fn main() {
-    let path = b"cases";
-    let fd = os::open_read(path);
-    if fd < 0 {
-        os::fail(path);
-        return;
-    }
-    all(fd);
-    libc::close(fd);
+fn main(rt: HostRuntime) -> io::Result<()> {
+    let mut cases = File::open(&rt, "cases")?;
+    all(&rt, &mut cases)
 }
