@@ -1,0 +1,12 @@
+-- `look_both`: the left is seen, or shows no form.
+use mathlib.Core.Path.{sym, ◌∙◌}
+use Rattle.rule_rows.specs.Operators.{product}
+use Rattle.row_operands.proofs.TwoOperands.{left-unseen}
+use Rattle.row_multiply.proofs.reads.look_both.Goals as goal
+
+pub returns-in-Ended : goal.returns-in-Ended
+returns-in-Ended c =
+    let g = c.args in
+    c.left_end.ensures
+    ∙ left-unseen product g.frames.now g.s g.here g.answers.now g.places.now g.left g.right
+    (sym c.look_into.ensures ∙ c.in-Ended.is)
