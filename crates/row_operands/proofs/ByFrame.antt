@@ -61,7 +61,8 @@ pub scalar-form : (f : Frame) → byte f 1 ≡ 1 → type_of f ≡ Tf.Known (Ti.
 unfolding type_of
 scalar-form f e = ap (λ (k : ℕ). type_as (type_kind_of k) f) e
 
-pub vector-form : (f : Frame) → byte f 1 ≡ 2 → type_of f ≡ Tf.Known (Ti.Vector (vector_size_of (byte f 2)) (read scalar f))
+pub vector-form : (f : Frame) → byte f 1 ≡ 2
+    → type_of f ≡ Tf.Known (Ti.Vector (vector_size_of (byte f 2)) (read scalar f))
 unfolding type_of
 vector-form f e = ap (λ (k : ℕ). type_as (type_kind_of k) f) e
 
@@ -119,7 +120,8 @@ unfolding plain_of
 zero-plain t e = never (cc)
 
 module _ (fr : List ℕ) (s : Starts) (here : RowNumber) where
-  shown_by : (f : Frame) (t : TypeInner) → plain_of (typed_frame fr s f) ≡ Tf.Known t → looked_by fr s here (answer_of f)
+  shown_by : (f : Frame) (t : TypeInner) → plain_of (typed_frame fr s f) ≡ Tf.Known t
+      → looked_by fr s here (answer_of f)
       ≡ Lo.Seen t
   unfolding answer_of
   shown_by f t e = go (eqb (byte f 0) 8) (eqb (byte f 0) 9) refl refl e
@@ -143,7 +145,8 @@ module _ (fr : List ℕ) (s : Starts) (here : RowNumber) where
   plain-seen an pl n t e = ap (looked_by fr s here) (past-frame an pl n) ∙ shown_by (past_frame an pl n) t e
 
   -- and so it does where the code has these frames and this form
-  pub shown-seen : (an pl : List ℕ) (n : RowNumber) {f g : Frame} {p : TypeForm} {t : TypeInner} → f ≡ past_frame an pl n
+  pub shown-seen : (an pl : List ℕ) (n : RowNumber) {f g : Frame} {p : TypeForm} {t : TypeInner}
+      → f ≡ past_frame an pl n
       → g ≡ typed_frame fr s f
       → p ≡ plain_of g → p ≡ Tf.Known t → looked_in fr s an pl here n ≡ Lo.Seen t
   shown-seen an pl n {f} {g} {p} {t} a b c e =

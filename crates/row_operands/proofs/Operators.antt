@@ -34,4 +34,5 @@ pub of-binary-operators : {B : Type 0} (f : BinaryOperator → B) {b : B} (ks : 
     → map (λ (k : ℕ). f (binary_operator_of k)) ks ≡ map (λ (k : ℕ). b) ks → (a : BinaryOperator)
     → OneOf ks (tag_of BinaryOperator'.the_type a) → b ≡ f a
 of-binary-operators f ks e a h =
-    of-keys (λ (k : ℕ). f (binary_operator_of k)) ks e (tag_of BinaryOperator'.the_type a) h ∙ ap f (binary_operator-tag a)
+    of-keys (λ (k : ℕ). f (binary_operator_of k)) ks e (tag_of BinaryOperator'.the_type a) h
+    ∙ ap f (binary_operator-tag a)

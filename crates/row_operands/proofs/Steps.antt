@@ -141,7 +141,8 @@ module _ (fr : List ℕ) (s : Starts) (an pl : List ℕ) where
       sampled-seen {i} q = sym
           (look-run n _ ∙ ap (λ (l : Looked). on_looked l (λ j. ran (sampled_from here n j))) q ∙ class-run i)
 
-      pub sampled-ended : {u : Unresolved} → looked_in fr s an pl here n ≡ Lo.Ended u → ended_by u ≡ ran (sampled here n)
+      pub sampled-ended : {u : Unresolved} → looked_in fr s an pl here n ≡ Lo.Ended u
+          → ended_by u ≡ ran (sampled here n)
       sampled-ended q = sym (look-run n _ ∙ ap (λ (l : Looked). on_looked l (λ j. ran (sampled_from here n j))) q)
 
       -- OF A POINTER its base is looked into

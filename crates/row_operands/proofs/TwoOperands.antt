@@ -89,7 +89,8 @@ module _ (f : OfBoth) (fr : List ℕ) (s : Starts) (here : RowNumber) where
   left_ended (An.Resolved a) (An.Resolved b) p = left-form (resolved a) (resolved b) (form_in fr s (resolved a)) p
 
   module _ (an pl : List ℕ) (l r : RowNumber) where
-    pub both-seen : {x y : TypeInner} → looked_in fr s an pl here l ≡ Lo.Seen x → looked_in fr s an pl here r ≡ Lo.Seen y
+    pub both-seen : {x y : TypeInner} → looked_in fr s an pl here l ≡ Lo.Seen x
+        → looked_in fr s an pl here r ≡ Lo.Seen y
         → (v : Result Typed)
         → ((a b : TypeResolution) → answer_in an pl l ≡ An.Resolved a → answer_in an pl r ≡ An.Resolved b → v
         ≡ told (f (resolved a) (resolved b) x y))
