@@ -7,27 +7,22 @@ use Rattle.archive.specs.Access.{member_in}
 use Rattle.rule.specs.Answers.{told}
 use Rattle.rule_rows.specs.Access.{member_pointer}
 use Rattle.rule_rows.proofs.Members.{listed-within, listed-past}
-use Rattle.row_access.proofs.access_index.member_pointer.Statement.{statement}
-use Rattle.row_access.proofs.access_index.member_pointer.Tie as tie
+use Rattle.row_access.proofs.access_index.member_pointer.Goals as goal
 
-pub member-pointer-spec : {M : Type 1} → statement M
-member-pointer-spec =
-    tie.close
-    (tie.spec
-    (λ c κs. tt)
-    (λ c κs. tt)
-    (λ c κs. tt)
-    (λ c.
-    let g = c.before.before.before.before.before.args in
-    rw (c.pointer-type.ensures, c.before.before.member-at.ensures)
+pub returns-then-index-count : goal.returns-then-index-count
+returns-then-index-count c =
+    let g = c.args in
+    rw (c.pointer_type.ensures, c.member_at-m.ensures)
     (sym
     (ap (λ (o : Option TypeNumber). told (member_pointer g.base g.index g.space o))
     (listed-within (λ (i : ℕ). (member_in g.frames.now g.s g.first i).ty) g.count g.index
-    c.before.before.before.if1.true))))
-    (λ c.
-    let g = c.before.before.before.args in
-    c.out-of-bounds.ensures
+    c.if-index-count.true)))
+
+pub returns-else-index-count : goal.returns-else-index-count
+returns-else-index-count c =
+    let g = c.args in
+    c.out_of_bounds.ensures
     ∙ sym
     (ap (λ (o : Option TypeNumber). told (member_pointer g.base g.index g.space o))
     (listed-past (λ (i : ℕ). (member_in g.frames.now g.s g.first i).ty) g.count g.index
-    c.before.if1.false))))
+    c.if-index-count.false))
