@@ -1,6 +1,6 @@
 -- Where the frame of an operand's answer shows no scalar, vector, matrix or cooperative matrix, a look sees no scalar,
 -- vector or matrix, so no line of WGSL's tables has its type. By the cases of the answer's family and of the kind.
-use Prim.Native.Nat.{ℕ, ◌<◌, ◌≤◌}
+use Prim.Native.Nat.{ℕ, ◌≤◌}
 use native.Mathlib.Omega.{arith}
 use native.Mathlib.Decide.{dec_le}
 use mathlib.Core.Path.{◌≡◌, refl, sym, ap, ◌∙◌}
@@ -119,7 +119,8 @@ module _ (fr : List ℕ) (s : Starts) (here : RowNumber) where
   of_end (Un.Refused e) t q = never (cc)
   of_end (Un.Newer r) t q = never (cc)
 
-  of-frame : (f : Frame) (t : TypeInner) → plain_of (typed_frame fr s f) ≡ Tf.Unknown → looked_by fr s here (answer_of f)
+  of-frame : (f : Frame) (t : TypeInner) → plain_of (typed_frame fr s f) ≡ Tf.Unknown
+      → looked_by fr s here (answer_of f)
       ≡ Lo.Seen t
       → shape_of t ≡ Sh.Other
   unfolding answer_of
@@ -136,7 +137,8 @@ module _ (fr : List ℕ) (s : Starts) (here : RowNumber) where
       go false true h q = of-value f t h (type_of f) refl q
       go false false h q = of_end (unresolved_of f) t q
 
-  unseen : (an pl : List ℕ) (n : RowNumber) (t : TypeInner) → plain_of (typed_frame fr s (past_frame an pl n)) ≡ Tf.Unknown
+  unseen : (an pl : List ℕ) (n : RowNumber) (t : TypeInner)
+      → plain_of (typed_frame fr s (past_frame an pl n)) ≡ Tf.Unknown
       → looked_in fr s an pl here n ≡ Lo.Seen t → shape_of t ≡ Sh.Other
   unfolding looked_in
   unseen an pl n t u e = of-frame (past_frame an pl n) t u (sym (ap (looked_by fr s here) (past-frame an pl n)) ∙ e)

@@ -6,7 +6,8 @@ ghost use Rattle.rule_rows.specs.Answered.{to_result};
 ghost use Rattle.rule_rows.specs.Operators.{or_mismatch};
 ghost use Rattle.rule_rows.specs.WgslTables.{plain};
 ghost use Rattle.rule_rows.specs.Wgsl.{when};
-ghost use Rattle.rule_rows.specs.Wgsl.{matrix_times_of, times_matrix_of, matrices_times_of, matrices_sum_of, plain_result};
+ghost use Rattle.rule_rows.specs.Wgsl.{matrix_times_of, times_matrix_of, matrices_times_of, matrices_sum_of};
+ghost use Rattle.rule_rows.specs.Wgsl.{plain_result};
 ghost use Rattle.rule_rows.specs.Wgsl.{matrices_result, if_multiply, shapes_result};
 ghost use Rattle.row_wgsl.specs.ForProofs.{test_of, size_of, scalar_of};
 

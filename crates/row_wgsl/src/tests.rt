@@ -1,6 +1,7 @@
 // What WGSL's tables ask of types: their shapes, kinds and sizes.
 ghost use Rattle.std.specs.Prelude.{◌≡◌};
-ghost use Rattle.rule_rows.specs.Wgsl.{shape_of, is_integer, is_float, is_numeric, equal_sizes, equal_counts, like_or_mixed};
+ghost use Rattle.rule_rows.specs.Wgsl.{shape_of, is_integer, is_float, is_numeric, equal_sizes, equal_counts};
+ghost use Rattle.rule_rows.specs.Wgsl.{like_or_mixed};
 ghost use Rattle.rule_rows.specs.Wgsl.{mixed};
 
 use ir::{OptionVectorSize, ScalarKind, TypeInner, VectorSize};
