@@ -10,7 +10,6 @@ use mathlib.Core.Option.{some}
 use lib.Dec.{eqb}
 use borrow.Author.Tests.{eqb-true}
 use Rattle.ir.specs.declared.TypeNumber.{TypeNumber}
-use Rattle.ir.specs.declared.Scalar.{Scalar}
 use Rattle.ir.specs.declared.TypeInner.{TypeInner}
 use Rattle.ir.specs.declared.TypeInner.TheVariants as Ti
 use Rattle.ir.specs.declared.TypeForm.TheVariants as Tf
@@ -81,7 +80,8 @@ module _ (fr : List ℕ) (s : Starts) where
       go false false false false p q r o h = never (cc)
 
   -- two numbers: where they are one, the forms are the same
-  like-numbers : (n m : TypeNumber) (t u : TypeInner) → type_in fr s n ≡ Tf.Known t → type_in fr s m ≡ Tf.Known u → Own t
+  like-numbers : (n m : TypeNumber) (t u : TypeInner) → type_in fr s n ≡ Tf.Known t → type_in fr s m ≡ Tf.Known u
+      → Own t
       → Own u
       → likeness fr s (number n) (number m) ≡ some (equal_types t u)
   like-numbers n m t u p q v w = go (identical (number n) (number m)) refl

@@ -82,7 +82,8 @@ scalars-same j k = same-two (eqb (scalar_kind_number j.kind) (scalar_kind_number
     (eqb (width_number j.width) (width_number k.width))
 
 pub vectors-same : (y z : VectorSize) (j k : Scalar)
-    → (eqb (vector_size_number y) (vector_size_number z) && equal_scalars j k) ≡ equal_types (Ti.Vector y j) (Ti.Vector z k)
+    → (eqb (vector_size_number y) (vector_size_number z) && equal_scalars j k)
+    ≡ equal_types (Ti.Vector y j) (Ti.Vector z k)
 unfolding equal_types
 vectors-same y z j k =
     same-three (eqb (vector_size_number y) (vector_size_number z))

@@ -78,7 +78,8 @@ count_small : (i : ℕ) (o : Option ℕ) (m : ℕ) → count_decides i o ≡ De.
 count_small i (some n) m e = let q : n ≡ m = cc in ap some q
 count_small i none m e = absurd (let z : ◌≡◌ {A = ℕ} 0 1 = cc in omega arith)
 
-form_small : (i : ℕ) (k : Scalar) (f : TypeForm) (m : ℕ) → form_decides i (λ t. count_decides i (adds k t)) f ≡ De.Adds m
+form_small : (i : ℕ) (k : Scalar) (f : TypeForm) (m : ℕ)
+    → form_decides i (λ t. count_decides i (adds k t)) f ≡ De.Adds m
     → m ≤ 4
 form_small i k (Tf.Known t) m e = adds-small k t m (count_small i (adds k t) m e)
 form_small i k Tf.Unknown m e = absurd (let z : ◌≡◌ {A = ℕ} 0 1 = cc in omega arith)

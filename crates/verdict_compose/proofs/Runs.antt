@@ -64,7 +64,8 @@ module _ (fr : List ℕ) (s : Starts) (an pl : List ℕ) where
   module _ (i : ℕ) (n : RowNumber) (inner : TypeAnswer → Rule Judgement) (by : TypeResolution → Decided)
       (rest : ℕ → Result Judgement) (h : (t : TypeResolution) → judged (inner (resolved t)) ≡ or_decided (by t) rest)
     where
-      come-by : (a : Answer) → answer_in an pl n ≡ a → judged (come_to i n inner) ≡ or_decided (answer_decides i by a) rest
+      come-by : (a : Answer) → answer_in an pl n ≡ a
+          → judged (come_to i n inner) ≡ or_decided (answer_decides i by a) rest
       come-by (An.Resolved t) e = rw (e, judged, run) (h t)
       come-by (An.Refused x) e = rw (e, judged, run)
       come-by (An.Newer r) e = rw (e, judged, run)
@@ -90,7 +91,8 @@ module _ (fr : List ℕ) (s : Starts) (an pl : List ℕ) where
   or-part i rest false = refl
 
   or-like : (i : ℕ) (rest : Rule Judgement) (o : Option Bool)
-      → on_bool o (λ b. judged (or_part i rest b)) (newer (component i)) ≡ or_decided (like_decides i o) (λ m. judged rest)
+      → on_bool o (λ b. judged (or_part i rest b)) (newer (component i))
+      ≡ or_decided (like_decides i o) (λ m. judged rest)
   or-like i rest (some b) = or-part i rest b
   or-like i rest none = refl
 
@@ -115,7 +117,8 @@ module _ (fr : List ℕ) (s : Starts) (an pl : List ℕ) where
   unfolding judged_by each_part
   part_step p i total n parts =
       let rest = each_part (asked_of fr s p) (suc i) parts in
-      come-to i n (λ a. asked_of fr s p i a (or_part i rest)) (λ t. part_decides fr s p i (resolved t)) (λ m. judged rest)
+      come-to i n (λ a. asked_of fr s p i a (or_part i rest)) (λ t. part_decides fr s p i (resolved t))
+      (λ m. judged rest)
       (λ t. asked p i rest (resolved t))
 
   or-added : (i : ℕ) (rest : ℕ → Rule Judgement) (o : Option ℕ) → judged (add_part i rest o)
@@ -137,7 +140,8 @@ module _ (fr : List ℕ) (s : Starts) (an pl : List ℕ) where
       (λ m. judged (rest m)) (λ u. or-added i rest (adds k u)))
 
   -- what a component decides by its answer, where the code has its row
-  pub read : (by : Answer → Decided) {row m : RowNumber} {r o : Decided} → row ≡ m → r ≡ by (answer_in an pl row) → r ≡ o
+  pub read : (by : Answer → Decided) {row m : RowNumber} {r o : Decided} → row ≡ m → r ≡ by (answer_in an pl row)
+      → r ≡ o
       → by (answer_in an pl m) ≡ o
   read by e h t = ap (λ (x : RowNumber). by (answer_in an pl x)) (sym e) ∙ sym h ∙ t
 

@@ -158,8 +158,10 @@ module _ (fr : List ℕ) (s : Starts) where
           let e : type_in fr s n ≡ Tf.Known t =
           e0 ∙ matrix-form g (sym e1 ∙ k)
           ∙ ap (λ (j : Scalar). Tf.Known (Ti.Matrix (vector_size_of (byte g 2)) (vector_size_of (byte g 3)) j)) scalars
-          ∙ ap (λ (b : ℕ). Tf.Known (Ti.Matrix (vector_size_of b) (vector_size_of (byte g 3)) (scalar_shown f))) (sym e2)
-          ∙ ap (λ (b : ℕ). Tf.Known (Ti.Matrix (vector_size_of (byte f 2)) (vector_size_of b) (scalar_shown f))) (sym e3) in
+          ∙ ap (λ (b : ℕ). Tf.Known (Ti.Matrix (vector_size_of b) (vector_size_of (byte g 3)) (scalar_shown f)))
+          (sym e2)
+          ∙ ap (λ (b : ℕ). Tf.Known (Ti.Matrix (vector_size_of (byte f 2)) (vector_size_of b) (scalar_shown f)))
+          (sym e3) in
           record { inner = t; form = matrix-form f k; alike = like-value n t t e refl refl refl }
       go false false false p q r o = never (cc)
 
