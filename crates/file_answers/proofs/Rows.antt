@@ -2,7 +2,7 @@
 -- and one more for a compose. From the laws of one row.
 use Prim.Native.Nat.{ℕ, zero, suc, ◌+◌, ◌*◌, ◌/◌, ◌≤◌, ◌<◌}
 use native.Mathlib.Omega.{arith}
-use mathlib.Core.Path.{◌≡◌, refl, sym, ap, ◌∙◌}
+use mathlib.Core.Path.{◌≡◌, refl, ap, ◌∙◌}
 use mathlib.Core.Bool.{Bool, true, false, cond, ◌&&◌}
 use mathlib.Core.List.{List, ◌++◌}
 use mathlib.Core.Option.{Option}
@@ -11,7 +11,6 @@ use lib.ListN.{length, drop, length-append}
 use borrow.Author.Tests.{eqb-true, eqb-false, le-leb, lt-leb}
 use Rattle.scan.specs.Lists.{sum_below}
 use Rattle.answers.specs.Limit.{max_frames}
-use Rattle.frames.specs.declared.Frame.{Frame}
 use Rattle.frames.specs.Bytes.{frame_at, frame_count}
 use Rattle.archive.specs.declared.Starts.{Starts}
 use Rattle.archive.specs.Starts.{starts_of, row_count}
@@ -19,7 +18,7 @@ use Rattle.rule.specs.Answers.{Judgement}
 use Rattle.rule.specs.Things.{see}
 use Rattle.rule.specs.Rule.{Rule}
 use Rattle.rule_rows.specs.declared.Pass.{Pass}
-use Rattle.rule_compose.specs.Rows.{verdict_rule, judged}
+use Rattle.rule_compose.specs.Rows.{judged}
 use Rattle.rule_answers.specs.Outputs.{verdict_frames, row_frames, outputs, output_bytes}
 use Rattle.rule_answers.specs.ForProofs.{places_of}
 use Rattle.law_answers.proofs.Bytes.{bytes-length}

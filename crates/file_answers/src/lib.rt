@@ -90,7 +90,6 @@ fn answer_row(
 }
 
 // Every row in order; gives how many frames are written. `places` takes at which of them each row's answer stands.
-#[tactic(auto, unfolding(rule_answers::specs::Outputs::outputs, rule_answers::specs::Outputs::frames_bytes, scan::specs::Lists::build))]
 fn fill(pass: Pass, frames: &[u8], s: Starts, answers: &mut [u8], places: &mut [u16]) -> usize
     requires room { Room pass frames.now (length answers.old) }
     requires starts { s ≡ starts_of frames.now }
