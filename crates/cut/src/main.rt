@@ -17,48 +17,41 @@ use frames::{Frame, put_frame};
 use frames_answers::write::{outcome_frame, refused};
 use ir::RowNumber;
 use law_cut::CutText;
-use libc::{STDIN_FILENO, STDOUT_FILENO};
 use program_limit::arguments::{Cutting, asked_cutting};
+use program_limit::input::read_full;
+use std::io;
 
-fn print(lines: &[u8]) {
-    if !io::write_all(STDOUT_FILENO, lines) {
-        os::fail(b"standard output");
-    }
-}
-
-fn print_frame(frame: Frame) {
+fn print_frame(rt: &impl Print, frame: Frame) -> io::Result<()> {
     let mut bytes = [0u8; 16];
     put_frame(&mut bytes, 0, frame);
     let mut line = [0u8; 33];
     if let Printed::Bytes(_) = put_lines(&bytes, &mut line) {
-        print(&line);
+        rt.write_all(&line)?;
     }
+    Ok(())
 }
 
-fn print_cut(text: &[u8], limit: u32, row: RowNumber) {
+fn print_cut(rt: &impl Print, text: &[u8], limit: u32, row: RowNumber) -> io::Result<()> {
     let mut frames = [0u8; MAX_FRAME_BYTES];
     let mut lines = [0u8; MAX_TEXT_BYTES];
     match cut_text(text, limit, &mut frames, row, &mut lines) {
-        CutText::Lines(n) => print(&lines[..33 * n as usize]),
-        CutText::Short => print_frame(outcome_frame(Outcome::Short)),
-        CutText::Sound => print_frame(refused(48, 0, 0, false)),
-        CutText::Index => print_frame(refused(6, 0, 0, false)),
-        CutText::NotAccepted(o) => print_frame(outcome_frame(o)),
+        CutText::Lines(n) => rt.write_all(&lines[..33 * n as usize]),
+        CutText::Short => print_frame(rt, outcome_frame(Outcome::Short)),
+        CutText::Sound => print_frame(rt, refused(48, 0, 0, false)),
+        CutText::Index => print_frame(rt, refused(6, 0, 0, false)),
+        CutText::NotAccepted(o) => print_frame(rt, outcome_frame(o)),
     }
 }
 
-fn cut_file(limit: u32, row: RowNumber) {
+fn cut_file<R: Input + Print>(rt: &R, limit: u32, row: RowNumber) -> io::Result<()> {
     let mut text = [0u8; MAX_TEXT_BYTES + 1];
-    let n = io::read_full(STDIN_FILENO, &mut text);
-    if os::errno() != 0 {
-        os::fail(b"standard input");
-        return;
-    }
-    print_cut(&text[..n], limit, row);
+    let n = read_full(&mut rt.reader(), &mut text)?;
+    print_cut(rt, &text[..n], limit, row)
 }
 
-fn main() {
-    if let Cutting::Row { row, limit } = asked_cutting() {
-        cut_file(limit, RowNumber(row));
+fn main(rt: HostRuntime) -> io::Result<()> {
+    if let Cutting::Row { row, limit } = asked_cutting(&rt)? {
+        cut_file(&rt, limit, RowNumber(row))?;
     }
+    Ok(())
 }

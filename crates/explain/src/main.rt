@@ -6,32 +6,29 @@
 
 use answers::{MAX_TEXT_BYTES, Printed};
 use explain_file::{MAX_EXPLAINED_BYTES, explain_text};
-use libc::{STDIN_FILENO, STDOUT_FILENO};
 use program_limit::Asked;
 use program_limit::arguments::asked;
+use program_limit::input::read_full;
 use rule_rows::Pass;
+use std::io;
 
-fn explain_rows(limit: u32, pass: Pass) {
+fn explain_rows<R: Input + Print>(rt: &R, limit: u32, pass: Pass) -> io::Result<()> {
     let mut text = [0u8; MAX_TEXT_BYTES + 1];
-    let n = io::read_full(STDIN_FILENO, &mut text);
-    if os::errno() != 0 {
-        os::fail(b"standard input");
-        return;
-    }
+    let n = read_full(&mut rt.reader(), &mut text)?;
     let mut lines = [0u8; MAX_EXPLAINED_BYTES];
     if let Printed::Bytes(m) = explain_text(&text[..n], limit, pass, &mut lines) {
-        if !io::write_all(STDOUT_FILENO, &lines[..m]) {
-            os::fail(b"standard output");
-        }
+        rt.write_all(&lines[..m])?;
     }
+    Ok(())
 }
 
-fn main() {
-    if let Asked::Within { limit, wgsl } = asked() {
+fn main(rt: HostRuntime) -> io::Result<()> {
+    if let Asked::Within { limit, wgsl } = asked(&rt)? {
         if wgsl {
-            explain_rows(limit, Pass::Second);
+            explain_rows(&rt, limit, Pass::Second)?;
         } else {
-            explain_rows(limit, Pass::First);
+            explain_rows(&rt, limit, Pass::First)?;
         }
     }
+    Ok(())
 }

@@ -7,114 +7,88 @@
 // its members, overrides, arguments and components past 1, and its rows past 4.
 #![tactic(auto)]
 
+ghost use Rattle.std.specs.Prelude.{◌≤◌, IfOk, length};
+
 use answers::{MAX_FRAME_BYTES, MAX_LIMIT, MAX_TEXT_BYTES, Printed};
 use file_exports::put_joined;
 use file_join::join_files;
 use file_lines::put_lines;
 use law_join::JoinedFile;
-use libc::{STDERR_FILENO, STDOUT_FILENO};
-use program_limit::{Word, word_of};
+use program_limit::Word;
+use program_limit::arguments::{is_given, word_at};
+use program_limit::input::read_full;
+use std::fs::File;
+use std::io;
+use std::rt::{Env, Files};
+use std::str::from_utf8;
 
-fn print(lines: &[u8]) {
-    if !io::write_all(STDOUT_FILENO, lines) {
-        os::fail(b"standard output");
-    }
-}
-
-fn print_number(given: JoinedFile) {
+fn print_number(rt: &impl Print, given: JoinedFile) -> io::Result<()> {
     let mut bytes = [0u8; 16];
     put_joined(&mut bytes, given);
     let mut line = [0u8; 33];
     if let Printed::Bytes(_) = put_lines(&bytes, &mut line) {
-        print(&line);
+        rt.write_all(&line)?;
     }
+    Ok(())
 }
 
-fn print_join(first: &[u8], second: &[u8], limit: u32) {
+fn print_join(rt: &impl Print, first: &[u8], second: &[u8], limit: u32) -> io::Result<()> {
     let mut frames = [0u8; MAX_FRAME_BYTES];
     let mut more = [0u8; MAX_FRAME_BYTES];
     let mut lines = [0u8; MAX_TEXT_BYTES];
     match join_files(first, second, limit, &mut frames, &mut more, &mut lines) {
-        JoinedFile::Frames(n) => print(&lines[..33 * n as usize]),
-        JoinedFile::First(o) => print_number(JoinedFile::First(o)),
-        JoinedFile::Second(o) => print_number(JoinedFile::Second(o)),
-        JoinedFile::NotJoinable => print_number(JoinedFile::NotJoinable),
-        JoinedFile::Long { limit: m } => print_number(JoinedFile::Long { limit: m }),
-        JoinedFile::Short => print_number(JoinedFile::Short),
+        JoinedFile::Frames(n) => rt.write_all(&lines[..33 * n as usize]),
+        JoinedFile::First(o) => print_number(rt, JoinedFile::First(o)),
+        JoinedFile::Second(o) => print_number(rt, JoinedFile::Second(o)),
+        JoinedFile::NotJoinable => print_number(rt, JoinedFile::NotJoinable),
+        JoinedFile::Long { limit: m } => print_number(rt, JoinedFile::Long { limit: m }),
+        JoinedFile::Short => print_number(rt, JoinedFile::Short),
     }
 }
 
-// Opens the file that argument i names; below 0 where that fails, which is told on standard error.
-fn open_named(i: usize) -> i32 {
+// Opens the file that argument i names, and reads it.
+fn read_named<R: Env + Files>(rt: &R, i: usize, text: &mut [u8]) -> io::Result<usize>
+    ensures ok { IfOk result (λ n. n ≤ length text.new) }
+{
     let mut name = [0u8; 4096];
-    let n = os::arg(i, &mut name);
-    if os::errno() != 0 {
-        os::fail(b"the name of a file");
-        return -1;
+    match rt.arg(i, &mut name) {
+        Ok(n) => match from_utf8(&name[..n]) {
+            Ok(path) => {
+                let mut file = File::open(rt, path)?;
+                read_full(&mut file, text)
+            }
+            Err(_) => Err(io::Error::from(io::ErrorKind::InvalidInput)),
+        },
+        Err(_) => Err(io::Error::from(io::ErrorKind::InvalidInput)),
     }
-    let fd = os::open_read(&name[..n]);
-    if fd < 0 {
-        os::fail(&name[..n]);
-    }
-    fd
 }
 
-// With the first file read, reads the second.
-fn join_second(first: &[u8], limit: u32) {
-    let mut text = [0u8; MAX_TEXT_BYTES + 1];
-    let fd = open_named(2);
-    if fd < 0 {
-        return;
-    }
-    let n = io::read_full(fd, &mut text);
-    if os::errno() != 0 {
-        os::fail(b"the second file");
-        libc::close(fd);
-        return;
-    }
-    libc::close(fd);
-    print_join(first, &text[..n], limit);
+fn join_named<R: Env + Files + Print>(rt: &R, limit: u32) -> io::Result<()> {
+    let mut first = [0u8; MAX_TEXT_BYTES + 1];
+    let n = read_named(rt, 1, &mut first)?;
+    let mut second = [0u8; MAX_TEXT_BYTES + 1];
+    let m = read_named(rt, 2, &mut second)?;
+    print_join(rt, &first[..n], &second[..m], limit)
 }
 
-fn join_named(limit: u32) {
-    let mut text = [0u8; MAX_TEXT_BYTES + 1];
-    let fd = open_named(1);
-    if fd < 0 {
-        return;
+// The limit by argument 3.
+fn asked_limit(env: &impl Env) -> Word {
+    match word_at(env, 3) {
+        Word::Absent => Word::Limit(MAX_LIMIT),
+        Word::Limit(limit) => Word::Limit(limit),
+        Word::Wgsl => Word::Wgsl,
+        Word::Neither => Word::Neither,
     }
-    let n = io::read_full(fd, &mut text);
-    if os::errno() != 0 {
-        os::fail(b"the first file");
-        libc::close(fd);
-        return;
-    }
-    libc::close(fd);
-    join_second(&text[..n], limit);
 }
 
-// The limit by argument 3; the system hands over no argument longer than this buffer.
-fn asked_limit() -> Word {
-    if os::arg_count() <= 3 {
-        return Word::Limit(MAX_LIMIT);
-    }
-    let mut word = [0u8; 131072];
-    let n = os::arg(3, &mut word);
-    if os::errno() != 0 {
-        return Word::Neither;
-    }
-    word_of(&word[..n])
-}
-
-fn main() {
-    let n = os::arg_count();
-    if 3 <= n && n <= 4 {
-        if let Word::Limit(limit) = asked_limit() {
-            join_named(limit);
-            return;
+fn main(rt: HostRuntime) -> io::Result<()> {
+    if is_given(&rt, 2) && !is_given(&rt, 4) {
+        if let Word::Limit(limit) = asked_limit(&rt) {
+            return join_named(&rt, limit);
         }
     }
-    io::write_all(
-        STDERR_FILENO,
-        b"The arguments are the names of the two files, and the limit of frames, a number in decimal (1 to 1024, any other counting as 1024), which may be left out.\n",
-    );
+    rt.eprintln(
+        "The arguments are the names of the two files, and the limit of frames, a number in decimal (1 to 1024, any \
+         other counting as 1024), which may be left out.",
+    )
 }

@@ -8,48 +8,44 @@
 
 use answers::{MAX_TEXT_BYTES, Printed};
 use explain_file::{MAX_SIZED_BYTES, ranges_text, sizes_text};
-use libc::{STDIN_FILENO, STDOUT_FILENO};
 use program_limit::arguments::{Listing, asked_listing};
+use program_limit::input::read_full;
+use std::io;
+use std::rt::Env;
 
-fn list_sizes(text: &[u8], limit: u32) {
+fn list_sizes(rt: &impl Print, text: &[u8], limit: u32) -> io::Result<()> {
     let mut lines = [0u8; MAX_SIZED_BYTES];
     if let Printed::Bytes(m) = sizes_text(text, limit, &mut lines) {
-        if !io::write_all(STDOUT_FILENO, &lines[..m]) {
-            os::fail(b"standard output");
-        }
+        rt.write_all(&lines[..m])?;
     }
+    Ok(())
 }
 
-fn list_ranges(text: &[u8], limit: u32, least: &[u32], greatest: &[u32]) {
+fn list_ranges(rt: &impl Print, text: &[u8], limit: u32, least: &[u32], greatest: &[u32]) -> io::Result<()> {
     let mut lines = [0u8; MAX_SIZED_BYTES];
     if let Printed::Bytes(m) = ranges_text(text, limit, least, greatest, &mut lines) {
-        if !io::write_all(STDOUT_FILENO, &lines[..m]) {
-            os::fail(b"standard output");
-        }
+        rt.write_all(&lines[..m])?;
     }
+    Ok(())
 }
 
-fn list(limit: u32, counted: bool, least: &[u32], greatest: &[u32]) {
+fn list<R: Input + Print>(rt: &R, limit: u32, counted: bool, least: &[u32], greatest: &[u32]) -> io::Result<()> {
     let mut text = [0u8; MAX_TEXT_BYTES + 1];
-    let n = io::read_full(STDIN_FILENO, &mut text);
-    if os::errno() != 0 {
-        os::fail(b"standard input");
-        return;
-    }
+    let n = read_full(&mut rt.reader(), &mut text)?;
     if counted {
-        list_ranges(&text[..n], limit, least, greatest);
+        list_ranges(rt, &text[..n], limit, least, greatest)
     } else {
-        list_sizes(&text[..n], limit);
+        list_sizes(rt, &text[..n], limit)
     }
 }
 
 // The whole program.
-pub fn list_file() {
+pub fn list_file<R: Env + Input + Print + Eprint>(rt: &R) -> io::Result<()> {
     let mut least = [0u32; 1024];
     let mut greatest = [0u32; 1024];
-    match asked_listing(&mut least, &mut greatest) {
-        Listing::Sizes(limit) => list(limit, false, &least, &greatest),
-        Listing::Ranges(limit) => list(limit, true, &least, &greatest),
-        Listing::NotTaken => {}
+    match asked_listing(rt, &mut least, &mut greatest)? {
+        Listing::Sizes(limit) => list(rt, limit, false, &least, &greatest),
+        Listing::Ranges(limit) => list(rt, limit, true, &least, &greatest),
+        Listing::NotTaken => Ok(()),
     }
 }

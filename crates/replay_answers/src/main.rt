@@ -12,8 +12,11 @@ use answers::{MAX_FRAME_BYTES, MAX_LIMIT, MAX_LINE_BYTES, Outcome, Printed, Same
 use file_lines::type_text;
 use file_read::same_type;
 use frames::frame_at;
-use libc::STDOUT_FILENO;
+use program_limit::input::read_full;
 use rule_rows::Pass;
+use std::fs::File;
+use std::io;
+use std::io::Read;
 use text::AnswerRoom;
 use text_decode::read_text;
 
@@ -43,105 +46,96 @@ fn number(outcome: Outcome) -> u64 {
     }
 }
 
-fn print(bytes: &[u8]) {
-    io::write_all(STDOUT_FILENO, bytes);
-}
-
 // Prints what typing a text by the first pass writes; the buffer has room for any.
-fn print_types(text: &[u8]) {
+fn print_types(rt: &impl Print, text: &[u8]) -> io::Result<()> {
     let mut out = [0u8; MAX_LINE_BYTES];
     if let Printed::Bytes(n) = type_text(text, MAX_LIMIT, Pass::First, &mut out) {
-        print(&out[..n]);
+        rt.write_all(&out[..n])?;
     }
+    Ok(())
 }
 
-fn print_sameness(same: Sameness) {
+fn print_sameness(rt: &impl Print, same: Sameness) -> io::Result<()> {
     match same {
-        Sameness::Same => print(b"yes\n"),
-        Sameness::Different => print(b"no\n"),
-        Sameness::Newer => print(b"22\n"),
-        Sameness::Field => print(b"5\n"),
-        Sameness::Index => print(b"6\n"),
-        Sameness::NotAccepted(outcome) => {
-            io::print_decimal(STDOUT_FILENO, number(outcome));
-            print(b"\n");
-        }
+        Sameness::Same => rt.println("yes"),
+        Sameness::Different => rt.println("no"),
+        Sameness::Newer => rt.println("22"),
+        Sameness::Field => rt.println("5"),
+        Sameness::Index => rt.println("6"),
+        Sameness::NotAccepted(outcome) => rt.println(number(outcome)),
     }
 }
 
 // Compares pair k of the frames `asked`, and prints what that gives.
-fn print_pair(text: &[u8], asked: &[u8], k: usize)
+fn print_pair(rt: &impl Print, text: &[u8], asked: &[u8], k: usize) -> io::Result<()>
     requires { k ≤ 512 }
 {
     let mut frames = [0u8; MAX_FRAME_BYTES];
     let left = frame_at(asked, 2 * k);
     let right = frame_at(asked, 2 * k + 1);
-    print_sameness(same_type(text, MAX_LIMIT, &mut frames, left, right));
+    print_sameness(rt, same_type(text, MAX_LIMIT, &mut frames, left, right))
 }
 
 // Reads the lines of the pairs, and compares each pair.
-fn print_pairs(text: &[u8], lines: &[u8]) {
+fn print_pairs(rt: &impl Print, text: &[u8], lines: &[u8]) -> io::Result<()> {
     let mut asked = [0u8; MAX_FRAME_BYTES];
     read_text(lines, MAX_LIMIT, &mut asked, AnswerRoom::NotLent);
     let many = lines.len() / 66;
     if 512 < many {
-        return;
+        return Ok(());
     }
     let mut k = 0;
     while k < many {
-        print_pair(text, &asked, k);
+        print_pair(rt, text, &asked, k)?;
         k += 1;
     }
+    Ok(())
 }
 
 // Fills `text` with a case's text, and `more` with the lines of its pairs and the line feed after them, and replays the
 // case.
-fn case(fd: i32, text: &mut [u8], more: &mut [u8]) {
-    io::read_full(fd, text);
-    print_types(text);
-    let got = io::read_full(fd, more);
+fn case<R: Read>(rt: &impl Print, cases: &mut R, text: &mut [u8], more: &mut [u8]) -> io::Result<()> {
+    read_full(cases, text)?;
+    print_types(rt, text)?;
+    let got = read_full(cases, more)?;
     if 0 < got {
         let n = got - 1;
-        print_pairs(text, &more[..n]);
+        print_pairs(rt, text, &more[..n])?;
     }
+    Ok(())
 }
 
 // Reads one case and replays it, and answers whether there was one.
-fn one(fd: i32) -> bool {
+fn one<R: Read>(rt: &impl Print, cases: &mut R) -> io::Result<bool> {
     let mut line = [0u8; 59];
-    if io::read_full(fd, &mut line) < 59 {
-        return false;
+    if read_full(cases, &mut line)? < 59 {
+        return Ok(false);
     }
     let n = length(&line, 47);
     let m = length(&line, 53);
     if 40000 < n {
-        return false;
+        return Ok(false);
     }
     if 40000 <= m {
-        return false;
+        return Ok(false);
     }
-    print(&line);
+    rt.write_all(&line)?;
     let mut text = [0u8; 40000];
     let mut more = [0u8; 40000];
     let e = m + 1;
-    case(fd, &mut text[..n], &mut more[..e]);
-    true
+    case(rt, cases, &mut text[..n], &mut more[..e])?;
+    Ok(true)
 }
 
-fn all(fd: i32) {
+fn all<R: Read>(rt: &impl Print, cases: &mut R) -> io::Result<()> {
     let mut turns = u64::MAX;
-    while turns > 0 && one(fd) {
+    while turns > 0 && one(rt, cases)? {
         turns -= 1;
     }
+    Ok(())
 }
 
-fn main() {
-    let path = b"cases";
-    let fd = os::open_read(path);
-    if fd < 0 {
-        os::fail(path);
-        return;
-    }
-    all(fd);
-    libc::close(fd);
+fn main(rt: HostRuntime) -> io::Result<()> {
+    let mut cases = File::open(&rt, "cases")?;
+    all(&rt, &mut cases)
 }

@@ -14,8 +14,11 @@ ghost use Rattle.std.specs.Prelude.{◌≤◌, length};
 use answers::{MAX_FRAME_BYTES, MAX_LIMIT, MAX_LINE_BYTES, MAX_TEXT_BYTES, Printed};
 use file_lines::type_text;
 use frames::{Frame, put_frame};
-use libc::STDOUT_FILENO;
+use program_limit::input::read_full;
 use rule_rows::Pass;
+use std::fs::File;
+use std::io;
+use std::io::Read;
 use text::AnswerRoom;
 use text_decode::read_text;
 use text_encode::write_text;
@@ -31,10 +34,6 @@ fn number(line: &[u8; 53], at: usize) -> usize
         i += 1;
     }
     n
-}
-
-fn print(bytes: &[u8]) {
-    io::write_all(STDOUT_FILENO, bytes);
 }
 
 // Whether a line is that of a refusal with a number, at a row, and zeros.
@@ -65,37 +64,40 @@ fn same(a: &[u8], b: &[u8]) -> bool {
 }
 
 // Prints what the answer of a row is, from its line.
-fn print_cell(line: &[u8], row: usize) {
+fn print_cell(rt: &impl Print, line: &[u8], row: usize) -> io::Result<()> {
     if refused(line, 41, 0) {
-        print(b".");
+        rt.print(".")?;
     } else if refused(line, 22, row) {
-        print(b"n");
+        rt.print("n")?;
     } else if 0 < line.len() {
         let e = line.len() - 1;
-        print(b" ");
-        print(&line[..e]);
-        print(b" ");
+        rt.print(" ")?;
+        rt.write_all(&line[..e])?;
+        rt.print(" ")?;
     }
+    Ok(())
 }
 
 // Prints the answers of the rows from `first` on.
-fn print_cells(lines: &[u8], first: usize) {
+fn print_cells(rt: &impl Print, lines: &[u8], first: usize) -> io::Result<()> {
     let many = lines.len() / 33;
     let mut row = first;
     while row < many {
         let a = 33 * row;
         let e = a + 33;
-        print_cell(&lines[a..e], row);
+        print_cell(rt, &lines[a..e], row)?;
         row += 1;
     }
+    Ok(())
 }
 
 // Types a text by the second pass, and prints the answers of the rows from `first` on.
-fn print_answers(text: &[u8], first: usize) {
+fn print_answers(rt: &impl Print, text: &[u8], first: usize) -> io::Result<()> {
     let mut out = [0u8; MAX_LINE_BYTES];
     if let Printed::Bytes(n) = type_text(text, MAX_LIMIT, Pass::Second, &mut out) {
-        print_cells(&out[..n], first);
+        print_cells(rt, &out[..n], first)?;
     }
+    Ok(())
 }
 
 fn binary(operator: u8, left: u8, right: u8) -> Frame {
@@ -131,111 +133,106 @@ fn put_rows(frames: &mut [u8], n: usize, rows: u8, operator: u8, left: u8)
 }
 
 // Prints the line of an operator and a left row.
-fn print_line(frames: &mut [u8], n: usize, rows: u8, operator: u8, left: u8)
+fn print_line(rt: &impl Print, frames: &mut [u8], n: usize, rows: u8, operator: u8, left: u8) -> io::Result<()>
     requires { n ≤ 700 }
 {
-    io::print_decimal(STDOUT_FILENO, operator as u64);
-    print(b" ");
-    io::print_decimal(STDOUT_FILENO, left as u64);
-    print(b" ");
+    print!(rt; "{operator} {left} ")?;
     put_rows(frames, n, rows, operator, left);
     let mut text = [0u8; MAX_TEXT_BYTES];
     let e = 33 * write_text(frames, &mut text);
-    print_answers(&text[..e], rows as usize);
-    print(b"\n");
+    print_answers(rt, &text[..e], rows as usize)?;
+    rt.println("")
 }
 
-fn print_operator(frames: &mut [u8], n: usize, rows: u8, operator: u8)
+fn print_operator(rt: &impl Print, frames: &mut [u8], n: usize, rows: u8, operator: u8) -> io::Result<()>
     requires { n ≤ 700 }
 {
     let mut left = 0;
     while left < rows {
-        print_line(frames, n, rows, operator, left);
+        print_line(rt, frames, n, rows, operator, left)?;
         left += 1;
     }
+    Ok(())
 }
 
-fn print_operators(frames: &mut [u8], n: usize, rows: u8)
+fn print_operators(rt: &impl Print, frames: &mut [u8], n: usize, rows: u8) -> io::Result<()>
     requires { n ≤ 700 }
 {
     let mut operator = 0;
     while operator < 18 {
-        print_operator(frames, n, rows, operator);
+        print_operator(rt, frames, n, rows, operator)?;
         operator += 1;
     }
+    Ok(())
 }
 
 // Replays a table: its frames, and room for the Binary rows behind them.
-fn print_table(text: &[u8], rows: u8)
+fn print_table(rt: &impl Print, text: &[u8], rows: u8) -> io::Result<()>
     requires { length text.now ≤ 20000 }
 {
     let mut frames = [0u8; MAX_FRAME_BYTES];
     read_text(text, MAX_LIMIT, &mut frames, AnswerRoom::NotLent);
     let n = text.len() / 33;
     let e = 16 * (n + rows as usize);
-    print_operators(&mut frames[..e], n, rows);
+    print_operators(rt, &mut frames[..e], n, rows)
 }
 
 // Prints the lines of a worked file by a pass.
-fn print_lines(text: &[u8], pass: Pass) {
+fn print_lines(rt: &impl Print, text: &[u8], pass: Pass) -> io::Result<()> {
     let mut out = [0u8; MAX_LINE_BYTES];
     if let Printed::Bytes(n) = type_text(text, MAX_LIMIT, pass, &mut out) {
-        print(&out[..n]);
+        rt.write_all(&out[..n])?;
     }
+    Ok(())
 }
 
-fn print_worked(text: &[u8]) {
-    print_lines(text, Pass::First);
-    print(b"second\n");
-    print_lines(text, Pass::Second);
+fn print_worked(rt: &impl Print, text: &[u8]) -> io::Result<()> {
+    print_lines(rt, text, Pass::First)?;
+    rt.println("second")?;
+    print_lines(rt, text, Pass::Second)
 }
 
 // Fills `text` with a case's text, and replays the case.
-fn case(fd: i32, text: &mut [u8], rows: u8)
+fn case<R: Read>(rt: &impl Print, cases: &mut R, text: &mut [u8], rows: u8) -> io::Result<()>
     requires { length text.old ≤ 20000 }
 {
-    io::read_full(fd, text);
+    read_full(cases, text)?;
     if rows == 0 {
-        print_worked(text);
+        print_worked(rt, text)
     } else {
-        print_table(text, rows);
+        print_table(rt, text, rows)
     }
 }
 
 // Reads one case and replays it, and answers whether there was one.
-fn one(fd: i32) -> bool {
+fn one<R: Read>(rt: &impl Print, cases: &mut R) -> io::Result<bool> {
     let mut line = [0u8; 53];
-    if io::read_full(fd, &mut line) < 53 {
-        return false;
+    if read_full(cases, &mut line)? < 53 {
+        return Ok(false);
     }
     let rows = number(&line, 41);
     let n = number(&line, 47);
     if 255 < rows {
-        return false;
+        return Ok(false);
     }
     if 20000 < n {
-        return false;
+        return Ok(false);
     }
-    print(&line);
+    rt.write_all(&line)?;
     let mut text = [0u8; 20000];
-    case(fd, &mut text[..n], rows as u8);
-    true
+    case(rt, cases, &mut text[..n], rows as u8)?;
+    Ok(true)
 }
 
-fn all(fd: i32) {
+fn all<R: Read>(rt: &impl Print, cases: &mut R) -> io::Result<()> {
     let mut turns = u64::MAX;
-    while turns > 0 && one(fd) {
+    while turns > 0 && one(rt, cases)? {
         turns -= 1;
     }
+    Ok(())
 }
 
-fn main() {
-    let path = b"cases";
-    let fd = os::open_read(path);
-    if fd < 0 {
-        os::fail(path);
-        return;
-    }
-    all(fd);
-    libc::close(fd);
+fn main(rt: HostRuntime) -> io::Result<()> {
+    let mut cases = File::open(&rt, "cases")?;
+    all(&rt, &mut cases)
 }

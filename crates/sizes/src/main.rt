@@ -1,6 +1,8 @@
 // The listing program (program_sizes/src/lib.rt): the types of a file with their sizes, or their ranges between counts.
 #![tactic(auto)]
 
-fn main() {
-    program_sizes::list_file();
+use std::io;
+
+fn main(rt: HostRuntime) -> io::Result<()> {
+    program_sizes::list_file(&rt)
 }

@@ -2,6 +2,8 @@
 // what it must print was written by hand (as the first of `ranges`, case_explain/specs/Table.antt).
 #![tactic(auto)]
 
-fn main() {
-    program_sizes::list_file();
+use std::io;
+
+fn main(rt: HostRuntime) -> io::Result<()> {
+    program_sizes::list_file(&rt)
 }
