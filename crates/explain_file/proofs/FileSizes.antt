@@ -2,7 +2,7 @@
 -- From the laws of reading a file.
 use Prim.Native.Nat.{ℕ, ◌*◌, ◌≤◌}
 use native.Mathlib.Omega.{arith}
-use mathlib.Core.Path.{◌≡◌, sym, ap, ◌∙◌}
+use mathlib.Core.Path.{◌≡◌, ap, ◌∙◌}
 use mathlib.Core.List.{List, ◌++◌}
 use lib.ListN.{length, take, drop, length-append}
 use lib.Seq.{take_at}
@@ -21,7 +21,7 @@ use Rattle.rule_file.specs.declared.OptionUsize.TheVariants as Ou
 use Rattle.rule_file.specs.File.{over_file, read_file, frames_after}
 use Rattle.rule_file.specs.ForProofs.{frames_in}
 use Rattle.law_file.proofs.Over.{read, part-is, given-over, refused_over}
-use Rattle.rule_explain.specs.Explained.{Lines, fault_lines}
+use Rattle.rule_explain.specs.Explained.{fault_lines}
 use Rattle.rule_explain.specs.Sized.{size_lines, file_sizes, sizes_of, ranges_in, ranges_of}
 use Rattle.explain_file.proofs.Fits.{few-types, overrides-few}
 
