@@ -21,7 +21,13 @@ fn list_sizes(rt: &impl Print, text: &[u8], limit: u32) -> io::Result<()> {
     Ok(())
 }
 
-fn list_ranges(rt: &impl Print, text: &[u8], limit: u32, least: &[u32], greatest: &[u32]) -> io::Result<()> {
+fn list_ranges(
+    rt: &impl Print,
+    text: &[u8],
+    limit: u32,
+    least: &[u32],
+    greatest: &[u32],
+) -> io::Result<()> {
     let mut lines = [0u8; MAX_SIZED_BYTES];
     if let Printed::Bytes(m) = ranges_text(text, limit, least, greatest, &mut lines) {
         rt.write_all(&lines[..m])?;
@@ -29,7 +35,13 @@ fn list_ranges(rt: &impl Print, text: &[u8], limit: u32, least: &[u32], greatest
     Ok(())
 }
 
-fn list<R: Input + Print>(rt: &R, limit: u32, counted: bool, least: &[u32], greatest: &[u32]) -> io::Result<()> {
+fn list<R: Input + Print>(
+    rt: &R,
+    limit: u32,
+    counted: bool,
+    least: &[u32],
+    greatest: &[u32],
+) -> io::Result<()> {
     let mut text = [0u8; MAX_TEXT_BYTES + 1];
     let n = read_full(&mut rt.reader(), &mut text)?;
     if counted {
