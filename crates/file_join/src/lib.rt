@@ -167,7 +167,6 @@ fn join_second(
 // are. Each file is checked on its own frame buffer alone, as `read_file` leaves it: the first, then the second. Then
 // either may be one that is not joined (49), the join over the limit (1), or the buffer for its lines too small (3),
 // and that buffer is unchanged.
-#[tactic(auto, unfolding(law_join::specs::File::join_files, law_join::specs::File::second_after, law_join::specs::File::joined_after))]
 pub fn join_files(
     first: &[u8],
     second: &[u8],
