@@ -17,7 +17,7 @@ is-small out x y h = sym (ap (λ (b : Bool). cond b x y) (lt-ltb (length out) 16
 has_room : {A : Type 0} (out : List ℕ) (x y : A) → 16 ≤ length out → y ≡ by_room out x y
 has_room out x y h = sym (ap (λ (b : Bool). cond b x y) (le-ltb (length out) 16 h))
 
-not-put : (out : List ℕ) (f : Frame) → length out < 16 → out ≡ put_frame out 0 f
+pub not-put : (out : List ℕ) (f : Frame) → length out < 16 → out ≡ put_frame out 0 f
 unfolding put_frame
 not-put out f h = rw (le-ltb 0 (frame_count out) (omega arith))
 
