@@ -94,7 +94,12 @@ fn print_pairs(rt: &impl Print, text: &[u8], lines: &[u8]) -> io::Result<()> {
 
 // Fills `text` with a case's text, and `more` with the lines of its pairs and the line feed after them, and replays the
 // case.
-fn case<R: Read>(rt: &impl Print, cases: &mut R, text: &mut [u8], more: &mut [u8]) -> io::Result<()> {
+fn case<R: Read>(
+    rt: &impl Print,
+    cases: &mut R,
+    text: &mut [u8],
+    more: &mut [u8],
+) -> io::Result<()> {
     read_full(cases, text)?;
     print_types(rt, text)?;
     let got = read_full(cases, more)?;

@@ -133,7 +133,14 @@ fn put_rows(frames: &mut [u8], n: usize, rows: u8, operator: u8, left: u8)
 }
 
 // Prints the line of an operator and a left row.
-fn print_line(rt: &impl Print, frames: &mut [u8], n: usize, rows: u8, operator: u8, left: u8) -> io::Result<()>
+fn print_line(
+    rt: &impl Print,
+    frames: &mut [u8],
+    n: usize,
+    rows: u8,
+    operator: u8,
+    left: u8,
+) -> io::Result<()>
     requires { n ≤ 700 }
 {
     print!(rt; "{operator} {left} ")?;
@@ -144,7 +151,13 @@ fn print_line(rt: &impl Print, frames: &mut [u8], n: usize, rows: u8, operator: 
     rt.println("")
 }
 
-fn print_operator(rt: &impl Print, frames: &mut [u8], n: usize, rows: u8, operator: u8) -> io::Result<()>
+fn print_operator(
+    rt: &impl Print,
+    frames: &mut [u8],
+    n: usize,
+    rows: u8,
+    operator: u8,
+) -> io::Result<()>
     requires { n ≤ 700 }
 {
     let mut left = 0;

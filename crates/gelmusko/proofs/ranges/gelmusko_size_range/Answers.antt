@@ -12,11 +12,15 @@ returns-then-out-lt16-clause-out c = not-put _ _ c.if-out-lt16.true
 pub returns-clause-outcome : goal.returns-clause-outcome
 returns-clause-outcome c =
     (handed one_number range_said_frame _ (c.put_range.ensures.outcome, c.put_range.ensures.out)
-    (ap type_range_said (c.size_range-given.ensures.outcome ∙ range-clamped _ _ _ _ _ _ _ c.clamped.ensures)) c.size_range-given.ensures.frames c.if-out-lt16.false
+    (ap type_range_said (c.size_range-given.ensures.outcome
+    ∙ range-clamped _ _ _ _ _ _ _ c.clamped.ensures))
+    c.size_range-given.ensures.frames c.if-out-lt16.false
     _ []).0
 
 pub returns-clause-out : goal.returns-clause-out
 returns-clause-out c =
     (handed one_number range_said_frame _ (c.put_range.ensures.outcome, c.put_range.ensures.out)
-    (ap type_range_said (c.size_range-given.ensures.outcome ∙ range-clamped _ _ _ _ _ _ _ c.clamped.ensures)) c.size_range-given.ensures.frames c.if-out-lt16.false
+    (ap type_range_said (c.size_range-given.ensures.outcome
+    ∙ range-clamped _ _ _ _ _ _ _ c.clamped.ensures))
+    c.size_range-given.ensures.frames c.if-out-lt16.false
     0 []).1.1

@@ -12,11 +12,13 @@ returns-then-out-lt16-clause-out c = not-put _ _ c.if-out-lt16.true
 pub returns-clause-outcome : goal.returns-clause-outcome
 returns-clause-outcome c =
     (handed one_number size_said_frame _ (c.put_size.ensures.outcome, c.put_size.ensures.out)
-    (ap size_said (c.type_size-given.ensures.outcome ∙ size-clamped _ _ _ _ _ c.clamped.ensures)) c.type_size-given.ensures.frames c.if-out-lt16.false
+    (ap size_said (c.type_size-given.ensures.outcome ∙ size-clamped _ _ _ _ _ c.clamped.ensures))
+    c.type_size-given.ensures.frames c.if-out-lt16.false
     _ []).0
 
 pub returns-clause-out : goal.returns-clause-out
 returns-clause-out c =
     (handed one_number size_said_frame _ (c.put_size.ensures.outcome, c.put_size.ensures.out)
-    (ap size_said (c.type_size-given.ensures.outcome ∙ size-clamped _ _ _ _ _ c.clamped.ensures)) c.type_size-given.ensures.frames c.if-out-lt16.false
+    (ap size_said (c.type_size-given.ensures.outcome ∙ size-clamped _ _ _ _ _ c.clamped.ensures))
+    c.type_size-given.ensures.frames c.if-out-lt16.false
     0 []).1.1

@@ -12,11 +12,13 @@ returns-then-out-lt16-clause-out c = not-put _ _ c.if-out-lt16.true
 pub returns-clause-outcome : goal.returns-clause-outcome
 returns-clause-outcome c =
     (handed type_said_number type_said_frame _ (c.put_base.ensures.outcome, c.put_base.ensures.out)
-    (c.pointer_base-given.ensures.said ∙ ap base_said (base-clamped _ _ _ _ _ c.clamped.ensures)) c.pointer_base-given.ensures.frames c.if-out-lt16.false
+    (c.pointer_base-given.ensures.said ∙ ap base_said (base-clamped _ _ _ _ _ c.clamped.ensures))
+    c.pointer_base-given.ensures.frames c.if-out-lt16.false
     _ []).0
 
 pub returns-clause-out : goal.returns-clause-out
 returns-clause-out c =
     (handed type_said_number type_said_frame _ (c.put_base.ensures.outcome, c.put_base.ensures.out)
-    (c.pointer_base-given.ensures.said ∙ ap base_said (base-clamped _ _ _ _ _ c.clamped.ensures)) c.pointer_base-given.ensures.frames c.if-out-lt16.false
+    (c.pointer_base-given.ensures.said ∙ ap base_said (base-clamped _ _ _ _ _ c.clamped.ensures))
+    c.pointer_base-given.ensures.frames c.if-out-lt16.false
     0 []).1.1
