@@ -1,6 +1,6 @@
 -- A frame put after those of a list joins them; the rows of the cut, one by one; and a row's part, from the answers in
 -- the buffer.
-use Prim.Native.Nat.{ℕ, zero, suc, ◌+◌, ◌*◌, ◌≤◌, ◌<◌}
+use Prim.Native.Nat.{ℕ, ◌+◌, ◌*◌, ◌≤◌}
 use native.Mathlib.Numerals.{add-one}
 use native.Mathlib.Omega.{arith}
 use mathlib.Core.Path.{◌≡◌, refl, sym, ap, ◌∙◌}
@@ -14,7 +14,6 @@ use Rattle.frames.proofs.Put.{put-length}
 use Rattle.archive.specs.Starts.{starts_of, row_count}
 use Rattle.archive.proofs.Ranks.{begins}
 use Rattle.rule.specs.Things.{listed}
-use Rattle.rule.proofs.Named.{listed-length}
 use Rattle.rule_answers.specs.Outputs.{frames_bytes}
 use Rattle.law_answers.proofs.Bytes.{bytes-length, put-after}
 use Rattle.law_moved.specs.Frames.{moved_row}

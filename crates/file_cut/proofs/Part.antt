@@ -1,6 +1,6 @@
 -- A row's part, from the answers in the buffer: each stands at its place, so the rows read by them are those of the
 -- definition. And an accepted text is ready to be answered in a buffer for the answers of any file.
-use Prim.Native.Nat.{ℕ, ◌+◌, ◌*◌, ◌≤◌, ◌<◌}
+use Prim.Native.Nat.{ℕ, ◌*◌, ◌<◌}
 use native.Mathlib.Omega.{arith}
 use mathlib.Core.Path.{◌≡◌, refl, sym, ap, ◌∙◌}
 use mathlib.Core.Bool.{Bool, true, false, cond}
@@ -11,12 +11,10 @@ use Rattle.ir.specs.declared.RowNumber.{RowNumber}
 use Rattle.answers.specs.declared.Answer.{Answer}
 use Rattle.answers.specs.declared.Answer.TheVariants as An
 use Rattle.answers.specs.declared.Outcome.{Outcome}
-use Rattle.answers.specs.declared.Outcome.TheVariants.{Accepted}
 use Rattle.answers.specs.declared.Printed.{Printed}
 use Rattle.answers.specs.declared.Printed.TheVariants as Pr
 use Rattle.answers.specs.Limit.{max_frames, max_answer_bytes}
-use Rattle.text.specs.declared.AnswerRoom.TheVariants.{NotLent, Lent}
-use Rattle.text.specs.Lines.{decoded}
+use Rattle.text.specs.declared.AnswerRoom.TheVariants.{NotLent}
 use Rattle.text.proofs.Laws.{count_small}
 use Rattle.frames.specs.Bytes.{frame_count}
 use Rattle.archive.specs.declared.Starts.{Starts}
@@ -27,13 +25,13 @@ use Rattle.rule.specs.Things.{see}
 use Rattle.rule_rows.specs.declared.Pass.TheVariants as Pa
 use Rattle.rule_rows.specs.Answered.{to_result}
 use Rattle.rule_rows.specs.OverBuffer.{answer_in, past_in}
-use Rattle.rule_answers.specs.Outputs.{row_answer, frames_bytes}
+use Rattle.rule_answers.specs.Outputs.{row_answer}
 use Rattle.rule_answers.specs.ForProofs.{places_of}
 use Rattle.rule_file.specs.declared.OptionUsize.{OptionUsize}
 use Rattle.rule_file.specs.declared.OptionUsize.TheVariants as Ou
 use Rattle.rule_file.specs.File.{read_file, frames_after}
 use Rattle.rule_file.specs.Typing.{answers_written, answer}
-use Rattle.rule_file.specs.Printed.{printed, printed_after}
+use Rattle.rule_file.specs.Printed.{printed}
 use Rattle.rule_file.specs.ForProofs.{frames_in, Ready}
 use Rattle.law_file.proofs.Laws.{accepted-when}
 use Rattle.law_file.proofs.Over.{read, part-is}
@@ -41,13 +39,11 @@ use Rattle.law_file.proofs.Ready.{ready_of}
 use Rattle.law_file.proofs.Row.{good_of, few-rows}
 use Rattle.law_file.proofs.One.{one_answer}
 use Rattle.law_moved.proofs.Files.{file-count}
-use Rattle.law_cut.specs.declared.PartOutcome.{PartOutcome}
 use Rattle.law_cut.specs.declared.PartOutcome.TheVariants as Po
-use Rattle.law_cut.specs.declared.CutText.{CutText}
 use Rattle.law_cut.specs.declared.CutText.TheVariants as Ct
 use Rattle.law_cut.specs.Marks.{no_marks, marks_by, marks_of}
 use Rattle.law_cut.specs.Cut.{cut_frames, cut_file}
-use Rattle.law_cut.specs.File.{of_answer, part_in, if_marked, part_text, as_lines, or_number, cut_in}
+use Rattle.law_cut.specs.File.{of_answer, part_in, if_marked, as_lines}
 use Rattle.law_moved.proofs.Texts.{with-answers}
 use Rattle.file_answers.specs.Rows.{has_room}
 use Rattle.file_answers.proofs.Rows.{Filled, all-filled}
