@@ -14,7 +14,7 @@ pub returns-then-marks-lt1024-clause-outcome : goal.returns-then-marks-lt1024-cl
 returns-then-marks-lt1024-clause-outcome c =
     let fr = c.args.frames.now in
     let small = c.if-marks-lt1024.true in
-    (handed-rows (λ (r : Refused). r.number) refused_frame _ (c.put_outcome.ensures.outcome, c.put_outcome.ensures.out)
+    (handed-rows (λ (r : Refused). r.number) refused_frame _ c.put_outcome.ensures
     (ap outcome_values c.short_read.ensures ∙ short-said _ _ fr _ small _ _) (short-frames _ _ _ _ small)
     (short-table _ _ fr _ small _ _) c.if-out-lt16.false _ [] []).0
 
@@ -22,7 +22,7 @@ pub returns-then-marks-lt1024-clause-frames : goal.returns-then-marks-lt1024-cla
 returns-then-marks-lt1024-clause-frames c =
     let fr = c.args.frames.now in
     let small = c.if-marks-lt1024.true in
-    (handed-rows (λ (r : Refused). r.number) refused_frame _ (c.put_outcome.ensures.outcome, c.put_outcome.ensures.out)
+    (handed-rows (λ (r : Refused). r.number) refused_frame _ c.put_outcome.ensures
     (ap outcome_values c.short_read.ensures ∙ short-said _ _ fr _ small _ _) (short-frames _ _ _ _ small)
     (short-table _ _ fr _ small _ _) c.if-out-lt16.false 0 _ []).1.0
 
@@ -30,7 +30,7 @@ pub returns-then-marks-lt1024-clause-marks : goal.returns-then-marks-lt1024-clau
 returns-then-marks-lt1024-clause-marks c =
     let fr = c.args.frames.now in
     let small = c.if-marks-lt1024.true in
-    (handed-rows (λ (r : Refused). r.number) refused_frame _ (c.put_outcome.ensures.outcome, c.put_outcome.ensures.out)
+    (handed-rows (λ (r : Refused). r.number) refused_frame _ c.put_outcome.ensures
     (ap outcome_values c.short_read.ensures ∙ short-said _ _ fr _ small _ _) (short-frames _ _ _ _ small)
     (short-table _ _ fr _ small _ _) c.if-out-lt16.false 0 [] _).1.1.0
 
@@ -38,7 +38,7 @@ pub returns-then-marks-lt1024-clause-out : goal.returns-then-marks-lt1024-clause
 returns-then-marks-lt1024-clause-out c =
     let fr = c.args.frames.now in
     let small = c.if-marks-lt1024.true in
-    (handed-rows (λ (r : Refused). r.number) refused_frame _ (c.put_outcome.ensures.outcome, c.put_outcome.ensures.out)
+    (handed-rows (λ (r : Refused). r.number) refused_frame _ c.put_outcome.ensures
     (ap outcome_values c.short_read.ensures ∙ short-said _ _ fr _ small _ _) (short-frames _ _ _ _ small)
     (short-table _ _ fr _ small _ _) c.if-out-lt16.false 0 [] []).1.1.1
 
