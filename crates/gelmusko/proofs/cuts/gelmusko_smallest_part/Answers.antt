@@ -12,80 +12,104 @@ returns-then-out-lt16-clause-out c = not-put _ _ c.if-out-lt16.true
 
 pub returns-then-marks-lt1024-clause-outcome : goal.returns-then-marks-lt1024-clause-outcome
 returns-then-marks-lt1024-clause-outcome c =
-    let fr = c.args.frames.now in
+    let a = c.args in
+    let n = length a.frames.now in
     let small = c.if-marks-lt1024.true in
     (handed-rows (λ (r : Refused). r.number) refused_frame _ c.put_outcome.ensures
-    (ap outcome_values c.short_read.ensures ∙ short-said _ _ fr _ small _ _) (short-frames _ _ _ _ small)
-    (short-table _ _ fr _ small _ _) c.if-out-lt16.false _ [] []).0
+    (ap outcome_values c.short_read.ensures
+    ∙ short-said a.limit a.text.now a.frames.now a.marks.now small n a.row)
+    (short-frames a.limit a.text.now a.frames.now a.marks.now small)
+    (short-table a.limit a.text.now a.frames.now a.marks.now small n a.row)
+    c.if-out-lt16.false _ [] []).0
 
 pub returns-then-marks-lt1024-clause-frames : goal.returns-then-marks-lt1024-clause-frames
 returns-then-marks-lt1024-clause-frames c =
-    let fr = c.args.frames.now in
+    let a = c.args in
+    let n = length a.frames.now in
     let small = c.if-marks-lt1024.true in
     (handed-rows (λ (r : Refused). r.number) refused_frame _ c.put_outcome.ensures
-    (ap outcome_values c.short_read.ensures ∙ short-said _ _ fr _ small _ _) (short-frames _ _ _ _ small)
-    (short-table _ _ fr _ small _ _) c.if-out-lt16.false 0 _ []).1.0
+    (ap outcome_values c.short_read.ensures
+    ∙ short-said a.limit a.text.now a.frames.now a.marks.now small n a.row)
+    (short-frames a.limit a.text.now a.frames.now a.marks.now small)
+    (short-table a.limit a.text.now a.frames.now a.marks.now small n a.row)
+    c.if-out-lt16.false 0 _ []).1.0
 
 pub returns-then-marks-lt1024-clause-marks : goal.returns-then-marks-lt1024-clause-marks
 returns-then-marks-lt1024-clause-marks c =
-    let fr = c.args.frames.now in
+    let a = c.args in
+    let n = length a.frames.now in
     let small = c.if-marks-lt1024.true in
     (handed-rows (λ (r : Refused). r.number) refused_frame _ c.put_outcome.ensures
-    (ap outcome_values c.short_read.ensures ∙ short-said _ _ fr _ small _ _) (short-frames _ _ _ _ small)
-    (short-table _ _ fr _ small _ _) c.if-out-lt16.false 0 [] _).1.1.0
+    (ap outcome_values c.short_read.ensures
+    ∙ short-said a.limit a.text.now a.frames.now a.marks.now small n a.row)
+    (short-frames a.limit a.text.now a.frames.now a.marks.now small)
+    (short-table a.limit a.text.now a.frames.now a.marks.now small n a.row)
+    c.if-out-lt16.false 0 [] _).1.1.0
 
 pub returns-then-marks-lt1024-clause-out : goal.returns-then-marks-lt1024-clause-out
 returns-then-marks-lt1024-clause-out c =
-    let fr = c.args.frames.now in
+    let a = c.args in
+    let n = length a.frames.now in
     let small = c.if-marks-lt1024.true in
     (handed-rows (λ (r : Refused). r.number) refused_frame _ c.put_outcome.ensures
-    (ap outcome_values c.short_read.ensures ∙ short-said _ _ fr _ small _ _) (short-frames _ _ _ _ small)
-    (short-table _ _ fr _ small _ _) c.if-out-lt16.false 0 [] []).1.1.1
+    (ap outcome_values c.short_read.ensures
+    ∙ short-said a.limit a.text.now a.frames.now a.marks.now small n a.row)
+    (short-frames a.limit a.text.now a.frames.now a.marks.now small)
+    (short-table a.limit a.text.now a.frames.now a.marks.now small n a.row)
+    c.if-out-lt16.false 0 [] []).1.1.1
 
 pub returns-clause-outcome : goal.returns-clause-outcome
 returns-clause-outcome c =
     let a = c.args in
     let e = c.smallest_part-part.ensures in
-    let n = c.clamped.ensures in
+    let k = c.clamped in
+    let n = length a.frames.now in
     let room = c.if-marks-lt1024.false in
     (handed-rows (λ (r : Refused). r.number) refused_frame _ (c.put_part.ensures.outcome, c.put_part.ensures.out)
-    (room-said _ _ a.frames.now _ room _ _ _ n e.outcome)
-    (e.frames ∙ room-frames _ _ a.frames.now _ room (length a.frames.now) _ _ n)
-    (c.put_marks.ensures ∙ room-table _ _ a.frames.now _ room _ _ _ n e.marks)
+    (room-said a.limit a.text.now a.frames.now a.marks.now room n a.row k.result k.ensures e.outcome)
+    (e.frames ∙ room-frames a.limit a.text.now a.frames.now a.marks.now room n a.row k.result k.ensures)
+    (c.put_marks.ensures
+    ∙ room-table a.limit a.text.now a.frames.now a.marks.now room n a.row k.result k.ensures e.marks)
     c.if-out-lt16.false _ [] []).0
 
 pub returns-clause-frames : goal.returns-clause-frames
 returns-clause-frames c =
     let a = c.args in
     let e = c.smallest_part-part.ensures in
-    let n = c.clamped.ensures in
+    let k = c.clamped in
+    let n = length a.frames.now in
     let room = c.if-marks-lt1024.false in
     (handed-rows (λ (r : Refused). r.number) refused_frame _ (c.put_part.ensures.outcome, c.put_part.ensures.out)
-    (room-said _ _ a.frames.now _ room _ _ _ n e.outcome)
-    (e.frames ∙ room-frames _ _ a.frames.now _ room (length a.frames.now) _ _ n)
-    (c.put_marks.ensures ∙ room-table _ _ a.frames.now _ room _ _ _ n e.marks)
+    (room-said a.limit a.text.now a.frames.now a.marks.now room n a.row k.result k.ensures e.outcome)
+    (e.frames ∙ room-frames a.limit a.text.now a.frames.now a.marks.now room n a.row k.result k.ensures)
+    (c.put_marks.ensures
+    ∙ room-table a.limit a.text.now a.frames.now a.marks.now room n a.row k.result k.ensures e.marks)
     c.if-out-lt16.false 0 _ []).1.0
 
 pub returns-clause-marks : goal.returns-clause-marks
 returns-clause-marks c =
     let a = c.args in
     let e = c.smallest_part-part.ensures in
-    let n = c.clamped.ensures in
+    let k = c.clamped in
+    let n = length a.frames.now in
     let room = c.if-marks-lt1024.false in
     (handed-rows (λ (r : Refused). r.number) refused_frame _ (c.put_part.ensures.outcome, c.put_part.ensures.out)
-    (room-said _ _ a.frames.now _ room _ _ _ n e.outcome)
-    (e.frames ∙ room-frames _ _ a.frames.now _ room (length a.frames.now) _ _ n)
-    (c.put_marks.ensures ∙ room-table _ _ a.frames.now _ room _ _ _ n e.marks)
+    (room-said a.limit a.text.now a.frames.now a.marks.now room n a.row k.result k.ensures e.outcome)
+    (e.frames ∙ room-frames a.limit a.text.now a.frames.now a.marks.now room n a.row k.result k.ensures)
+    (c.put_marks.ensures
+    ∙ room-table a.limit a.text.now a.frames.now a.marks.now room n a.row k.result k.ensures e.marks)
     c.if-out-lt16.false 0 [] _).1.1.0
 
 pub returns-clause-out : goal.returns-clause-out
 returns-clause-out c =
     let a = c.args in
     let e = c.smallest_part-part.ensures in
-    let n = c.clamped.ensures in
+    let k = c.clamped in
+    let n = length a.frames.now in
     let room = c.if-marks-lt1024.false in
     (handed-rows (λ (r : Refused). r.number) refused_frame _ (c.put_part.ensures.outcome, c.put_part.ensures.out)
-    (room-said _ _ a.frames.now _ room _ _ _ n e.outcome)
-    (e.frames ∙ room-frames _ _ a.frames.now _ room (length a.frames.now) _ _ n)
-    (c.put_marks.ensures ∙ room-table _ _ a.frames.now _ room _ _ _ n e.marks)
+    (room-said a.limit a.text.now a.frames.now a.marks.now room n a.row k.result k.ensures e.outcome)
+    (e.frames ∙ room-frames a.limit a.text.now a.frames.now a.marks.now room n a.row k.result k.ensures)
+    (c.put_marks.ensures
+    ∙ room-table a.limit a.text.now a.frames.now a.marks.now room n a.row k.result k.ensures e.marks)
     c.if-out-lt16.false 0 [] []).1.1.1
