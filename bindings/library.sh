@@ -2,6 +2,6 @@
 # Proves the crate gelmusko_c and all below it, and writes the static library to target/staticlib/libgelmusko.a.
 set -euo pipefail
 cd "$(dirname "$0")/.."
-rt lib gelmusko_c
+(cd crates/gelmusko_c && rt lib)
 mkdir -p target/staticlib
 cp crates/gelmusko_c/out/libgelmusko_c.a target/staticlib/libgelmusko.a

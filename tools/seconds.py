@@ -18,7 +18,7 @@ top = os.path.join(os.path.dirname(os.path.abspath(__file__)), '..')
 kept = os.path.join(top, 'crates', name, 'out', 'incremental')
 shutil.rmtree(kept, ignore_errors=True)
 began = time.time()
-said = subprocess.run(['rt', 'check', name], cwd=top, stdout=subprocess.PIPE, stderr=subprocess.STDOUT, text=True).stdout
+said = subprocess.run(['rt', 'check'], cwd=os.path.join(top, 'crates', name), stdout=subprocess.PIPE, stderr=subprocess.STDOUT, text=True).stdout
 whole = time.time() - began
 
 written = sorted((os.stat(os.path.join(folder, file)).st_mtime_ns, file) for folder, _, files in os.walk(kept) for file in files if file.endswith('.oantt'))
