@@ -26,7 +26,8 @@ pub fn put_lines(frames: &[u8], out: &mut [u8]) -> Printed
         ≡ printed_after (text_of frames.now (frame_count frames.now)) out.old }
 {
     let n = frames.len() / 16;
-    if out.len() / 33 < n {
+    let short = out.len() / 33 < n;
+    if short {
         return Printed::Short;
     }
     write_text(frames, out);

@@ -82,7 +82,8 @@ pub fn size_range(
     ensures frames { frames.new
         ≡ frames_ranged limit text.now frames.old least.now greatest.now }
 {
-    if (least.len() < 1024) | (greatest.len() < 1024) {
+    let short = (least.len() < 1024) | (greatest.len() < 1024);
+    if short {
         return TypeRange::NotAccepted(short_read(text, limit));
     }
     let outcome = read_file(text, limit, frames);

@@ -39,7 +39,8 @@ pub extern "C" fn gelmusko_read_file(
         ≡ put_frame out.old 0
         (outcome_frame (read_file limit text.now (length frames.old) NotLent)) }
 {
-    if out.len() < 16 {
+    let small = out.len() < 16;
+    if small {
         return no_room(text, limit);
     }
     let read = read_file(text, limit, frames);

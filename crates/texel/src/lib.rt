@@ -29,7 +29,8 @@ fn nearest(n: u32) -> u32
 {
     let q = n / 10000;
     let twice = n % 10000 * 2;
-    if twice < 10000 {
+    let below = twice < 10000;
+    if below {
         q
     } else if 10000 < twice {
         q + 1
@@ -44,7 +45,8 @@ pub fn texel_of(density: u32) -> Texel
     ensures said { texel_said result
         ≡ cond (leb density 10000) (asked (rounded (density * 65535))) (instead (at 40 0)) }
 {
-    if density <= 10000 {
+    let within = density <= 10000;
+    if within {
         Texel::Given(nearest(density * 65535) as u16)
     } else {
         Texel::Range

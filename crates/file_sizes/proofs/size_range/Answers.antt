@@ -9,13 +9,13 @@ use Rattle.law_file_sizes.proofs.Said.{range-said}
 use Rattle.file_sizes.proofs.Ranged.{few-starts, is-short, not_short}
 use Rattle.file_sizes.proofs.size_range.Goals as goal
 
-pub returns-then-least-greatest-clause-said : goal.returns-then-least-greatest-clause-said
+pub returns-then-short-clause-said : goal.returns-then-short-clause-said
 unfolding size_range
-returns-then-least-greatest-clause-said c =
+returns-then-short-clause-said c =
     let g = c.args in
     ap type_range_said
     (ap NotAccepted c.short_read.ensures
-    ∙ is-short (tables_short g.least.now g.greatest.now) _ _ c.if-least-greatest.true)
+    ∙ is-short (tables_short g.least.now g.greatest.now) _ _ c.if-short.true)
     ∙ range-said g.limit g.text.now _ g.least.now g.greatest.now g.n
 
 pub type_range-requires : goal.type_range-requires
@@ -32,7 +32,7 @@ returns-in-None-clause-said c =
     ap type_range_said
     (refused _ _ _ _ _ _ (e.outcome, (e.said, e.frames)) c.frames_in.ensures c.in-None.is NotAccepted
     (λ (x : List ℕ). type_range_in x (starts_of x) (counts_of g.least.now) (counts_of g.greatest.now) g.n)
-    ∙ not_short (tables_short g.least.now g.greatest.now) _ _ c.if-least-greatest.false)
+    ∙ not_short (tables_short g.least.now g.greatest.now) _ _ c.if-short.false)
     ∙ range-said g.limit g.text.now _ g.least.now g.greatest.now g.n
 
 pub returns-in-Some-clause-outcome : goal.returns-in-Some-clause-outcome
@@ -44,7 +44,7 @@ returns-in-Some-clause-outcome c =
     NotAccepted
     (λ (x : List ℕ). type_range_in x (starts_of x) (counts_of g.least.now) (counts_of g.greatest.now) g.n)
     (rw c.find_starts.ensures at c.type_range.ensures)
-    ∙ not_short (tables_short g.least.now g.greatest.now) _ _ c.if-least-greatest.false
+    ∙ not_short (tables_short g.least.now g.greatest.now) _ _ c.if-short.false
 
 pub returns-in-Some-clause-said : goal.returns-in-Some-clause-said
 returns-in-Some-clause-said c =
