@@ -26,31 +26,31 @@ pub fn product(left: TypeInner, right: TypeInner) -> Times
             return Times::Left;
         }
     }
-    // "Binary arithmetic expressions with mixed scalar and vector operands": vec_n<S> * S : vec_n<S>.
+    // "Binary arithmetic expressions with mixed scalar and vector operands": vecN<S> * S : vecN<S>.
     if let TypeInner::Vector { .. } = left {
         if let TypeInner::Scalar(_) = right {
             return Times::Left;
         }
     }
-    // S * vec_n<S> : vec_n<S>.
+    // S * vecN<S> : vecN<S>.
     if let TypeInner::Scalar(_) = left {
         if let TypeInner::Vector { .. } = right {
             return Times::Right;
         }
     }
-    // "Matrix arithmetic": mat_cx_r<T> * T : mat_cx_r<T>.
+    // "Matrix arithmetic": matCxR<T> * T : matCxR<T>.
     if let TypeInner::Matrix { .. } = left {
         if let TypeInner::Scalar(_) = right {
             return Times::Left;
         }
     }
-    // T * mat_cx_r<T> : mat_cx_r<T>.
+    // T * matCxR<T> : matCxR<T>.
     if let TypeInner::Scalar(_) = left {
         if let TypeInner::Matrix { .. } = right {
             return Times::Right;
         }
     }
-    // mat_cx_r<T> * vec_c<T> : vec_r<T>.
+    // matCxR<T> * vecC<T> : vecR<T>.
     if let TypeInner::Vector { .. } = right {
         if let TypeInner::Matrix {
             rows: size,
@@ -61,7 +61,7 @@ pub fn product(left: TypeInner, right: TypeInner) -> Times
             return Times::Value(TypeInner::Vector { size, scalar });
         }
     }
-    // vec_r<T> * mat_cx_r<T> : vec_c<T>.
+    // vecR<T> * matCxR<T> : vecC<T>.
     if let TypeInner::Vector { .. } = left {
         if let TypeInner::Matrix {
             columns: size,
@@ -72,7 +72,7 @@ pub fn product(left: TypeInner, right: TypeInner) -> Times
             return Times::Value(TypeInner::Vector { size, scalar });
         }
     }
-    // mat_kx_r<T> * mat_cx_k<T> : mat_cx_r<T>.
+    // matKxR<T> * matCxK<T> : matCxR<T>.
     if let TypeInner::Matrix { rows, scalar, .. } = left {
         if let TypeInner::Matrix { columns, .. } = right {
             return Times::Value(TypeInner::Matrix {

@@ -27,7 +27,7 @@ use Rattle.rule_rows.specs.Steps.{operand, look, by_type}
 abbrev pub sampled_scalar : ScalarKind → Scalar
 sampled_scalar k = record { kind = k; width = Wd.Four }
 
--- IMAGESAMPLE with gather. WGSL: "Texture Built-in Functions", texture_gather.
+-- IMAGESAMPLE with gather. WGSL: "Texture Built-in Functions", textureGather.
 
 -- of the sampled kind, otherwise Float
 abbrev pub gathered_scalar : ImageClass → Scalar
@@ -45,7 +45,7 @@ gathered_of image t = if_image t (λ d c. given (value (Ti.Vector Vs.Quad (gathe
 abbrev pub gathered : RowNumber → RowNumber → Rule Typed
 gathered here image = by_type here image (gathered_of image)
 
--- IMAGESAMPLE without gather, and IMAGELOAD. WGSL: "Texture Built-in Functions", texture_sample and texture_load.
+-- IMAGESAMPLE without gather, and IMAGELOAD. WGSL: "Texture Built-in Functions", textureSample and textureLoad.
 
 -- by the class: a scalar of a depth image, else four components; of a storage image those of its format's scalar
 abbrev pub sampled_of : ImageClass → TypeInner
@@ -73,8 +73,8 @@ image_sample here image false = sampled here image
 abbrev pub image_load : RowNumber → RowNumber → Rule Typed
 image_load here image = sampled here image
 
--- IMAGEQUERY. WGSL: "Texture Built-in Functions", texture_dimensions, texture_num_levels, texture_num_layers and
--- texture_num_samples.
+-- IMAGEQUERY. WGSL: "Texture Built-in Functions", textureDimensions, textureNumLevels, textureNumLayers and
+-- textureNumSamples.
 
 -- an image's size, by its dimension
 abbrev pub size_of : ImageDimension → TypeInner

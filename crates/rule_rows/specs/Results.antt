@@ -32,7 +32,7 @@ abbrev pub subgroup_operation_result : TypeNumber → Rule Typed
 subgroup_operation_result t = done (given (number t))
 
 -- WORKGROUPUNIFORMLOADRESULT: the type that the row names. WGSL: "Synchronization Built-in Functions",
--- workgroup_uniform_load.
+-- workgroupUniformLoad.
 abbrev pub work_group_uniform_load_result : TypeNumber → Rule Typed
 work_group_uniform_load_result t = done (given (number t))
 
@@ -47,7 +47,7 @@ result_of Fr.None = refused FunctionReturnsVoid
 abbrev pub call_result : FunctionResult → Rule Typed
 call_result r = done (result_of r)
 
--- ARRAYLENGTH. WGSL: "Array Built-in Functions", array_length.
+-- ARRAYLENGTH. WGSL: "Array Built-in Functions", arrayLength.
 abbrev pub array_length : Rule Typed
 array_length = done (given (value (Ti.Scalar U32)))
 
@@ -68,7 +68,7 @@ ray_query_get_intersection t = done (special t)
 abbrev pub ray_query_vertex_positions : Option TypeNumber → Rule Typed
 ray_query_vertex_positions t = done (special t)
 
--- SUBGROUPBALLOTRESULT. WGSL: "Subgroup Built-in Functions", subgroup_ballot.
+-- SUBGROUPBALLOTRESULT. WGSL: "Subgroup Built-in Functions", subgroupBallot.
 abbrev pub subgroup_ballot_result : Rule Typed
 subgroup_ballot_result = done (given (value (Ti.Vector Vs.Quad U32)))
 

@@ -93,7 +93,7 @@ global_variable t s = done (variable t s)
 abbrev pub local_variable : TypeNumber → Rule Typed
 local_variable t = done (given (value (Ti.Pointer t Sp.Function)))
 
--- LOAD. WGSL: "Memory Views", the load rule, and "Atomic Built-in Functions", atomic_load.
+-- LOAD. WGSL: "Memory Views", the load rule, and "Atomic Built-in Functions", atomicLoad.
 
 -- through a Pointer: of an Atomic its scalar by value; another base gives its number
 abbrev pub load_through : TypeNumber → TypeInner → Typed

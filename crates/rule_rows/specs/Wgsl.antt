@@ -22,7 +22,7 @@ use Rattle.rule_rows.specs.WgslTables.{plain}
 
 -- WHAT THE TABLES ASK OF TYPES
 
--- a type's shape: S or vec_n<S>, mat_cx_r<S>, or a type that is in no line
+-- a type's shape: S or vecN<S>, matCxR<S>, or a type that is in no line
 abbrev pub shape_of : TypeInner → Shape
 shape_of t =
     if_scalar t (λ s. Sh.Plain Ov.None s)

@@ -17,7 +17,7 @@ use Rattle.ir.specs.TypeMethods.{value_base}
 
 -- WHAT THE LINES SPEAK OF
 
--- S, or vec_n<S>: a scalar type, or a vector of that scalar
+-- S, or vecN<S>: a scalar type, or a vector of that scalar
 abbrev pub plain : OptionVectorSize → Scalar → TypeInner
 plain n s = value_base n s
 
@@ -44,13 +44,13 @@ pub data Wgsl : BinaryOperator → TypeInner → TypeInner → TypeInner → Typ
   logical-or : Wgsl Bo.LogicalOr (Ti.Scalar BOOL) (Ti.Scalar BOOL) (Ti.Scalar BOOL)
   -- e1 && e2 : bool, short-circuiting
   logical-and : Wgsl Bo.LogicalAnd (Ti.Scalar BOOL) (Ti.Scalar BOOL) (Ti.Scalar BOOL)
-  -- e1 | e2 : T, of T is bool or vec_n<bool>
+  -- e1 | e2 : T, of T is bool or vecN<bool>
   or-bools : (n : OptionVectorSize) → Wgsl Bo.InclusiveOr (plain n BOOL) (plain n BOOL) (plain n BOOL)
   -- e1 & e2 : T
   and-bools : (n : OptionVectorSize) → Wgsl Bo.And (plain n BOOL) (plain n BOOL) (plain n BOOL)
   -- "ARITHMETIC EXPRESSIONS"
 
-  -- binary arithmetic expressions: T is S or vec_n<S>, S is numeric; componentwise of vectors
+  -- binary arithmetic expressions: T is S or vecN<S>, S is numeric; componentwise of vectors
   -- e1 + e2 : T, addition
   add : (n : OptionVectorSize) (s : Scalar) → Numeric s.kind → Wgsl Bo.Add (plain n s) (plain n s) (plain n s)
   -- e1 - e2 : T, subtraction
@@ -65,60 +65,60 @@ pub data Wgsl : BinaryOperator → TypeInner → TypeInner → TypeInner → Typ
   -- e1 % e2 : T, remainder
   modulo : (n : OptionVectorSize) (s : Scalar) → Numeric s.kind
       → Wgsl Bo.Modulo (plain n s) (plain n s) (plain n s)
-  -- binary arithmetic expressions with mixed scalar and vector operands: es : S, ev : vec_n<S>, S is numeric
-  -- ev + es : vec_n<S>
+  -- binary arithmetic expressions with mixed scalar and vector operands: es : S, ev : vecN<S>, S is numeric
+  -- ev + es : vecN<S>
   add-vector-scalar : (n : VectorSize) (s : Scalar) → Numeric s.kind
       → Wgsl Bo.Add (Ti.Vector n s) (Ti.Scalar s) (Ti.Vector n s)
-  -- es + ev : vec_n<S>
+  -- es + ev : vecN<S>
   add-scalar-vector : (n : VectorSize) (s : Scalar) → Numeric s.kind
       → Wgsl Bo.Add (Ti.Scalar s) (Ti.Vector n s) (Ti.Vector n s)
-  -- ev - es : vec_n<S>
+  -- ev - es : vecN<S>
   subtract-vector-scalar : (n : VectorSize) (s : Scalar) → Numeric s.kind
       → Wgsl Bo.Subtract (Ti.Vector n s) (Ti.Scalar s) (Ti.Vector n s)
-  -- es - ev : vec_n<S>
+  -- es - ev : vecN<S>
   subtract-scalar-vector : (n : VectorSize) (s : Scalar) → Numeric s.kind
       → Wgsl Bo.Subtract (Ti.Scalar s) (Ti.Vector n s) (Ti.Vector n s)
-  -- ev * es : vec_n<S>
+  -- ev * es : vecN<S>
   multiply-vector-scalar : (n : VectorSize) (s : Scalar) → Numeric s.kind
       → Wgsl Bo.Multiply (Ti.Vector n s) (Ti.Scalar s) (Ti.Vector n s)
-  -- es * ev : vec_n<S>
+  -- es * ev : vecN<S>
   multiply-scalar-vector : (n : VectorSize) (s : Scalar) → Numeric s.kind
       → Wgsl Bo.Multiply (Ti.Scalar s) (Ti.Vector n s) (Ti.Vector n s)
-  -- ev / es : vec_n<S>
+  -- ev / es : vecN<S>
   divide-vector-scalar : (n : VectorSize) (s : Scalar) → Numeric s.kind
       → Wgsl Bo.Divide (Ti.Vector n s) (Ti.Scalar s) (Ti.Vector n s)
-  -- es / ev : vec_n<S>
+  -- es / ev : vecN<S>
   divide-scalar-vector : (n : VectorSize) (s : Scalar) → Numeric s.kind
       → Wgsl Bo.Divide (Ti.Scalar s) (Ti.Vector n s) (Ti.Vector n s)
-  -- ev % es : vec_n<S>
+  -- ev % es : vecN<S>
   modulo-vector-scalar : (n : VectorSize) (s : Scalar) → Numeric s.kind
       → Wgsl Bo.Modulo (Ti.Vector n s) (Ti.Scalar s) (Ti.Vector n s)
-  -- es % ev : vec_n<S>
+  -- es % ev : vecN<S>
   modulo-scalar-vector : (n : VectorSize) (s : Scalar) → Numeric s.kind
       → Wgsl Bo.Modulo (Ti.Scalar s) (Ti.Vector n s) (Ti.Vector n s)
   -- matrix arithmetic: T is a floating point type
-  -- e1 + e2 : mat_cx_r<T>, of two mat_cx_r<T>
+  -- e1 + e2 : matCxR<T>, of two matCxR<T>
   add-matrices : (c r : VectorSize) (t : Scalar) → t.kind ≡ Sk.Float
       → Wgsl Bo.Add (Ti.Matrix c r t) (Ti.Matrix c r t) (Ti.Matrix c r t)
-  -- e1 - e2 : mat_cx_r<T>, of two mat_cx_r<T>
+  -- e1 - e2 : matCxR<T>, of two matCxR<T>
   subtract-matrices : (c r : VectorSize) (t : Scalar) → t.kind ≡ Sk.Float
       → Wgsl Bo.Subtract (Ti.Matrix c r t) (Ti.Matrix c r t) (Ti.Matrix c r t)
-  -- m * s : mat_cx_r<T>, of m : mat_cx_r<T> and s : T
+  -- m * s : matCxR<T>, of m : matCxR<T> and s : T
   matrix-scalar : (c r : VectorSize) (t : Scalar) → t.kind ≡ Sk.Float
       → Wgsl Bo.Multiply (Ti.Matrix c r t) (Ti.Scalar t) (Ti.Matrix c r t)
-  -- s * m : mat_cx_r<T>
+  -- s * m : matCxR<T>
   scalar-matrix : (c r : VectorSize) (t : Scalar) → t.kind ≡ Sk.Float
       → Wgsl Bo.Multiply (Ti.Scalar t) (Ti.Matrix c r t) (Ti.Matrix c r t)
-  -- m * v : vec_r<T>, of m : mat_cx_r<T> and v : vec_c<T>
+  -- m * v : vecR<T>, of m : matCxR<T> and v : vecC<T>
   matrix-vector : (c r : VectorSize) (t : Scalar) → t.kind ≡ Sk.Float
       → Wgsl Bo.Multiply (Ti.Matrix c r t) (Ti.Vector c t) (Ti.Vector r t)
-  -- v * m : vec_c<T>, of v : vec_r<T> and m : mat_cx_r<T>
+  -- v * m : vecC<T>, of v : vecR<T> and m : matCxR<T>
   vector-matrix : (c r : VectorSize) (t : Scalar) → t.kind ≡ Sk.Float
       → Wgsl Bo.Multiply (Ti.Vector r t) (Ti.Matrix c r t) (Ti.Vector c t)
-  -- e1 * e2 : mat_cx_r<T>, of e1 : mat_kx_r<T> and e2 : mat_cx_k<T>
+  -- e1 * e2 : matCxR<T>, of e1 : matKxR<T> and e2 : matCxK<T>
   matrix-matrix : (c k r : VectorSize) (t : Scalar) → t.kind ≡ Sk.Float
       → Wgsl Bo.Multiply (Ti.Matrix k r t) (Ti.Matrix c k t) (Ti.Matrix c r t)
-  -- "COMPARISON EXPRESSIONS": T is S or vec_n<S>, the result bool or vec_n<bool>
+  -- "COMPARISON EXPRESSIONS": T is S or vecN<S>, the result bool or vecN<bool>
 
   -- e1 == e2, of S is numeric or bool
   equal : (n : OptionVectorSize) (s : Scalar) → Equatable s → Wgsl Bo.Equal (plain n s) (plain n s) (plain n BOOL)
@@ -138,7 +138,7 @@ pub data Wgsl : BinaryOperator → TypeInner → TypeInner → TypeInner → Typ
       → Wgsl Bo.GreaterEqual (plain n s) (plain n s) (plain n BOOL)
   -- "BIT EXPRESSIONS"
 
-  -- binary bitwise operations: T is S or vec_n<S>, S is an integer type
+  -- binary bitwise operations: T is S or vecN<S>, S is an integer type
   -- e1 | e2 : T
   or-bits : (n : OptionVectorSize) (s : Scalar) → Integer s.kind
       → Wgsl Bo.InclusiveOr (plain n s) (plain n s) (plain n s)
@@ -147,7 +147,7 @@ pub data Wgsl : BinaryOperator → TypeInner → TypeInner → TypeInner → Typ
   -- e1 ^ e2 : T
   xor-bits : (n : OptionVectorSize) (s : Scalar) → Integer s.kind
       → Wgsl Bo.ExclusiveOr (plain n s) (plain n s) (plain n s)
-  -- bit shift expressions: e1 : T is S or vec_n<S>, S is an integer type; e2 is u32 or vec_n<u32>, of as many
+  -- bit shift expressions: e1 : T is S or vecN<S>, S is an integer type; e2 is u32 or vecN<u32>, of as many
   -- components e1 << e2 : T
   shift-left : (n : OptionVectorSize) (s : Scalar) → Integer s.kind
       → Wgsl Bo.ShiftLeft (plain n s) (plain n U32) (plain n s)

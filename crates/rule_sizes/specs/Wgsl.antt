@@ -67,7 +67,7 @@ vector_align z a = alignment_of (align_count z * bytes a)
 abbrev pub vector_bytes : VectorSize → Alignment → ℕ
 vector_bytes z a = vector_size_number z * bytes a
 
--- MATRICES of c columns and r rows are laid as arrays of c columns, each a vector of r: AlignOf(vec_r),
--- SizeOf(array<vec_r, C>)
+-- MATRICES of c columns and r rows are laid as arrays of c columns, each a vector of r: AlignOf(vecR),
+-- SizeOf(array<vecR, C>)
 abbrev pub matrix_bytes : VectorSize → VectorSize → Alignment → ℕ
 matrix_bytes c r a = vector_size_number c * round_up (vector_align r a) (vector_bytes r a)
