@@ -2,7 +2,7 @@
 """Lists what must be believed: the definitions that the public statements cite, and those that these cite in turn.
 
 A public statement is the contract of a public function, or a theorem that docs/PROVED.md names for one of the three promises;
-ROOTS has them all. From the names in a statement the script goes to their definitions in crates/*/specs, to structs and enums in
+ROOTS has them all. From the names in a statement the script goes to their definitions in crates/*/specs, to structs, enums and named types in
 crates/*/src, and to definitions that stand beside a theorem in crates/*/proofs; and on from the names in each of these. It goes
 by the text, through `use` and `ghost use` lines. A name that a definition binds in its signature or in a pattern is left out; one
 that a λ or a `let` binds is not, so that the script may reach a definition too many. Run it from the root of the repository:
@@ -176,6 +176,9 @@ class File:
             if kind == 'enum':
                 d.constructors = re.findall(r'^    (\w+)', body, re.M)
                 body = re.sub(r'^    \w+', '', body, flags=re.M)
+            d.signature = re.findall(r'[A-Z]\w*', body)
+        for name, body in re.findall(r'^pub type (\w+) = (.*?);', self.text, re.M | re.S):
+            self.definitions[name] = d = Definition(self, name, 1)
             d.signature = re.findall(r'[A-Z]\w*', body)
 
     def bring(self, ws):

@@ -1,4 +1,5 @@
 -- Where a family begins: every frame before it is of a lower rank, since it is the lowest that is not.
+use Rattle.std.specs.Prelude.{ℕ, Option, Some, None}
 use Prim.Native.Nat.{ℕ, ◌≤◌, ◌<◌}
 use native.Mathlib.Omega.{arith}
 use mathlib.Core.Path.{◌≡◌, refl, sym, ap, ◌∙◌}
@@ -7,8 +8,6 @@ use mathlib.Core.List.{List}
 use lib.Dec.{ltb}
 use borrow.Author.Tests.{ltb-true, lt-ltb, ltb-false}
 use Rattle.scan.specs.Lowest.{lowest}
-use Rattle.scan.specs.declared.Found.{Found}
-use Rattle.scan.specs.declared.Found.TheVariants.{At, Nothing}
 use Rattle.scan.proofs.Laws.{lowest-all, none-all, found_at}
 use Rattle.frames.specs.Bytes.{frame_count}
 use Rattle.archive.specs.Order.{rank_at}
@@ -24,16 +23,16 @@ pub begins : (fr : List ℕ) (rank : ℕ) → Begins fr rank (start fr rank)
 unfolding start
 begins fr rank = go (lowest (λ (k : ℕ). ltb (rank_at fr k) rank) (frame_count fr)) refl
   where
-    go : (f : Found) → lowest (λ (k : ℕ). ltb (rank_at fr k) rank) (frame_count fr) ≡ f
+    go : (f : Option ℕ) → lowest (λ (k : ℕ). ltb (rank_at fr k) rank) (frame_count fr) ≡ f
         → Begins fr rank (place_or (frame_count fr) f)
-    go (At p) e =
+    go (Some p) e =
         let a = found_at (λ (k : ℕ). ltb (rank_at fr k) rank) (frame_count fr) p e in
         record {
           within = omega (arith, a.inside);
           lower = λ k h. ltb-true (rank_at fr k) rank (a.before k h);
           there = λ _. ltb-false (rank_at fr p) rank a.fails;
         }
-    go Nothing e =
+    go None e =
         record {
           within = omega arith;
           lower = λ k h. ltb-true (rank_at fr k) rank
@@ -43,7 +42,7 @@ begins fr rank = go (lowest (λ (k : ℕ). ltb (rank_at fr k) rank) (frame_count
 
 -- before the start of a rank nothing is of a higher rank
 pub skipped : (fr : List ℕ) (rank higher : ℕ) → rank ≤ higher
-    → lowest (λ (k : ℕ). ltb (rank_at fr k) higher) (start fr rank) ≡ Nothing
+    → lowest (λ (k : ℕ). ltb (rank_at fr k) higher) (start fr rank) ≡ None
 skipped fr rank higher l =
     lowest-all (λ (k : ℕ). ltb (rank_at fr k) higher) (start fr rank)
     (λ k h. lt-ltb (rank_at fr k) higher (omega (arith, (begins fr rank).lower k h)))

@@ -1,11 +1,10 @@
 -- Checks 4 to 6 over the frames of a file, each over the whole file, lowest frame named (document 01, "Numbers handed
 -- back").
-use Rattle.std.specs.Prelude.{ℕ, Bool, cond, ◌&&◌, List, ltb}
+use Rattle.std.specs.Prelude.{ℕ, Bool, cond, ◌&&◌, List, ltb, Option, Some, None, Ok, Err}
 use Rattle.scan.specs.Lowest.{lowest}
-use Rattle.scan.specs.declared.Found.{Found}
-use Rattle.scan.specs.declared.Found.TheVariants.{At, Nothing}
-use Rattle.answers.specs.declared.Outcome.{Outcome}
-use Rattle.answers.specs.declared.Outcome.TheVariants.{Accepted, Long, Order, Field, Index}
+use Rattle.answers.specs.Outcome.{Outcome}
+use Rattle.answers.specs.declared.FileError.{FileError}
+use Rattle.answers.specs.declared.FileError.TheVariants.{Long, Order, Field, Index}
 use Rattle.answers.specs.Limit.{max_frames}
 use Rattle.frames.specs.Bytes.{frame_at, frame_count}
 use Rattle.frames.specs.Forms.{fields_fit}
@@ -22,14 +21,14 @@ unfoldable pub index_ok : List ℕ → ℕ → Bool
 index_ok fr k = names_ok fr k && early_ok fr k
 
 -- a refusal at the place found, else what follows
-abbrev pub unless : (ℕ → Outcome) → Found → Outcome → Outcome
-unless refused (At k) rest = refused k
-unless refused Nothing rest = rest
+abbrev pub unless : (ℕ → FileError) → Option ℕ → Outcome → Outcome
+unless error (Some k) rest = Err (error k)
+unless error None rest = rest
 
 -- the checks in their order; over `max_frames` is number 1, as no limit is handed in
 unfoldable pub check_frames : List ℕ → Outcome
 check_frames fr =
     let n = frame_count fr in
-    cond (ltb max_frames n) (Long max_frames)
+    cond (ltb max_frames n) (Err (Long max_frames))
     (unless Order (lowest (order_ok fr) n) (unless Field (lowest (field_ok fr) n)
-    (unless Index (lowest (index_ok fr) n) (Accepted n))))
+    (unless Index (lowest (index_ok fr) n) (Ok n))))

@@ -1,16 +1,12 @@
 -- Number 6, what a frame names (document 01, "The file"): a type names earlier types only, a row earlier rows only, and
 -- every number and range is within its family. An argument index is free; Math rows and unknown kinds name nothing.
-use Rattle.std.specs.Prelude.{ℕ, ◌+◌, ◌-◌, Bool, true, cond, ◌&&◌, List, [], ◌∷◌, leb, ltb, get_or}
+use Rattle.std.specs.Prelude.{ℕ, ◌+◌, ◌-◌, Bool, true, cond, ◌&&◌, List, [], ◌∷◌, leb, ltb, get_or, Option, Some, None}
 use Rattle.ir.specs.declared.TypeNumber.{TypeNumber}
 use Rattle.ir.specs.declared.RowNumber.{RowNumber}
 use Rattle.ir.specs.declared.ArraySize.{ArraySize}
 use Rattle.ir.specs.declared.ArraySize.TheVariants as As
 use Rattle.ir.specs.declared.TypeInner.{TypeInner}
 use Rattle.ir.specs.declared.TypeInner.TheVariants as Ti
-use Rattle.ir.specs.declared.TypeForm.{TypeForm}
-use Rattle.ir.specs.declared.TypeForm.TheVariants as Tf
-use Rattle.ir.specs.declared.FunctionResult.{FunctionResult}
-use Rattle.ir.specs.declared.FunctionResult.TheVariants as Fr
 use Rattle.ir.specs.declared.Item.{Item}
 use Rattle.ir.specs.declared.Item.TheVariants as It
 use Rattle.ir.specs.declared.ImageQuery.{ImageQuery}
@@ -19,8 +15,6 @@ use Rattle.ir.specs.declared.RelationalFunction.{RelationalFunction}
 use Rattle.ir.specs.declared.RelationalFunction.TheVariants as Rf
 use Rattle.ir.specs.declared.Expression.{Expression}
 use Rattle.ir.specs.declared.Expression.TheVariants as Ex
-use Rattle.ir.specs.declared.RowForm.{RowForm}
-use Rattle.ir.specs.declared.RowForm.TheVariants as Ro
 use Rattle.frames.specs.declared.Frame.{Frame}
 use Rattle.frames.specs.Bytes.{frame_at}
 use Rattle.frames.specs.Forms.{type_of, member_of, item_of, row_of, component_of}
@@ -59,14 +53,14 @@ type_names s n (Ti.AccelerationStructure q) = true
 type_names s n (Ti.RayQuery q) = true
 type_names s n (Ti.BindingArray b z) = ltb b.0 n.0 && size_names s z
 
-abbrev pub type_form_names : Starts → TypeNumber → TypeForm → Bool
-type_form_names s n (Tf.Known t) = type_names s n t
-type_form_names s n Tf.Unknown = true
+abbrev pub type_form_names : Starts → TypeNumber → Option TypeInner → Bool
+type_form_names s n (Some t) = type_names s n t
+type_form_names s n None = true
 
 -- an item's type is one of the file; a function without a result names none
-abbrev pub result_names : Starts → FunctionResult → Bool
-result_names s Fr.None = true
-result_names s (Fr.Some t) = is_type s t
+abbrev pub result_names : Starts → Option TypeNumber → Bool
+result_names s None = true
+result_names s (Some t) = is_type s t
 
 abbrev pub item_names : Starts → Item → Bool
 item_names s It.Unknown = true
@@ -134,9 +128,9 @@ row_names s n (Ex.SubgroupOperationResult t) = is_type s t
 row_names s n (Ex.CooperativeLoad c r o m) = is_earlier n m
 row_names s n (Ex.CooperativeMultiplyAdd m) = is_earlier n m
 
-abbrev pub row_form_names : Starts → RowNumber → RowForm → Bool
-row_form_names s n (Ro.Known e) = row_names s n e
-row_form_names s n Ro.Unknown = true
+abbrev pub row_form_names : Starts → RowNumber → Option Expression → Bool
+row_form_names s n (Some e) = row_names s n e
+row_form_names s n None = true
 
 -- a frame of a family, which is frame k, names what is there; a member or component that no range holds too. Types
 -- begin the file, so type k is frame k, and a row's number counts from the start of the rows

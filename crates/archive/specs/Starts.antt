@@ -1,19 +1,17 @@
 -- Where each family of a file begins, and each kind of items (document 01, "The file": numbers count from 0 within a
 -- family; items: within a kind). In a file that is in order the frames of a family stand together, so a family's frames
 -- are those from its start to the next.
-use Rattle.std.specs.Prelude.{ℕ, ◌-◌, List, ltb}
+use Rattle.std.specs.Prelude.{ℕ, ◌-◌, List, ltb, Option, Some, None}
 use Rattle.scan.specs.Lowest.{lowest}
-use Rattle.scan.specs.declared.Found.{Found}
-use Rattle.scan.specs.declared.Found.TheVariants.{At, Nothing}
 use Rattle.frames.specs.Bytes.{frame_count}
 use Rattle.archive.specs.declared.Starts.{Starts}
 use Rattle.archive.specs.Order.{rank_at, member_rank, constant_rank, override_rank, global_rank, argument_rank}
 use Rattle.archive.specs.Order.{local_rank, function_rank, intersection_rank, vertex_return_rank, row_rank}
 use Rattle.archive.specs.Order.{component_rank}
 
-abbrev pub place_or : ℕ → Found → ℕ
-place_or n (At k) = k
-place_or n Nothing = n
+abbrev pub place_or : ℕ → Option ℕ → ℕ
+place_or n (Some k) = k
+place_or n None = n
 
 -- the lowest frame of this rank or a higher one; past the last frame where there is none
 unfoldable pub start : List ℕ → ℕ → ℕ

@@ -1,7 +1,6 @@
 // Where each family of a file begins, and typed access to what the file holds, over its frames and these places.
 ghost use Rattle.std.specs.Prelude.{◌≡◌, ℕ, ◌-◌, ◌≤◌, ◌+◌, ltb};
 ghost use Rattle.scan.specs.Lowest.{lowest};
-ghost use Rattle.scan.specs.declared.Found.TheVariants.{Nothing};
 ghost use Rattle.frames.specs.Bytes.{frame_count, frame_at};
 ghost use Rattle.archive.specs.Order.{rank_at};
 ghost use Rattle.archive.specs.Starts.{start, starts_of, row_count};
@@ -17,23 +16,20 @@ use archive::{
 use frames::{Frame, frame_at, frame_count};
 use frames_rows::{item_of, row_form};
 use ir::{
-    ArraySize, ComponentNumber, Item, ItemNumber, MemberNumber, RowForm, RowNumber, StructMember,
-    TypeForm, TypeNumber,
+    ArraySize, ComponentNumber, Expression, Item, ItemNumber, MemberNumber, RowNumber,
+    StructMember, TypeInner, TypeNumber,
 };
 
 // The lowest frame of this rank or a higher one; every frame before `from` is lower.
 #[tactic(auto, unfolding(archive::specs::Starts::start))]
 fn skip(frames: &[u8], from: usize, rank: usize) -> usize
     requires { (from ≤ frame_count frames.now)
-        × (lowest (λ (k : ℕ). ltb (rank_at frames.now k) rank) from ≡ Nothing) }
+        × (lowest (λ (k : ℕ). ltb (rank_at frames.now k) rank) from ≡ None) }
     ensures { result ≡ start frames.now rank }
 {
     let n = frame_count(frames);
-    let mut k = from;
-    while k < n {
-        if rank_of(frame_at(frames, k)) < rank {
-            k += 1;
-        } else {
+    for k in from..n {
+        if rank <= rank_of(frame_at(frames, k)) {
             return k;
         }
     }
@@ -72,13 +68,6 @@ pub fn find_starts(frames: &[u8]) -> Starts
     }
 }
 
-// a - b, and 0 where b is more.
-pub fn minus(a: usize, b: usize) -> usize
-    ensures { result ≡ a - b }
-{
-    if a < b { 0 } else { a - b }
-}
-
 // Whether there is a type of this number.
 pub fn is_type(s: Starts, n: TypeNumber) -> bool
     ensures { result ≡ is_type s n }
@@ -90,7 +79,7 @@ pub fn is_type(s: Starts, n: TypeNumber) -> bool
 pub fn row_count(s: Starts) -> usize
     ensures { result ≡ row_count s }
 {
-    minus(s.components, s.rows)
+    s.components.saturating_sub(s.rows)
 }
 
 // Whether there is a row of this number.
@@ -104,7 +93,7 @@ pub fn is_row(s: Starts, n: RowNumber) -> bool
 pub fn is_item(first: usize, last: usize, n: ItemNumber) -> bool
     ensures { result ≡ ltb n.0 (last - first) }
 {
-    (n.0 as usize) < minus(last, first)
+    (n.0 as usize) < last.saturating_sub(first)
 }
 
 // Whether a pending size names an override; other sizes name nothing.
@@ -120,14 +109,14 @@ pub fn size_names(s: Starts, size: ArraySize) -> bool
 
 // Type n; where there is none, a type of unknown kind.
 #[tactic(auto, unfolding(archive::specs::Access::type_in))]
-pub fn type_at(frames: &[u8], s: Starts, n: TypeNumber) -> TypeForm
+pub fn type_at(frames: &[u8], s: Starts, n: TypeNumber) -> Option<TypeInner>
     ensures { result ≡ type_in frames.now s n }
 {
     if is_type(s, n) {
         let f = frame_at(frames, n.0 as usize);
         f.type_form()
     } else {
-        TypeForm::Unknown
+        None
     }
 }
 
@@ -136,12 +125,7 @@ pub fn type_at(frames: &[u8], s: Starts, n: TypeNumber) -> TypeForm
 pub fn frame_after(frames: &[u8], first: usize, i: usize) -> Frame
     ensures { result ≡ frame_at frames.now (first + i) }
 {
-    let count = frame_count(frames);
-    if i < minus(count, first) {
-        frame_at(frames, first + i)
-    } else {
-        frame_at(frames, count)
-    }
+    frame_at(frames, first.saturating_add(i))
 }
 
 // Member i of the struct whose members begin at member `first`.
@@ -161,13 +145,13 @@ pub fn item_at(frames: &[u8], first: usize, n: ItemNumber) -> Item
 
 // Row n; where there is none, a row of unknown kind.
 #[tactic(auto, unfolding(archive::specs::Access::row_in))]
-pub fn row_at(frames: &[u8], s: Starts, n: RowNumber) -> RowForm
+pub fn row_at(frames: &[u8], s: Starts, n: RowNumber) -> Option<Expression>
     ensures { result ≡ row_in frames.now s n }
 {
     if is_row(s, n) {
         row_form(frame_after(frames, s.rows, n.0 as usize))
     } else {
-        RowForm::Unknown
+        None
     }
 }
 

@@ -6,7 +6,6 @@ ghost use Rattle.archive.specs.Order.{rank_of, is_known, follows, order_ok};
 
 use archive::{INTERSECTION_RANK, VERTEX_RETURN_RANK};
 use frames::{Frame, frame_at, frame_count};
-use scan::Found;
 
 // Where a frame stands in the order: by its family, and an item by its kind too.
 pub fn rank_of(f: Frame) -> usize
@@ -33,34 +32,19 @@ fn may_follow(q: usize, rank: usize) -> bool
     (q < rank) | ((q == rank) & !((rank == INTERSECTION_RANK) | (rank == VERTEX_RETURN_RANK)))
 }
 
-// The frame before, and 0 for the first.
-fn before(k: usize) -> usize
-    ensures { result ≡ k - 1 }
-{
-    if k == 0 { 0 } else { k - 1 }
-}
-
 #[tactic(auto, unfolding(archive::specs::Order::order_ok))]
 fn order_ok(frames: &[u8], k: usize) -> bool
     ensures { result ≡ order_ok frames.now k }
 {
     let f = frame_at(frames, k);
-    let last = rank_of(frame_at(frames, before(k)));
+    let last = rank_of(frame_at(frames, k.saturating_sub(1)));
     is_known(f) & ((k == 0) | may_follow(last, rank_of(f)))
 }
 
 // The lowest frame that is out of order.
-pub fn first_disorder(frames: &[u8]) -> Found
+pub fn first_disorder(frames: &[u8]) -> Option<usize>
     ensures { result ≡ lowest (order_ok frames.now) (frame_count frames.now) }
 {
     let n = frame_count(frames);
-    let mut k = 0;
-    while k < n {
-        if order_ok(frames, k) {
-            k += 1;
-        } else {
-            return Found::At(k);
-        }
-    }
-    Found::Nothing
+    (0..n).find(|k| !order_ok(frames, *k))
 }

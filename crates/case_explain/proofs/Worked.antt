@@ -1,11 +1,10 @@
 -- Every case of the table is what the definitions cited by the contract of `explain_text` give: both sides compute to
 -- the same.
+use Rattle.std.specs.Prelude.{ℕ, Option, Some, None}
 use mathlib.Core.Path.{◌≡◌, refl}
 use mathlib.Core.List.{List, map, ◌++◌}
 use Prim.Native.Nat.{ℕ, ◌+◌, ◌-◌}
 use lib.ListN.{length, replicate}
-use Rattle.answers.specs.declared.Printed.{Printed}
-use Rattle.answers.specs.declared.Printed.TheVariants.{Bytes, Short}
 use Rattle.scan.specs.Lowest.{lowest, all_below}
 use Rattle.scan.specs.Lists.{build, sum_below}
 use Rattle.text.specs.Hex.{digit_value, digit_of}
@@ -56,18 +55,18 @@ abbrev lent : ExplainedCase → List ℕ
 lent c = replicate (sized_by (length (lines c.lines)) c.room) 7
 
 -- what is given, and what is left of the buffer
-abbrev given : ExplainedCase → Printed × List ℕ
+abbrev given : ExplainedCase → Option ℕ × List ℕ
 given c = (
   printed (explained c.pass c.limit (lines c.text)) (length (lent c)),
   printed_after (explained c.pass c.limit (lines c.text)) (lent c),
 )
 
-abbrev left : List ℕ → Room → Printed × List ℕ
-left l (over k) = (Bytes (length l), l ++ replicate k 7)
-left l (below k) = (Short, replicate (length l - k) 7)
-left l (unused k) = (Short, replicate (length l + k) 7)
+abbrev left : List ℕ → Room → Option ℕ × List ℕ
+left l (over k) = (Some (length l), l ++ replicate k 7)
+left l (below k) = (None, replicate (length l - k) 7)
+left l (unused k) = (None, replicate (length l + k) 7)
 
-abbrev wanted : ExplainedCase → Printed × List ℕ
+abbrev wanted : ExplainedCase → Option ℕ × List ℕ
 wanted c = left (lines c.lines) c.room
 
 worked : map given explained_cases ≡ map wanted explained_cases
@@ -88,10 +87,10 @@ sized_text c = sized c.limit (lines c.text)
 abbrev lent_sizes : SizeCase → List ℕ
 lent_sizes c = replicate (sized_by (length (lines c.lines)) c.room) 7
 
-abbrev given_sizes : SizeCase → Printed × List ℕ
+abbrev given_sizes : SizeCase → Option ℕ × List ℕ
 given_sizes c = (printed (sized_text c) (length (lent_sizes c)), printed_after (sized_text c) (lent_sizes c))
 
-abbrev wanted_sizes : SizeCase → Printed × List ℕ
+abbrev wanted_sizes : SizeCase → Option ℕ × List ℕ
 wanted_sizes c = left (lines c.lines) c.room
 
 sizes-worked : map given_sizes sizes ≡ map wanted_sizes sizes
@@ -108,13 +107,13 @@ sizes-worked = refl
 abbrev lent_ranges : RangeCase → List ℕ
 lent_ranges c = replicate (sized_by (length (lines c.lines)) c.room) 7
 
-abbrev given_ranges : RangeCase → Printed × List ℕ
+abbrev given_ranges : RangeCase → Option ℕ × List ℕ
 given_ranges c = (
   ranges_printed max_frames c.least c.greatest (lines c.text) (length (lent_ranges c)),
   ranges_after max_frames c.least c.greatest (lines c.text) (lent_ranges c),
 )
 
-abbrev wanted_ranges : RangeCase → Printed × List ℕ
+abbrev wanted_ranges : RangeCase → Option ℕ × List ℕ
 wanted_ranges c = left (lines c.lines) c.room
 
 ranges-worked : map given_ranges ranges ≡ map wanted_ranges ranges

@@ -1,17 +1,16 @@
 -- Document 01, "Cases", P: worked cases, each the whole text and the whole output, written by hand from the document.
 -- Those after the first ten are more.
-use Rattle.std.specs.Prelude.{ℕ, ◌+◌, ◌*◌, ◌-◌, cond, List, [], ◌∷◌, ◌++◌, ltb, replicate}
+use Rattle.answers.specs.declared.TypeError.TheVariants as Te
+use Rattle.std.specs.Prelude.{ℕ, ◌+◌, ◌*◌, ◌-◌, cond, List, [], ◌∷◌, ◌++◌, ltb, replicate, Some, None, Ok, Err, true}
+use Rattle.std.specs.Prelude.{false}
 use Prim.Native.String.{String}
-use Rattle.answers.specs.declared.Outcome.{Outcome}
-use Rattle.answers.specs.declared.Outcome.TheVariants.{Accepted, Long, Torn, Short, Order, Field, Index}
-use Rattle.answers.specs.declared.Sameness.{Sameness}
-use Rattle.answers.specs.declared.Sameness.TheVariants.{Same, Different}
-use Rattle.answers.specs.declared.CanonicalType.{CanonicalType}
-use Rattle.answers.specs.declared.CanonicalType.TheVariants as Ct
-use Rattle.answers.specs.declared.PointerBase.{PointerBase}
-use Rattle.answers.specs.declared.PointerBase.TheVariants as Pb
+use Rattle.answers.specs.Outcome.{Outcome}
+use Rattle.answers.specs.declared.FileError.{FileError}
+use Rattle.answers.specs.declared.FileError.TheVariants.{Long, Torn, Short, Order, Field, Index}
+use Rattle.answers.specs.Asked.{Sameness}
+use Rattle.answers.specs.Asked.{CanonicalType}
+use Rattle.answers.specs.Asked.{PointerBase}
 use Rattle.ir.specs.declared.AddressSpace.TheVariants as Sp
-use Rattle.ir.specs.declared.OptionVectorSize.TheVariants as Ov
 use Rattle.ir.specs.Scalars.{F32}
 use Rattle.ir.specs.declared.TypeInner.TheVariants as Ti
 use Rattle.ir.specs.declared.TypeResolution.TheVariants as Tr
@@ -301,17 +300,17 @@ misplaced = pair "01020200020400000000000000000000" "040400000000000000000000000
 -- handed back"): each gives the file's number and place; no frame is handed back; the answer buffer `an` stays as it
 -- was; the frame buffer is `after`. Row 1 is a compose, and row 9 none of the file's: that it is out of range is found
 -- out after the file is accepted, so it gets the file's number too.
-abbrev refused : List ℕ → List ℕ → List ℕ → Outcome → List ℕ → List FileCase
-refused t lent an o after =
-    record { text = t; lent = lent; asked = types an; answer = types_are o 0 an; after = after }
-    ∷ record { text = t; lent = lent; asked = row 1 an; answer = row_is (RowGiven.not_accepted o) an; after = after }
-    ∷ record { text = t; lent = lent; asked = row 9 an; answer = row_is (RowGiven.not_accepted o) an; after = after }
+abbrev refused : List ℕ → List ℕ → List ℕ → FileError → List ℕ → List FileCase
+refused t lent an e after =
+    record { text = t; lent = lent; asked = types an; answer = types_are (Err e) 0 an; after = after }
+    ∷ record { text = t; lent = lent; asked = row 1 an; answer = row_is (RowGiven.not_accepted e) an; after = after }
+    ∷ record { text = t; lent = lent; asked = row 9 an; answer = row_is (RowGiven.not_accepted e) an; after = after }
     ∷ record {
       text = t;
       lent = lent;
       asked = verdict 1 an;
       answer = verdict_is
-          (VerdictGiven.not_accepted o) an;
+          (VerdictGiven.not_accepted e) an;
       after = after;
     }
     ∷ record {
@@ -319,7 +318,7 @@ refused t lent an o after =
       lent = lent;
       asked = verdict 9 an;
       answer = verdict_is
-          (VerdictGiven.not_accepted o) an;
+          (VerdictGiven.not_accepted e) an;
       after = after;
     }
     ∷ []
@@ -351,7 +350,7 @@ refusals =
       lent = replicate 97 7;
       asked = types (replicate 49 9);
       answer =
-          types_are (Accepted 6) 3
+          types_are (Ok 6) 3
           (frames ("08000000000000000000000000000000" ∷ "08000100000000000000000000000000"
           ∷ "0b000100000000000000000000000000" ∷ []) ++ 9 ∷ []);
       after = frames sound ++ 7 ∷ [];
@@ -387,18 +386,18 @@ file_cases =
     -- 1,025 lines number 1
     ∷ prints (lines (replicate 1025 "01010000020400000000000000000000")) ("0a010004000000000000000000000000" ∷ [])
     -- pointer to a scalar type equals the value pointer, in either order
-    ∷ compared "08000100000000000000000000000000" "09070000020400000000000000000000" Same
-    ∷ compared "09070000020400000000000000000000" "08000100000000000000000000000000" Same
+    ∷ compared "08000100000000000000000000000000" "09070000020400000000000000000000" (Ok true)
+    ∷ compared "09070000020400000000000000000000" "08000100000000000000000000000000" (Ok true)
     -- two alike structs differ
-    ∷ compared "08000200000000000000000000000000" "08000300000000000000000000000000" Different
+    ∷ compared "08000200000000000000000000000000" "08000300000000000000000000000000" (Ok false)
     -- MORE: the buffers of the empty file, of the array and of the 1,025 lines
-    ∷ record { text = []; lent = 7 ∷ []; asked = read; answer = outcome (Accepted 0); after = 7 ∷ [] }
+    ∷ record { text = []; lent = 7 ∷ []; asked = read; answer = outcome (Ok 0); after = 7 ∷ [] }
     ∷ record {
       text = lines no_count;
       lent = replicate 33 7;
       asked = read;
       answer = outcome
-          (Field 1);
+          (Err (Field 1));
       after = frames no_count ++ 7 ∷ [];
     }
     ∷ record {
@@ -407,12 +406,12 @@ file_cases =
       lent = 7 ∷ [];
       asked = read;
       answer = outcome
-          (Long 1024);
+          (Err (Long 1024));
       after = 7 ∷ [];
     }
     -- rows over buffers that are lent: all, one, and one compose; a row that the file does not have, and one that is no
     -- compose, leave the answer buffer
-    ∷ of_composes (types (replicate 97 9)) (types_are (Accepted 11) 6 (frames composed ++ 9 ∷ []))
+    ∷ of_composes (types (replicate 97 9)) (types_are (Ok 11) 6 (frames composed ++ 9 ∷ []))
     ∷ of_composes (row 3 (replicate 97 9))
     (row_is (RowGiven.answer (told (given (number (record { 0 = 2 }))))) (frames composed ++ 9 ∷ []))
     ∷ of_composes (row 4 (replicate 97 9)) (row_is RowGiven.no_row (replicate 97 9))
@@ -421,37 +420,37 @@ file_cases =
     ∷ of_composes (verdict 1 (replicate 97 9)) (verdict_is no_compose (replicate 97 9))
     ∷ of_composes (verdict 4 (replicate 97 9)) (verdict_is VerdictGiven.no_row (replicate 97 9))
     -- the value pointer of a pointer to a scalar or vector, in its space; every other type is its own, by its number
-    ∷ of_pointers (canonical 2) (canonical_is (Ct.Form (Tr.Value (Ti.ValuePointer Ov.None F32 Sp.Function))))
-    ∷ of_pointers (canonical 3) (canonical_is (Ct.Form (Tr.Value (Ti.ValuePointer (Ov.Some Vs.Tri) F32 Sp.Private))))
-    ∷ of_pointers (canonical 9) (canonical_is (Ct.Form (Tr.Handle (record { 0 = 9 }))))
-    ∷ of_pointers (canonical 6) (canonical_is (Ct.Form (Tr.Handle (record { 0 = 6 }))))
+    ∷ of_pointers (canonical 2) (canonical_is (Ok (Tr.Value (Ti.ValuePointer None F32 Sp.Function))))
+    ∷ of_pointers (canonical 3) (canonical_is (Ok (Tr.Value (Ti.ValuePointer (Some Vs.Tri) F32 Sp.Private))))
+    ∷ of_pointers (canonical 9) (canonical_is (Ok (Tr.Handle (record { 0 = 9 }))))
+    ∷ of_pointers (canonical 6) (canonical_is (Ok (Tr.Handle (record { 0 = 6 }))))
     -- 22 where the type, or a pointer's base, is of unknown kind; 6 for a number out of range; the file's own number
     -- first
-    ∷ of_pointers (canonical 4) (canonical_is Ct.Newer)
-    ∷ of_pointers (canonical 5) (canonical_is Ct.Newer)
-    ∷ of_pointers (canonical 10) (canonical_is Ct.Index)
+    ∷ of_pointers (canonical 4) (canonical_is (Err Te.Newer))
+    ∷ of_pointers (canonical 5) (canonical_is (Err Te.Newer))
+    ∷ of_pointers (canonical 10) (canonical_is (Err Te.Index))
     ∷ record {
       text = lines no_count;
       lent = replicate 33 7;
       asked = canonical 10;
       answer = canonical_is
-          (Ct.NotAccepted (Field 1));
+          (Err (Te.NotAccepted (Field 1)));
       after = frames no_count ++ 7 ∷ [];
     }
     -- the base: a number, also where its kind is unknown; of a value pointer a scalar or a vector by value; no pointer
-    ∷ of_pointers (base 2) (base_is (Pb.Base (Tr.Handle (record { 0 = 0 }))))
-    ∷ of_pointers (base 5) (base_is (Pb.Base (Tr.Handle (record { 0 = 4 }))))
-    ∷ of_pointers (base 6) (base_is (Pb.Base (Tr.Value (Ti.Scalar F32))))
-    ∷ of_pointers (base 7) (base_is (Pb.Base (Tr.Value (Ti.Vector Vs.Tri F32))))
-    ∷ of_pointers (base 0) (base_is Pb.NotPointer)
-    ∷ of_pointers (base 4) (base_is Pb.Newer)
-    ∷ of_pointers (base 10) (base_is Pb.Index)
+    ∷ of_pointers (base 2) (base_is (Ok (Some (Tr.Handle (record { 0 = 0 })))))
+    ∷ of_pointers (base 5) (base_is (Ok (Some (Tr.Handle (record { 0 = 4 })))))
+    ∷ of_pointers (base 6) (base_is (Ok (Some (Tr.Value (Ti.Scalar F32)))))
+    ∷ of_pointers (base 7) (base_is (Ok (Some (Tr.Value (Ti.Vector Vs.Tri F32)))))
+    ∷ of_pointers (base 0) (base_is (Ok None))
+    ∷ of_pointers (base 4) (base_is (Err Te.Newer))
+    ∷ of_pointers (base 10) (base_is (Err Te.Index))
     ∷ record {
       text = lines no_count;
       lent = replicate 33 7;
       asked = base 10;
       answer = base_is
-          (Pb.NotAccepted (Field 1));
+          (Err (Te.NotAccepted (Field 1)));
       after = frames no_count ++ 7 ∷ [];
     }
     -- the paper's file is read to its last row
@@ -460,7 +459,7 @@ file_cases =
       lent = replicate 176 7;
       asked = read;
       answer = outcome
-          (Accepted 11);
+          (Ok 11);
       after = frames paper;
     }
     -- a frame of each kind
@@ -469,7 +468,7 @@ file_cases =
       lent = replicate 976 7;
       asked = read;
       answer = outcome
-          (Accepted 61);
+          (Ok 61);
       after = frames file;
     }
     -- files that are not accepted

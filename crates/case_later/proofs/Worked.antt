@@ -1,6 +1,7 @@
 -- The worked examples: of each, reading the text, the answer buffer that `type_rows` leaves, the comparisons of
 -- `same_type`, the later reader of the choice, and the readings give what stands in its tables. Both sides compute to
 -- the same.
+use Rattle.std.specs.Prelude.{Ok}
 use Prim.Native.Nat.{ℕ, ◌*◌}
 use mathlib.Core.Path.{◌≡◌, refl}
 use mathlib.Core.List.{List, [], ◌∷◌, ◌++◌, map}
@@ -9,8 +10,7 @@ use lib.ListN.{length}
 use Rattle.scan.specs.Lowest.{lowest, all_below}
 use Rattle.scan.specs.Lists.{build, sum_below}
 use Rattle.answers.specs.Numbers.{sameness_said}
-use Rattle.answers.specs.declared.Outcome.{Outcome}
-use Rattle.answers.specs.declared.Outcome.TheVariants.{Accepted}
+use Rattle.answers.specs.Outcome.{Outcome}
 use Rattle.answers.specs.Limit.{max_frames}
 use Rattle.text.specs.declared.AnswerRoom.TheVariants.{Lent}
 use Rattle.text.specs.Hex.{digit_value, digit_of}
@@ -101,7 +101,7 @@ module _ (e : Example) where
 
   abbrev written : Whole
   written = (
-    Accepted e.frames,
+    Ok e.frames,
     ours_of e.answers,
     map (λ (l : LaterLine LaterQuestion). l.theirs) e.answers,
     map (λ (l : LaterLine LaterQuestion). l.meets) e.answers,

@@ -1,12 +1,12 @@
 -- Every row of the worked files, and the files' acceptance, is what the definitions give: both sides compute to the
 -- same.
+use Rattle.std.specs.Prelude.{Ok}
 use Prim.Native.Nat.{ℕ}
 use mathlib.Core.Path.{◌≡◌, refl}
 use mathlib.Core.List.{List, map}
 use lib.ListN.{length}
 use Rattle.scan.specs.Lowest.{lowest, all_below}
 use Rattle.scan.specs.Lists.{build, sum_below}
-use Rattle.answers.specs.declared.Outcome.TheVariants.{Accepted}
 use Rattle.frames.specs.Bytes.{bytes_of, frame_at, frame_count}
 use Rattle.frames.specs.Forms.{type_of, item_of, row_of, member_of, component_of, fields_fit}
 use Rattle.archive.specs.Order.{order_ok}
@@ -34,7 +34,7 @@ worked = refl
 
 -- each file passes checks 4 to 6
 accepted : map (λ (c : RowCase). check_frames (file_of c)) row_cases
-    ≡ map (λ (c : RowCase). Accepted (frame_count (file_of c))) row_cases
+    ≡ map (λ (c : RowCase). Ok (frame_count (file_of c))) row_cases
 unfolding lowest all_below build sum_below frame_at type_of item_of row_of member_of component_of fields_fit order_ok
     start starts_of names_ok early_ok index_ok check_frames
 accepted = refl

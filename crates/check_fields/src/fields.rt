@@ -55,11 +55,11 @@ pub fn fields_fit(f: Frame) -> bool
     let family = f.b0;
     match family {
         0 => true,
-        1 => type_fits(TypeKind::from_number(f.b1), f),
+        1 => type_fits(TypeKind::from(f.b1), f),
         2 => (f.b1 == 0)
             & ((f.b4 == 0) & ((f.b5 == 0) & ((f.b6 == 0) & ((f.b7 == 0) & (zero_8_11(f)))))),
-        3 => item_fits(ItemKind::from_number(f.b1), f),
-        4 => row_fits(RowKind::from_number(f.b1), f),
+        3 => item_fits(ItemKind::from(f.b1), f),
+        4 => row_fits(RowKind::from(f.b1), f),
         5 => (f.b1 == 0) & zero_from_4(f),
         _ => true,
     }

@@ -1,21 +1,21 @@
 // Checks 4 to 6 over the frames of a file, in their order (document 01, "Numbers handed back").
 #![tactic(auto)]
 
-ghost use Rattle.std.specs.Prelude.{◌≡◌, ◌+◌, ◌-◌, ◌≤◌, min};
+ghost use Rattle.std.specs.Prelude.{◌≡◌, ◌^◌, ◌<◌, ◌≤◌};
 ghost use Rattle.scan.specs.Lowest.{lowest};
 ghost use Rattle.frames.specs.Bytes.{frame_count};
 ghost use Rattle.archive.specs.declared.Held.TheVariants.{Parts};
 ghost use Rattle.archive.specs.Starts.{starts_of};
 ghost use Rattle.archive.specs.Names.{names_of, names_ok};
-ghost use Rattle.archive.specs.Parts.{members_of, components_of, held_by, is_early, early_in, early_ok};
+ghost use Rattle.archive.specs.Parts.{parts_from, held_by, is_early, early_in, early_ok};
 ghost use Rattle.archive.specs.ForProofs.{held_to};
-ghost use Rattle.answers.specs.declared.Outcome.TheVariants.{Accepted, Field, Index};
+ghost use Rattle.answers.specs.declared.FileError.TheVariants.{Field, Index};
 ghost use Rattle.archive.specs.Checks.{field_ok, index_ok, unless, check_frames};
 ghost use Rattle.answers.specs.Limit.{max_frames};
 
-use answers::{MAX_FRAMES, Outcome};
+use answers::{FileError, MAX_FRAMES, Outcome};
 use archive::{Held, Owner, Starts};
-use archive_access::families::{find_starts, is_row, is_type, minus};
+use archive_access::families::{find_starts, is_row, is_type};
 use archive_access::order::first_disorder;
 use check_fields::fields::fields_fit;
 use check_names::{is_earlier, item_names, row_names, type_form_names};
@@ -23,7 +23,6 @@ use frames::{Frame, frame_at, frame_count};
 use frames_rows::item_of;
 use ir::numbers::is_compose;
 use ir::{RowNumber, TypeNumber};
-use scan::Found;
 
 fn names_of(s: Starts, k: usize, f: Frame) -> bool
     requires { k ≤ max_frames }
@@ -39,7 +38,7 @@ fn names_of(s: Starts, k: usize, f: Frame) -> bool
         }
         3 => item_names(s, item_of(f)),
         4 => {
-            let n = minus(k, s.rows);
+            let n = k.saturating_sub(s.rows);
             row_names(s, RowNumber(n as u16), f)
         }
         5 => is_row(s, f.component()),
@@ -49,69 +48,46 @@ fn names_of(s: Starts, k: usize, f: Frame) -> bool
 
 // The lowest frame that names a number out of range or not earlier; parts are held against their owners elsewhere.
 #[tactic(auto, unfolding(archive::specs::Names::names_ok))]
-fn first_misnamed(frames: &[u8], s: Starts) -> Found
+fn first_misnamed(frames: &[u8], s: Starts) -> Option<usize>
     requires { (s ≡ starts_of frames.now) × (frame_count frames.now ≤ max_frames) }
     ensures { result ≡ lowest (names_ok frames.now) (frame_count frames.now) }
 {
     let n = frame_count(frames);
-    let mut k = 0;
-    while k < n {
-        if names_of(s, k, frame_at(frames, k)) {
-            k += 1;
-        } else {
-            return Found::At(k);
-        }
-    }
-    Found::Nothing
+    (0..n).find(|k| !names_of(s, *k, frame_at(frames, *k)))
 }
 
-fn least(a: usize, b: usize) -> usize
-    ensures { result ≡ min a b }
+// The parts of an owner: `count` of them, from `from` on, as far as their family goes.
+fn parts_from(from: usize, count: u16, end: usize, owner: Owner) -> Held
+    requires { from < 2 ^ 33 }
+    ensures { result ≡ parts_from from count end owner }
 {
-    if a < b { a } else { b }
-}
-
-// The parts of struct n: its members.
-fn members_of(s: Starts, n: TypeNumber, f: Frame) -> Held
-    requires { s.members ≤ max_frames }
-    ensures { result ≡ members_of s n f }
-{
-    let first = f.first_member();
-    let from = s.members + (first.0 as usize);
-    let to = least(from + (f.count() as usize), s.constants);
     Held::Parts {
         from,
-        to,
-        owner: Owner::Struct(n),
+        to: (from + (count as usize)).min(end),
+        owner,
     }
 }
 
-// The parts of compose n: its components.
-fn components_of(s: Starts, n: RowNumber, f: Frame) -> Held
-    requires { s.components ≤ max_frames }
-    ensures { result ≡ components_of s n f }
-{
-    let first = f.first_component();
-    let from = s.components + (first.0 as usize);
-    let to = least(from + (f.count() as usize), s.end);
-    Held::Parts {
-        from,
-        to,
-        owner: Owner::Compose(n),
-    }
-}
-
-// The parts that frame k holds; every frame but a struct and a compose holds none.
+// The parts that frame k holds: the members of a struct and the components of a compose; every other frame holds none.
 fn held_by(s: Starts, k: usize, f: Frame) -> Held
     requires { (k ≤ max_frames) × (s.members ≤ max_frames) × (s.components ≤ max_frames) }
     ensures { result ≡ held_by s k f }
 {
     if (f.b0 == 1) & (f.b1 == 9) {
-        return members_of(s, TypeNumber(k as u16), f);
+        let first = f.first_member();
+        let from = s.members + (first.0 as usize);
+        return parts_from(
+            from,
+            f.count(),
+            s.constants,
+            Owner::Struct(TypeNumber(k as u16)),
+        );
     }
     if (f.b0 == 4) & is_compose(f.b1) {
-        let n = minus(k, s.rows);
-        return components_of(s, RowNumber(n as u16), f);
+        let first = f.first_component();
+        let from = s.components + (first.0 as usize);
+        let n = k.saturating_sub(s.rows);
+        return parts_from(from, f.count(), s.end, Owner::Compose(RowNumber(n as u16)));
     }
     Held::Nothing
 }
@@ -132,70 +108,52 @@ fn is_early(owner: Owner, f: Frame) -> bool
 }
 
 // The lowest of the owner's parts, from `from` up to `to`, that is not earlier than it.
-fn first_late_in(frames: &[u8], from: usize, to: usize, owner: Owner) -> Found
+fn first_late_in(frames: &[u8], from: usize, to: usize, owner: Owner) -> Option<usize>
     requires { to ≤ frame_count frames.now }
     ensures { result
         ≡ lowest (early_in frames.now (Parts from to owner)) (frame_count frames.now) }
 {
-    let mut k = from;
-    while k < to {
-        if is_early(owner, frame_at(frames, k)) {
-            k += 1;
-        } else {
-            return Found::At(k);
-        }
-    }
-    Found::Nothing
+    (from..to).find(|k| !is_early(owner, frame_at(frames, *k)))
 }
 
 // The lowest part held that is not earlier than its owner.
-fn first_late_of(frames: &[u8], h: Held) -> Found
+fn first_late_of(frames: &[u8], h: Held) -> Option<usize>
     requires { held_to h ≤ frame_count frames.now }
     ensures { result ≡ lowest (early_in frames.now h) (frame_count frames.now) }
 {
     match h {
         Held::Parts { from, to, owner } => first_late_in(frames, from, to, owner),
-        Held::Nothing => Found::Nothing,
+        Held::Nothing => None,
     }
 }
 
 // The lowest part that is not earlier than each of its owners.
 #[tactic(auto, unfolding(archive::specs::Parts::early_ok))]
-fn first_late(frames: &[u8], s: Starts) -> Found
+fn first_late(frames: &[u8], s: Starts) -> Option<usize>
     requires { (s ≡ starts_of frames.now) × (frame_count frames.now ≤ max_frames) }
     ensures { result ≡ lowest (early_ok frames.now) (frame_count frames.now) }
 {
     let n = frame_count(frames);
-    let mut found = Found::Nothing;
-    let mut o = 0;
-    while o < n {
+    let mut found = None;
+    for o in 0..n {
         let h = held_by(s, o, frame_at(frames, o));
         let late = first_late_of(frames, h);
         found = scan::lower(found, late);
-        o += 1;
     }
     found
 }
 
 // The lowest frame with a byte outside its values.
-pub fn first_unfit(frames: &[u8]) -> Found
+pub fn first_unfit(frames: &[u8]) -> Option<usize>
     ensures { result ≡ lowest (field_ok frames.now) (frame_count frames.now) }
 {
     let n = frame_count(frames);
-    let mut k = 0;
-    while k < n {
-        if fields_fit(frame_at(frames, k)) {
-            k += 1;
-        } else {
-            return Found::At(k);
-        }
-    }
-    Found::Nothing
+    (0..n).find(|k| !fields_fit(frame_at(frames, *k)))
 }
 
 // The lowest frame that names a number out of range or not earlier.
 #[tactic(auto, unfolding(archive::specs::Checks::index_ok))]
-fn first_misplaced(frames: &[u8]) -> Found
+fn first_misplaced(frames: &[u8]) -> Option<usize>
     requires { frame_count frames.now ≤ max_frames }
     ensures { result ≡ lowest (index_ok frames.now) (frame_count frames.now) }
 {
@@ -209,13 +167,11 @@ fn check_index(frames: &[u8]) -> Outcome
     requires { frame_count frames.now ≤ max_frames }
     ensures { result
         ≡ unless Index (lowest (index_ok frames.now) (frame_count frames.now))
-        (Accepted (frame_count frames.now)) }
+        (Ok (frame_count frames.now)) }
 {
     match first_misplaced(frames) {
-        Found::At(k) => Outcome::Index { frame: k as u16 },
-        Found::Nothing => Outcome::Accepted {
-            frames: frame_count(frames),
-        },
+        Some(k) => Err(FileError::Index { frame: k as u16 }),
+        None => Ok(frame_count(frames)),
     }
 }
 
@@ -224,11 +180,11 @@ fn check_fields(frames: &[u8]) -> Outcome
     ensures { result
         ≡ unless Field (lowest (field_ok frames.now) (frame_count frames.now)) (unless Index
         (lowest (index_ok frames.now) (frame_count frames.now))
-        (Accepted (frame_count frames.now))) }
+        (Ok (frame_count frames.now))) }
 {
     match first_unfit(frames) {
-        Found::At(k) => Outcome::Field { frame: k as u16 },
-        Found::Nothing => check_index(frames),
+        Some(k) => Err(FileError::Field { frame: k as u16 }),
+        None => check_index(frames),
     }
 }
 
@@ -238,12 +194,12 @@ pub fn check_frames(frames: &[u8]) -> Outcome
     ensures { result ≡ check_frames frames.now }
 {
     if MAX_FRAMES < frame_count(frames) {
-        return Outcome::Long {
+        return Err(FileError::Long {
             limit: MAX_FRAMES as u16,
-        };
+        });
     }
     match first_disorder(frames) {
-        Found::At(k) => Outcome::Order { frame: k as u16 },
-        Found::Nothing => check_fields(frames),
+        Some(k) => Err(FileError::Order { frame: k as u16 }),
+        None => check_fields(frames),
     }
 }

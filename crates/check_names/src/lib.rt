@@ -10,11 +10,11 @@ ghost use Rattle.archive.specs.Names.{is_earlier};
 ghost use Rattle.archive.specs.Names.{query_names, relational_names, row_form_names};
 
 use archive::Starts;
-use archive_access::families::{is_item, is_type, minus, size_names};
+use archive_access::families::{is_item, is_type, size_names};
 use frames::Frame;
 use ir::{
-    ArraySize, ComponentNumber, FunctionResult, ImageQuery, Item, ItemNumber, MemberNumber,
-    RelationalFunction, RowKind, RowNumber, TypeForm, TypeInner, TypeNumber,
+    ArraySize, ComponentNumber, ImageQuery, Item, ItemNumber, MemberNumber, RelationalFunction,
+    RowKind, RowNumber, TypeInner, TypeNumber,
 };
 
 // Row m is earlier than row n.
@@ -28,7 +28,7 @@ pub fn is_earlier(n: RowNumber, m: RowNumber) -> bool
 fn struct_names(s: Starts, first: MemberNumber, count: u16) -> bool
     ensures { result ≡ leb (first.0 + count) (member_count s) }
 {
-    (first.0 as usize) + (count as usize) <= minus(s.constants, s.members)
+    (first.0 as usize) + (count as usize) <= s.constants.saturating_sub(s.members)
 }
 
 fn base_names(s: Starts, n: TypeNumber, base: TypeNumber, size: ArraySize) -> bool
@@ -57,21 +57,21 @@ fn type_names(s: Starts, n: TypeNumber, t: TypeInner) -> bool
     }
 }
 
-pub fn type_form_names(s: Starts, n: TypeNumber, form: TypeForm) -> bool
+pub fn type_form_names(s: Starts, n: TypeNumber, form: Option<TypeInner>) -> bool
     ensures { result ≡ type_form_names s n form }
 {
     match form {
-        TypeForm::Known(t) => type_names(s, n, t),
-        TypeForm::Unknown => true,
+        Some(t) => type_names(s, n, t),
+        None => true,
     }
 }
 
-fn result_names(s: Starts, res: FunctionResult) -> bool
+fn result_names(s: Starts, res: Option<TypeNumber>) -> bool
     ensures { result ≡ result_names s res }
 {
     match res {
-        FunctionResult::None => true,
-        FunctionResult::Some(t) => is_type(s, t),
+        None => true,
+        Some(t) => is_type(s, t),
     }
 }
 
@@ -113,7 +113,7 @@ fn relational_names(n: RowNumber, fun: RelationalFunction, argument: RowNumber) 
 fn compose_names(s: Starts, ty: TypeNumber, count: u16, first: ComponentNumber) -> bool
     ensures { result ≡ (is_type s ty && leb (first.0 + count) (component_count s)) }
 {
-    is_type(s, ty) & ((first.0 as usize) + (count as usize) <= minus(s.end, s.components))
+    is_type(s, ty) & ((first.0 as usize) + (count as usize) <= s.end.saturating_sub(s.components))
 }
 
 // Bytes 2 and 3 name an earlier row.
@@ -151,12 +151,8 @@ fn kind_names(s: Starts, n: RowNumber, kind: RowKind, f: Frame) -> bool
         RowKind::LocalVariable => names_item(s.locals, s.functions, f),
         RowKind::CallResult => names_item(s.functions, s.intersections, f),
         RowKind::Compose => compose_names(s, f.ty(), f.count(), f.first_component()),
-        RowKind::ImageQuery => query_names(n, f.operand(), ImageQuery::from_number(f.b6)),
-        RowKind::Relational => relational_names(
-            n,
-            RelationalFunction::from_number(f.b6),
-            f.operand(),
-        ),
+        RowKind::ImageQuery => query_names(n, f.operand(), ImageQuery::from(f.b6)),
+        RowKind::Relational => relational_names(n, RelationalFunction::from(f.b6), f.operand()),
         RowKind::Binary => names_earlier(n, f) & is_earlier(n, f.right()),
         RowKind::ZeroValue
         | RowKind::AtomicResult
@@ -180,5 +176,5 @@ fn kind_names(s: Starts, n: RowNumber, kind: RowKind, f: Frame) -> bool
 pub fn row_names(s: Starts, n: RowNumber, f: Frame) -> bool
     ensures { result ≡ row_form_names s n (row_of f) }
 {
-    kind_names(s, n, RowKind::from_number(f.b1), f)
+    kind_names(s, n, RowKind::from(f.b1), f)
 }

@@ -10,7 +10,7 @@
 // components, and rows 1 and 7 to 10 are gone.
 #![tactic(auto)]
 
-use answers::{MAX_FRAME_BYTES, MAX_TEXT_BYTES, Outcome, Printed};
+use answers::{FileError, MAX_FRAME_BYTES, MAX_TEXT_BYTES};
 use file_cut::cut_text;
 use file_lines::put_lines;
 use frames::{Frame, put_frame};
@@ -18,14 +18,14 @@ use frames_answers::write::{outcome_frame, refused};
 use ir::RowNumber;
 use law_cut::CutText;
 use program_limit::arguments::{Cutting, asked_cutting};
-use program_limit::input::read_full;
+use program_limit::input::run_on_input;
 use std::io;
 
 fn print_frame(rt: &impl Print, frame: Frame) -> io::Result<()> {
     let mut bytes = [0u8; 16];
     put_frame(&mut bytes, 0, frame);
     let mut line = [0u8; 33];
-    if let Printed::Bytes(_) = put_lines(&bytes, &mut line) {
+    if let Some(_) = put_lines(&bytes, &mut line) {
         rt.write_all(&line)?;
     }
     Ok(())
@@ -36,22 +36,16 @@ fn print_cut(rt: &impl Print, text: &[u8], limit: u32, row: RowNumber) -> io::Re
     let mut lines = [0u8; MAX_TEXT_BYTES];
     match cut_text(text, limit, &mut frames, row, &mut lines) {
         CutText::Lines(n) => rt.write_all(&lines[..33 * n as usize]),
-        CutText::Short => print_frame(rt, outcome_frame(Outcome::Short)),
+        CutText::Short => print_frame(rt, outcome_frame(Err(FileError::Short))),
         CutText::Sound => print_frame(rt, refused(48, 0, 0, false)),
         CutText::Index => print_frame(rt, refused(6, 0, 0, false)),
-        CutText::NotAccepted(o) => print_frame(rt, outcome_frame(o)),
+        CutText::NotAccepted(e) => print_frame(rt, outcome_frame(Err(e))),
     }
 }
 
-fn cut_file<R: Input + Print>(rt: &R, limit: u32, row: RowNumber) -> io::Result<()> {
-    let mut text = [0u8; MAX_TEXT_BYTES + 1];
-    let n = read_full(&mut rt.reader(), &mut text)?;
-    print_cut(rt, &text[..n], limit, row)
-}
-
 fn main(rt: HostRuntime) -> io::Result<()> {
-    if let Cutting::Row { row, limit } = asked_cutting(&rt)? {
-        cut_file(&rt, limit, RowNumber(row))?;
+    if let Some(Cutting { row, limit }) = asked_cutting(&rt)? {
+        run_on_input(&rt, |text| print_cut(&rt, text, limit, RowNumber(row)))?;
     }
     Ok(())
 }

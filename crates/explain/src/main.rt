@@ -4,7 +4,7 @@
 // byte over the longest file; its buffer for lines has room for any file's (`explained-fits`).
 #![tactic(auto)]
 
-use answers::{MAX_TEXT_BYTES, Printed};
+use answers::MAX_TEXT_BYTES;
 use explain_file::{MAX_EXPLAINED_BYTES, explain_text};
 use program_limit::Asked;
 use program_limit::arguments::asked;
@@ -16,14 +16,14 @@ fn explain_rows<R: Input + Print>(rt: &R, limit: u32, pass: Pass) -> io::Result<
     let mut text = [0u8; MAX_TEXT_BYTES + 1];
     let n = read_full(&mut rt.reader(), &mut text)?;
     let mut lines = [0u8; MAX_EXPLAINED_BYTES];
-    if let Printed::Bytes(m) = explain_text(&text[..n], limit, pass, &mut lines) {
+    if let Some(m) = explain_text(&text[..n], limit, pass, &mut lines) {
         rt.write_all(&lines[..m])?;
     }
     Ok(())
 }
 
 fn main(rt: HostRuntime) -> io::Result<()> {
-    if let Asked::Within { limit, wgsl } = asked(&rt)? {
+    if let Some(Asked { limit, wgsl }) = asked(&rt)? {
         if wgsl {
             explain_rows(&rt, limit, Pass::Second)?;
         } else {

@@ -1,13 +1,15 @@
 -- The sizes of a text's types are the line of its fault, or the lines of all that its types fill; and so their ranges.
 -- From the laws of reading a file.
+use Rattle.std.specs.Prelude.{Ok, Err}
+use Rattle.answers.specs.declared.FileError.{FileError}
 use Prim.Native.Nat.{ℕ, ◌*◌, ◌≤◌}
 use native.Mathlib.Omega.{arith}
-use mathlib.Core.Path.{◌≡◌, ap, ◌∙◌}
+use mathlib.Core.Path.{◌≡◌, ap, ◌∙◌, sym}
 use mathlib.Core.List.{List, ◌++◌}
 use lib.ListN.{length, take, drop, length-append}
 use lib.Seq.{take_at}
 use borrow.Author.Tests.{le-leb}
-use Rattle.answers.specs.declared.Outcome.{Outcome}
+use Rattle.answers.specs.Outcome.{Outcome}
 use Rattle.answers.specs.Limit.{max_frames, max_frame_bytes}
 use Rattle.text.specs.declared.AnswerRoom.TheVariants.{NotLent}
 use Rattle.archive.specs.declared.Starts.{Starts}
@@ -17,10 +19,8 @@ use Rattle.rule_sizes.specs.Sizes.{frames_of, size_frame, size_frames}
 use Rattle.rule_sizes.specs.Sizes.{frames_written}
 use Rattle.rule_ranges.specs.Counts.{Counts}
 use Rattle.type_sizes.proofs.Written.{frames-long}
-use Rattle.rule_file.specs.declared.OptionUsize.TheVariants as Ou
 use Rattle.rule_file.specs.File.{over_file, read_file, frames_after}
-use Rattle.rule_file.specs.ForProofs.{frames_in}
-use Rattle.law_file.proofs.Over.{read, part-is, given-over, refused_over}
+use Rattle.law_file.proofs.Over.{read, part-is, given-over}
 use Rattle.rule_explain.specs.Explained.{fault_lines}
 use Rattle.rule_explain.specs.Sized.{size_lines, file_sizes, sizes_of, ranges_in, ranges_of}
 use Rattle.explain_file.proofs.Fits.{few-types, overrides-few}
@@ -50,13 +50,12 @@ module _ (frame : ℕ → Frame) (s : Starts) (few : type_count s ≤ max_frames
 -- after a call of `read_file` with a frame buffer of the largest size
 module _ (limit : ℕ) (t fr last : List ℕ) (r : Outcome) (er : r ≡ read_file limit t (length fr) NotLent)
     (el : last ≡ frames_after limit t fr NotLent) (ef : length fr ≡ max_frame_bytes) where
-  pub refused-sizes : frames_in r ≡ Ou.None → fault_lines r ≡ sizes_of limit t
+  pub refused-sizes : {x : FileError} → r ≡ Err x → fault_lines x ≡ sizes_of limit t
   unfolding sizes_of
   refused-sizes en =
-      refused_over fault_lines file_sizes t r en
-      ∙ ap (over_file fault_lines file_sizes t) (er ∙ ap (λ (f : ℕ). read_file limit t f NotLent) ef)
+      ap (over_file fault_lines file_sizes t) (sym en ∙ er ∙ ap (λ (f : ℕ). read_file limit t f NotLent) ef)
 
-  module _ (n : ℕ) (en : frames_in r ≡ Ou.Some n) (s : Starts) (es : s ≡ starts_of (take (16 * n) last)) where
+  module _ (n : ℕ) (en : r ≡ Ok n) (s : Starts) (es : s ≡ starts_of (take (16 * n) last)) where
     pub few : type_count s ≤ max_frames
     few =
         omega (
@@ -81,14 +80,13 @@ module _ (limit : ℕ) (t fr last : List ℕ) (r : Outcome) (er : r ≡ read_fil
 
   -- THE RANGES
   module _ (least greatest : Counts) where
-    pub refused-ranges : frames_in r ≡ Ou.None → fault_lines r ≡ ranges_of limit least greatest t
+    pub refused-ranges : {x : FileError} → r ≡ Err x → fault_lines x ≡ ranges_of limit least greatest t
     unfolding ranges_of
     refused-ranges en =
-        refused_over fault_lines (λ (x : List ℕ). ranges_in x (starts_of x) least greatest) t r en
-        ∙ ap (over_file fault_lines (λ (x : List ℕ). ranges_in x (starts_of x) least greatest) t)
-        (er ∙ ap (λ (f : ℕ). read_file limit t f NotLent) ef)
+        ap (over_file fault_lines (λ (y : List ℕ). ranges_in y (starts_of y) least greatest) t)
+        (sym en ∙ er ∙ ap (λ (f : ℕ). read_file limit t f NotLent) ef)
 
-    module _ (n : ℕ) (en : frames_in r ≡ Ou.Some n) (s : Starts) (es : s ≡ starts_of (take (16 * n) last)) where
+    module _ (n : ℕ) (en : r ≡ Ok n) (s : Starts) (es : s ≡ starts_of (take (16 * n) last)) where
       pub accepted-ranges : ranges_in (take (16 * n) last) s least greatest ≡ ranges_of limit least greatest t
       unfolding ranges_of
       accepted-ranges =

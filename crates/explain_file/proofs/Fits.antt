@@ -1,14 +1,13 @@
 -- ALL OF IT FITS: `max_explained_bytes` hold the whole text for people of every file, which has at most two lines of at
 -- most 142 bytes for each frame. From the length of a line and the number of frames handed back.
+use Rattle.answers.specs.declared.FileError.{FileError}
+use Rattle.std.specs.Prelude.{ℕ, Option, Some, None, Ok, Err}
 use Prim.Native.Nat.{ℕ, ◌≤◌}
 use native.Mathlib.Omega.{arith}
 use mathlib.Core.Path.{◌≡◌, refl}
 use mathlib.Core.List.{List}
 use lib.ListN.{length}
-use Rattle.scan.specs.declared.Found.{Found}
-use Rattle.scan.specs.declared.Found.TheVariants.{At, Nothing}
-use Rattle.answers.specs.declared.Outcome.{Outcome}
-use Rattle.answers.specs.declared.Outcome.TheVariants.{Accepted, Long, Torn, Short, Order, Field, Index}
+use Rattle.answers.specs.Outcome.{Outcome}
 use Rattle.answers.specs.Limit.{max_frames, max_frame_bytes, max_answer_bytes}
 use Rattle.text.specs.declared.AnswerRoom.TheVariants.{NotLent, Lent}
 use Rattle.text.specs.Lines.{decoded}
@@ -35,8 +34,8 @@ use Rattle.rule_explain.specs.Sized.{ranges_in, ranges_of, ranged, max_sized_byt
 use Rattle.explain_file.proofs.Fitting.{joined-long}
 
 -- the line of a fault
-fault-line : (o : Outcome) → length (all_of (fault_lines o)) ≤ 142
-fault-line o = omega (arith, joined-long (fault_lines o).line 142 1 (λ k. fault-long (outcome_frame o)))
+fault-line : (e : FileError) → length (all_of (fault_lines e)) ≤ 142
+fault-line e = omega (arith, joined-long (fault_lines e).line 142 1 (λ k. fault-long (outcome_frame (Err e))))
 
 pub explained-fits : (pass : Pass) (limit : ℕ) (t : List ℕ) → length (explained pass limit t) ≤ max_explained_bytes
 unfolding lines_of
@@ -44,7 +43,7 @@ explained-fits pass limit t = go (read_file limit t max_frame_bytes (Lent max_an
   where
     go : (o : Outcome) → read_file limit t max_frame_bytes (Lent max_answer_bytes) ≡ o
         → length (all_of (over_file fault_lines (file_lines pass) t o)) ≤ max_explained_bytes
-    go (Accepted n) e =
+    go (Ok n) e =
         let fr = decoded t n in
         let an = output_bytes pass fr in
         omega (
@@ -52,15 +51,10 @@ explained-fits pass limit t = go (read_file limit t max_frame_bytes (Lent max_an
           joined-long (line_at fr an) 142 (frame_count an) (λ k. line-long fr (row_at an k) (frame_at an k)),
           few-outputs pass limit t max_frame_bytes max_answer_bytes n e,
         )
-    go (Long m) e = omega (arith, fault-line (Long m))
-    go (Torn k) e = omega (arith, fault-line (Torn k))
-    go Short e = omega (arith, fault-line Short)
-    go (Order k) e = omega (arith, fault-line (Order k))
-    go (Field k) e = omega (arith, fault-line (Field k))
-    go (Index k) e = omega (arith, fault-line (Index k))
+    go (Err x) e = omega (arith, fault-line x)
 
 -- THE SIZES of every file's types fit into `max_sized_bytes`: an accepted file has at most `max_frames` types
-pub few-types : (limit : ℕ) (t : List ℕ) (f n : ℕ) → read_file limit t f NotLent ≡ Accepted n
+pub few-types : (limit : ℕ) (t : List ℕ) (f n : ℕ) → read_file limit t f NotLent ≡ Ok n
     → type_count (starts_of (decoded t n)) ≤ max_frames
 few-types limit t f n e =
     let few : frame_count (decoded t n) ≤ max_frames =
@@ -73,7 +67,7 @@ sized-fits limit t = go (read_file limit t max_frame_bytes NotLent) refl
   where
     go : (o : Outcome) → read_file limit t max_frame_bytes NotLent ≡ o
         → length (all_of (over_file fault_lines file_sizes t o)) ≤ max_sized_bytes
-    go (Accepted n) e =
+    go (Ok n) e =
         let fr = decoded t n in
         let s = starts_of fr in
         let z = size_frames fr s (type_count s) in
@@ -84,15 +78,10 @@ sized-fits limit t = go (read_file limit t max_frame_bytes NotLent) refl
           frames-long (size_frame fr s) s (type_count s),
           few-types limit t max_frame_bytes n e,
         )
-    go (Long m) e = omega (arith, fault-line (Long m))
-    go (Torn k) e = omega (arith, fault-line (Torn k))
-    go Short e = omega (arith, fault-line Short)
-    go (Order k) e = omega (arith, fault-line (Order k))
-    go (Field k) e = omega (arith, fault-line (Field k))
-    go (Index k) e = omega (arith, fault-line (Index k))
+    go (Err x) e = omega (arith, fault-line x)
 
 -- AND SO DO THE RANGES
-pub overrides-few : (limit : ℕ) (t : List ℕ) (f n : ℕ) → read_file limit t f NotLent ≡ Accepted n
+pub overrides-few : (limit : ℕ) (t : List ℕ) (f n : ℕ) → read_file limit t f NotLent ≡ Ok n
     → override_count (starts_of (decoded t n)) ≤ max_frames
 unfolding starts_of
 overrides-few limit t f n e =
@@ -105,12 +94,12 @@ pub ranged-fits : (limit : ℕ) (least greatest : Counts) (t : List ℕ)
 unfolding ranges_of
 ranged-fits limit least greatest t = go (read_file limit t max_frame_bytes NotLent) refl
   where
-    by_span : (fr : List ℕ) (f : Found) → type_count (starts_of fr) ≤ max_frames
+    by_span : (fr : List ℕ) (f : Option ℕ) → type_count (starts_of fr) ≤ max_frames
         → length (all_of (or_span f
         (size_lines fr (frames_of (range_frame fr (starts_of fr) least greatest) (type_count (starts_of fr)))))) ≤
         max_sized_bytes
-    by_span fr (At o) h = omega (arith, joined-long (span_lines o).line 142 1 (λ k. span-long o))
-    by_span fr Nothing h =
+    by_span fr (Some o) h = omega (arith, joined-long (span_lines o).line 142 1 (λ k. span-long o))
+    by_span fr None h =
         let s = starts_of fr in
         let z = frames_of (range_frame fr s least greatest) (type_count s) in
         omega (
@@ -124,12 +113,7 @@ ranged-fits limit least greatest t = go (read_file limit t max_frame_bytes NotLe
     go : (o : Outcome) → read_file limit t max_frame_bytes NotLent ≡ o
         → length (all_of (over_file fault_lines (λ (fr : List ℕ). ranges_in fr (starts_of fr) least greatest) t o)) ≤
         max_sized_bytes
-    go (Accepted n) e =
+    go (Ok n) e =
         by_span (decoded t n) (faulty_span (starts_of (decoded t n)) least greatest)
         (few-types limit t max_frame_bytes n e)
-    go (Long m) e = omega (arith, fault-line (Long m))
-    go (Torn k) e = omega (arith, fault-line (Torn k))
-    go Short e = omega (arith, fault-line Short)
-    go (Order k) e = omega (arith, fault-line (Order k))
-    go (Field k) e = omega (arith, fault-line (Field k))
-    go (Index k) e = omega (arith, fault-line (Index k))
+    go (Err x) e = omega (arith, fault-line x)

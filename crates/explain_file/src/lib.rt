@@ -16,19 +16,17 @@ ghost use Rattle.rule_explain.specs.Sized.{size_lines, sizes_of, sized, span_lin
 ghost use Rattle.rule_explain.specs.Sized.{max_sized_bytes, ranges_printed, ranges_said, ranges_after};
 ghost use Rattle.explain_file.specs.ForProofs.{Shown};
 
-use answers::{MAX_ANSWER_BYTES, MAX_FRAME_BYTES, MAX_FRAMES, Outcome, Printed};
+use answers::{FileError, MAX_ANSWER_BYTES, MAX_FRAME_BYTES, MAX_FRAMES};
 use archive::Starts;
 use archive_access::families::find_starts;
 use explain_lines::lines::{put_fault, put_line, put_size, put_span};
 use explain_words::copy;
-use file_read::{first_frames, frames_in, read_file};
+use file_read::{first_frames, read_file};
 use file_rows::type_file;
 use frames::{Frame, frame_at, frame_count};
 use frames_answers::write::outcome_frame;
 use ir::{RowNumber, TypeNumber};
-use rule_file::OptionUsize;
 use rule_rows::Pass;
-use scan::Found;
 use size_pending::faulty_span;
 use type_sizes::{measure_all, range_all};
 
@@ -58,27 +56,24 @@ fn explain_answers(frames: &[u8], answers: &[u8], line: &mut [u8], out: &mut [u8
     ensures { Shown (answer_lines frames.now answers.now) out.old result
         out.new }
 {
-    let n = frame_count(answers);
-    let mut k = 0;
     let mut at = 0;
     let mut row = RowNumber(0);
-    while k < n {
+    for k in 0..frame_count(answers) {
         let f = frame_at(answers, k);
         let m = put_line(frames, row, f, line);
         copy(&line[..m], out, at);
         at += m;
         row = next_row(row, f);
-        k += 1;
     }
     at
 }
 
 // The line of a file that is not accepted.
-fn explain_fault(o: Outcome, line: &mut [u8], out: &mut [u8]) -> usize
+fn explain_fault(e: FileError, line: &mut [u8], out: &mut [u8]) -> usize
     requires { (length line.old ≡ 1296) × (142 ≤ length out.old) }
-    ensures { Shown (fault_lines o) out.old result out.new }
+    ensures { Shown (fault_lines e) out.old result out.new }
 {
-    let m = put_fault(outcome_frame(o), line);
+    let m = put_fault(outcome_frame(Err(e)), line);
     copy(&line[..m], out, 0);
     m
 }
@@ -99,32 +94,30 @@ fn explain_with(
     requires out { length out.old ≡ max_explained_bytes }
     ensures { Shown (lines_of pass limit text.now) out.old result out.new }
 {
-    let typed = type_file(text, limit, pass, frames, answers);
-    let read = typed.outcome;
-    match frames_in(read) {
-        OptionUsize::None => explain_fault(read, line, out),
-        OptionUsize::Some(n) => {
-            let fr = first_frames(frames, n);
+    match type_file(text, limit, pass, frames, answers) {
+        Err(e) => explain_fault(e, line, out),
+        Ok(typed) => {
+            let fr = first_frames(frames, typed.frames);
             explain_answers(fr, first_frames(answers, typed.outputs), line, out)
         }
     }
 }
 
 // Copies lines to the front of the output buffer; where it is too small, number 3, and nothing is changed.
-fn print(lines: &[u8], out: &mut [u8]) -> Printed
+fn print(lines: &[u8], out: &mut [u8]) -> Option<usize>
     ensures outcome { result ≡ printed lines.now (length out.old) }
     ensures out { out.new ≡ printed_after lines.now out.old }
 {
     if out.len() < lines.len() {
-        return Printed::Short;
+        return None;
     }
     copy(lines, out, 0);
-    Printed::Bytes(lines.len())
+    Some(lines.len())
 }
 
 // Explains a file: writes its lines, and gives how many bytes they are; where the output buffer is too small it gives
 // number 3 and changes nothing. MAX_EXPLAINED_BYTES are room for any file's (`explained-fits`, proofs/Fits.antt).
-pub fn explain_text(text: &[u8], limit: u32, pass: Pass, out: &mut [u8]) -> Printed
+pub fn explain_text(text: &[u8], limit: u32, pass: Pass, out: &mut [u8]) -> Option<usize>
     ensures outcome { result ≡ printed (explained pass limit text.now) (length out.old) }
     ensures said { printed_said result
         ≡ lines_said (explained pass limit text.now) (length out.old) }
@@ -154,15 +147,12 @@ fn size_lines(frames: &[u8], sizes: &[u8], line: &mut [u8], out: &mut [u8]) -> u
     ensures { Shown (size_lines frames.now sizes.now) out.old result
         out.new }
 {
-    let n = frame_count(sizes);
-    let mut k = 0;
     let mut at = 0;
-    while k < n {
+    for k in 0..frame_count(sizes) {
         let f = frame_at(sizes, k);
         let m = put_size(frames, TypeNumber(k as u16), f, line);
         copy(&line[..m], out, at);
         at += m;
-        k += 1;
     }
     at
 }
@@ -182,10 +172,9 @@ fn sizes_with(
     requires out { length out.old ≡ max_sized_bytes }
     ensures { Shown (sizes_of limit text.now) out.old result out.new }
 {
-    let read = read_file(text, limit, frames);
-    match frames_in(read) {
-        OptionUsize::None => explain_fault(read, line, out),
-        OptionUsize::Some(n) => {
+    match read_file(text, limit, frames) {
+        Err(e) => explain_fault(e, line, out),
+        Ok(n) => {
             let fr = first_frames(frames, n);
             let s = find_starts(fr);
             measure_all(fr, s, sizes);
@@ -197,7 +186,7 @@ fn sizes_with(
 // The sizes of a file's types: writes a line for each, and gives how many bytes they are; where the output buffer is
 // too small it gives number 3 and changes nothing. MAX_SIZED_BYTES are room for any file's (`sized-fits`,
 // proofs/Fits.antt).
-pub fn sizes_text(text: &[u8], limit: u32, out: &mut [u8]) -> Printed
+pub fn sizes_text(text: &[u8], limit: u32, out: &mut [u8]) -> Option<usize>
     ensures outcome { result ≡ printed (sized limit text.now) (length out.old) }
     ensures said { printed_said result
         ≡ lines_said (sized limit text.now) (length out.old) }
@@ -239,8 +228,8 @@ fn range_lines(
         (counts_of greatest.now)) out.old result out.new }
 {
     match faulty_span(s, least, greatest) {
-        Found::At(o) => explain_span(o as u16, line, out),
-        Found::Nothing => {
+        Some(o) => explain_span(o as u16, line, out),
+        None => {
             range_all(frames, s, least, greatest, sizes);
             let e = 16 * s.members;
             size_lines(frames, &sizes[..e], line, out)
@@ -266,10 +255,9 @@ fn ranges_with(
     ensures { Shown (ranges_of limit (counts_of least.now) (counts_of greatest.now)
         text.now) out.old result out.new }
 {
-    let read = read_file(text, limit, frames);
-    match frames_in(read) {
-        OptionUsize::None => explain_fault(read, line, out),
-        OptionUsize::Some(n) => {
+    match read_file(text, limit, frames) {
+        Err(e) => explain_fault(e, line, out),
+        Ok(n) => {
             let fr = first_frames(frames, n);
             range_lines(fr, find_starts(fr), least, greatest, sizes, line, out)
         }
@@ -277,7 +265,13 @@ fn ranges_with(
 }
 
 // The ranges of the sizes of a file's types between two tables of counts.
-fn print_ranges(text: &[u8], limit: u32, least: &[u32], greatest: &[u32], out: &mut [u8]) -> Printed
+fn print_ranges(
+    text: &[u8],
+    limit: u32,
+    least: &[u32],
+    greatest: &[u32],
+    out: &mut [u8],
+) -> Option<usize>
     ensures outcome { result
         ≡ printed (ranged limit (counts_of least.now) (counts_of greatest.now)
         text.now) (length out.old) }
@@ -311,7 +305,7 @@ pub fn ranges_text(
     least: &[u32],
     greatest: &[u32],
     out: &mut [u8],
-) -> Printed
+) -> Option<usize>
     ensures outcome { result
         ≡ ranges_printed limit least.now greatest.now text.now
         (length out.old) }
@@ -322,7 +316,7 @@ pub fn ranges_text(
         ≡ ranges_after limit least.now greatest.now text.now out.old }
 {
     if (least.len() < 1024) | (greatest.len() < 1024) {
-        return Printed::Short;
+        return None;
     }
     print_ranges(text, limit, least, greatest, out)
 }

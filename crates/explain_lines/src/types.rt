@@ -39,7 +39,7 @@ fn is_scalar(s: Scalar, kind: u8, width: u8) -> bool
 {
     let k = s.kind;
     let w = s.width;
-    (kind == k.number()) & (width == w.number())
+    (kind == u8::from(k)) & (width == u8::from(w))
 }
 
 // The scalar's name, if these bytes are that scalar, else the other.

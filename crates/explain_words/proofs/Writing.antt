@@ -73,9 +73,9 @@ goes (suc k) r buf d p h l e =
     ∙ ap (λ (x : List ℕ). digits k (r / 10) ++ x) (sym (front buf k (48 + r % 10) (omega arith))))
 
 -- all ten are written
-pub full : (i r : ℕ) (buf d : List ℕ) → i ≡ 0 → d ≡ digits i r ++ drop i buf → drop i buf ≡ d
+pub full : (i r : ℕ) (buf d : List ℕ) → i ≡ 0 → d ≡ digits i r ++ drop i buf → buf ≡ d
 unfolding digits
-full i r buf d z e = rw z (sym (rw z at e))
+full i r buf d z e = sym (rw z at e)
 
 -- before any
 pub none_yet : (n : ℕ) (buf : List ℕ) → length buf ≡ 10 → digits 10 n ≡ digits 10 n ++ drop 10 buf

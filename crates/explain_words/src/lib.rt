@@ -23,11 +23,7 @@ fn copy_in(src: &[u8], out: &mut [u8], at: usize)
     requires { at + length src.now ≤ length out.old }
     ensures { out.new ≡ written out.old at src.now }
 {
-    let mut j = 0;
-    while j < src.len() {
-        out[at + j] = src[j];
-        j += 1;
-    }
+    out[at..at + src.len()].copy_from_slice(src);
 }
 
 // The same where there is room; else the buffer stays as it was.
@@ -91,17 +87,15 @@ fn numeral(n: u64, buf: &mut [u8]) -> usize
     requires { length buf.old ≡ 10 }
     ensures { (drop result buf.new ≡ decimal n) × (result ≤ 10) × (length buf.new ≡ 10) }
 {
-    let mut i = 10;
     let mut rest = n;
-    while 0 < i {
-        i -= 1;
+    for i in (0..10).rev() {
         buf[i] = digit(rest % 10);
         if rest < 10 {
             return i;
         }
         rest /= 10;
     }
-    i
+    0
 }
 
 // Writes a number in decimal, and gives the place after it.
@@ -140,10 +134,8 @@ fn put_run(pieces: &[u64], out: &mut [u8], at: usize) -> usize
         × (out.new ≡ written out.old at (spelled pieces.now)) }
 {
     let mut next = at;
-    let mut i = 0;
-    while i < pieces.len() {
-        next = put_piece(pieces[i], out, next);
-        i += 1;
+    for p in pieces {
+        next = put_piece(*p, out, next);
     }
     next
 }

@@ -11,7 +11,7 @@ ghost use Rattle.rule.specs.Things.{see};
 ghost use Rattle.rule_rows.specs.Typed.{typed};
 ghost use Rattle.rule_rows.specs.OverBuffer.{ruled};
 ghost use Rattle.rule_compose.specs.Judged.{to_judged};
-ghost use Rattle.rule_rows.specs.OverBuffer.{judged_by};
+ghost use Rattle.row_operands.specs.Context.{judges};
 ghost use Rattle.rule_compose.specs.ForProofs.{compose_rule};
 ghost use Rattle.rule_answers.specs.Outputs.{outputs};
 ghost use Rattle.rule_answers.specs.ForProofs.{places_of, Held};
@@ -27,6 +27,7 @@ use frames::{Frame, frame_at, frame_count, put_frame};
 use frames_answers::write::{answer_frame, verdict_frame};
 use ir::RowNumber;
 use ir::numbers::is_compose;
+use row_operands::ResolveContext;
 use row_typifier::resolve::type_row;
 use rule_rows::Pass;
 use verdict_compose::compose::judge;
@@ -47,20 +48,27 @@ fn put_row(
     ensures held { Held
         (ruled frames.now s answers.old places.now (typed pass here)) }
 {
-    let a = type_row(pass, frames, s, answers, places, here);
+    let a = type_row(
+        pass,
+        &ResolveContext {
+            frames,
+            starts: s,
+            answers,
+            places,
+        },
+        here,
+    );
     put_frame(answers, at, answer_frame(a));
 }
 
 // The verdict on the compose row whose frame is f, over the answers so far.
-pub fn judge_row(frames: &[u8], s: Starts, answers: &[u8], places: &[u16], f: Frame) -> Verdict
-    ensures { to_judged result
-        ≡ judged_by frames.now s answers.now places.now
-        (compose_rule frames.now s f) }
+pub fn judge_row(ctx: &ResolveContext<'_>, f: Frame) -> Verdict
+    ensures { to_judged result ≡ judges ctx.now (compose_rule ctx.now.frames.now ctx.now.starts f) }
 {
     let ty = f.ty();
     let first = f.first_component();
     let count = f.count();
-    judge(frames, s, answers, places, ty, first, count)
+    judge(ctx, ty, first, count)
 }
 
 // Writes a row's answer as frame `at`, and after it the verdict if the row is a compose; gives the frame after them.
@@ -81,7 +89,15 @@ fn answer_row(
     let f = frame_at(frames, s.rows + (row.0 as usize));
     if is_compose(f.b1) {
         let e = 16 * at;
-        let v = judge_row(frames, s, &answers[..e], places, f);
+        let v = judge_row(
+            &ResolveContext {
+                frames,
+                starts: s,
+                answers: &answers[..e],
+                places,
+            },
+            f,
+        );
         put_frame(answers, after, verdict_frame(row, v));
         after + 1
     } else {
@@ -100,9 +116,8 @@ fn fill(pass: Pass, frames: &[u8], s: Starts, answers: &mut [u8], places: &mut [
         ≡ places_of pass frames.now (row_count s) ++ drop (row_count s) places.old }
 {
     let n = row_count(s);
-    let mut m = 0;
     let mut at = 0;
-    while m < n {
+    for m in 0..n {
         let next = answer_row(
             pass,
             frames,
@@ -114,7 +129,6 @@ fn fill(pass: Pass, frames: &[u8], s: Starts, answers: &mut [u8], places: &mut [
         );
         places[m] = at as u16;
         at = next;
-        m += 1;
     }
     at
 }
@@ -135,11 +149,9 @@ fn all_hand_back(frames: &[u8], s: Starts) -> usize
 {
     let n = row_count(s);
     let first = s.rows;
-    let mut m = 0;
     let mut k = 0;
-    while m < n {
+    for m in 0..n {
         k += hands_back(frame_at(frames, first + m));
-        m += 1;
     }
     k
 }

@@ -1,5 +1,7 @@
 -- A row's part, from the answers in the buffer: each stands at its place, so the rows read by them are those of the
 -- definition. And an accepted text is ready to be answered in a buffer for the answers of any file.
+use Rattle.answers.specs.declared.Unresolved.TheVariants as Un
+use Rattle.std.specs.Prelude.{ℕ, Option, Some, None, Ok, Err}
 use Prim.Native.Nat.{ℕ, ◌*◌, ◌<◌}
 use native.Mathlib.Omega.{arith}
 use mathlib.Core.Path.{◌≡◌, refl, sym, ap, ◌∙◌}
@@ -8,11 +10,8 @@ use mathlib.Core.List.{List, ◌++◌}
 use lib.ListN.{length, take, drop, replicate, length-replicate}
 use borrow.Author.Tests.{ltb-true, lt-ltb}
 use Rattle.ir.specs.declared.RowNumber.{RowNumber}
-use Rattle.answers.specs.declared.Answer.{Answer}
-use Rattle.answers.specs.declared.Answer.TheVariants as An
-use Rattle.answers.specs.declared.Outcome.{Outcome}
-use Rattle.answers.specs.declared.Printed.{Printed}
-use Rattle.answers.specs.declared.Printed.TheVariants as Pr
+use Rattle.answers.specs.Answer.{Answer}
+use Rattle.answers.specs.Outcome.{Outcome}
 use Rattle.answers.specs.Limit.{max_frames, max_answer_bytes}
 use Rattle.text.specs.declared.AnswerRoom.TheVariants.{NotLent}
 use Rattle.text.proofs.Laws.{count_small}
@@ -27,12 +26,10 @@ use Rattle.rule_rows.specs.Answered.{to_result}
 use Rattle.rule_rows.specs.OverBuffer.{answer_in, past_in}
 use Rattle.rule_answers.specs.Outputs.{row_answer}
 use Rattle.rule_answers.specs.ForProofs.{places_of}
-use Rattle.rule_file.specs.declared.OptionUsize.{OptionUsize}
-use Rattle.rule_file.specs.declared.OptionUsize.TheVariants as Ou
 use Rattle.rule_file.specs.File.{read_file, frames_after}
 use Rattle.rule_file.specs.Typing.{answers_written, answer}
 use Rattle.rule_file.specs.Printed.{printed}
-use Rattle.rule_file.specs.ForProofs.{frames_in, Ready}
+use Rattle.rule_file.specs.ForProofs.{Ready}
 use Rattle.law_file.proofs.Laws.{accepted-when}
 use Rattle.law_file.proofs.Over.{read, part-is}
 use Rattle.law_file.proofs.Ready.{ready_of}
@@ -57,12 +54,12 @@ use Rattle.file_cut.specs.ForProofs.{answered_part, typed_part, part_over, outco
 -- READY TO BE ANSWERED
 pub ready-most : (limit : ℕ) (t fr last : List ℕ) (r : Outcome) {S : Type 0}
     → (r ≡ read_file limit t (length fr) NotLent) × (S × (last ≡ frames_after limit t fr NotLent))
-    → {o : OptionUsize} → o ≡ frames_in r → {n : ℕ} {x : List ℕ} → o ≡ Ou.Some n → x ≡ take (16 * n) last
+    → {n : ℕ} {x : List ℕ} → r ≡ Ok n → x ≡ take (16 * n) last
     → Ready Pa.First x max_answer_bytes
-ready-most limit t fr last r e eo {n} en ex =
-    let accepted = read limit t fr last NotLent n r e.0 e.1.1 (sym eo ∙ en) in
+ready-most limit t fr last r e {n} en ex =
+    let accepted = read limit t fr last NotLent n r e.0 e.1.1 en in
     let few = count_small ((accepted-when limit t (length fr) NotLent n).0 accepted).readable in
-    rw (ex, part-is limit t fr last NotLent n r e.0 e.1.1 (sym eo ∙ en))
+    rw (ex, part-is limit t fr last NotLent n r e.0 e.1.1 en)
     (ready_of Pa.First limit t (length fr) max_answer_bytes n
     (with-answers limit t (length fr) n max_answer_bytes accepted (omega (arith, few))))
 
@@ -88,9 +85,9 @@ all-answered fr r last out s ready es f =
 
 -- THE PART, after all rows are answered: `last` is the answer buffer, and p the table of places
 answered-typed : (a : Answer) (marks : List Bool) → answered_part a marks ≡ typed_part (to_result a) marks
-answered-typed (An.Resolved t) marks = refl
-answered-typed (An.Refused e) marks = refl
-answered-typed (An.Newer r) marks = refl
+answered-typed (Ok t) marks = refl
+answered-typed (Err (Un.Refused e)) marks = refl
+answered-typed (Err (Un.Newer r)) marks = refl
 
 module _ (fr an last p rest : List ℕ) (s : Starts) (ready : Ready Pa.First fr (length an))
     (es : s ≡ starts_of fr) (el : last ≡ answers_written Pa.First an fr)
@@ -181,14 +178,14 @@ module _ (marks : List Bool) (fr : List ℕ) {n : ℕ} {b x : List ℕ} (pushed 
   pub cut-count : n ≡ frame_count (cut_file marks fr)
   cut-count = pushed.count ∙ sym (file-count (cut_frames marks fr))
 
-  pub lines-told : (o : ℕ) {p : Printed} {k : ℕ} → p ≡ printed (file_text x) o → p ≡ Pr.Bytes k
+  pub lines-told : (o : ℕ) {p : Option ℕ} {k : ℕ} → p ≡ printed (file_text x) o → p ≡ Some k
       → Ct.Lines n ≡ as_lines (frame_count (cut_file marks fr)) (printed (file_text (cut_file marks fr)) o)
   lines-told o e q =
       ap Ct.Lines cut-count
       ∙ sym (ap (as_lines (frame_count (cut_file marks fr)))
       (ap (λ (y : List ℕ). printed (file_text y) o) (sym cut-is) ∙ sym e ∙ q))
 
-  pub lines-short : (o : ℕ) {p : Printed} → p ≡ printed (file_text x) o → p ≡ Pr.Short
+  pub lines-short : (o : ℕ) {p : Option ℕ} → p ≡ printed (file_text x) o → p ≡ None
       → Ct.Short ≡ as_lines (frame_count (cut_file marks fr)) (printed (file_text (cut_file marks fr)) o)
   lines-short o e q =
       sym (ap (as_lines (frame_count (cut_file marks fr)))

@@ -1,9 +1,8 @@
 -- Not part of any public statement: for proofs and code only. A row's part as the code holds it, and the frames of the
 -- cut as they are made.
-use Rattle.std.specs.Prelude.{ℕ, ◌*◌, ◌≡◌, Bool, cond, List, length, take}
+use Rattle.std.specs.Prelude.{ℕ, ◌*◌, ◌≡◌, Bool, cond, List, length, take, Ok, Err}
 use Rattle.ir.specs.declared.RowNumber.{RowNumber}
-use Rattle.answers.specs.declared.Answer.{Answer}
-use Rattle.answers.specs.declared.Answer.TheVariants as An
+use Rattle.answers.specs.Answer.{Answer}
 use Rattle.frames.specs.declared.Frame.{Frame}
 use Rattle.frames.specs.Bytes.{frame_count}
 use Rattle.text.specs.Lines.{text_of}
@@ -28,9 +27,8 @@ unmarked o = record { outcome = o; marks = no_marks }
 
 -- by the answer that the code holds, and by that of the rules
 abbrev pub answered_part : Answer → List Bool → RowPart
-answered_part (An.Resolved t) marks = unmarked Ro.Sound
-answered_part (An.Refused e) marks = marked marks
-answered_part (An.Newer r) marks = marked marks
+answered_part (Ok t) marks = unmarked Ro.Sound
+answered_part (Err e) marks = marked marks
 
 abbrev pub typed_part : Result Typed → List Bool → RowPart
 typed_part (told (given a)) marks = unmarked Ro.Sound

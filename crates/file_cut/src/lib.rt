@@ -8,7 +8,7 @@ ghost use Rattle.text.specs.declared.AnswerRoom.TheVariants.{NotLent};
 ghost use Rattle.frames.specs.Bytes.{frame_count, frame_at, put_frame};
 ghost use Rattle.rule.specs.Things.{listed};
 ghost use Rattle.rule_rows.specs.declared.Pass.TheVariants.{First};
-ghost use Rattle.rule_rows.specs.OverBuffer.{answer_in};
+ghost use Rattle.row_operands.specs.Context.{earlier};
 ghost use Rattle.rule_answers.specs.Outputs.{frames_bytes};
 ghost use Rattle.rule_file.specs.File.{frames_after};
 ghost use Rattle.rule_file.specs.Printed.{printed, printed_after};
@@ -23,19 +23,18 @@ ghost use Rattle.row_marks.specs.Reads.{reads_in};
 ghost use Rattle.file_cut.specs.declared.RowOutcome.TheVariants.{Marked};
 ghost use Rattle.file_cut.specs.ForProofs.{answered_part, part_over, outcome_of, Pushed, file_text};
 
-use answers::{Answer, MAX_ANSWER_BYTES, MAX_FRAME_BYTES, MAX_FRAMES, Printed};
-use archive::Starts;
+use answers::{MAX_ANSWER_BYTES, MAX_FRAME_BYTES, MAX_FRAMES};
 use archive_access::families::{find_starts, is_row, row_count};
 use file_answers::answer_rows;
 use file_lines::put_lines;
-use file_read::{first_frames, frames_in, read_file};
+use file_read::{first_frames, read_file};
 use frames::{frame_at, put_frame};
 use ir::RowNumber;
 use law_cut::{CutText, PartOutcome, SmallestPart};
 use row_cut::cut_row;
 use row_marks::follow_marks;
+use row_operands::ResolveContext;
 use row_operands::past::past;
-use rule_file::OptionUsize;
 use rule_rows::Pass;
 
 // Whether a row of an accepted file has no type, has one, or is not there.
@@ -72,15 +71,14 @@ fn unmarked(outcome: RowOutcome) -> RowPart
 }
 
 // By the row's answer: its part is marked where it has no type.
-fn read_part(frames: &[u8], s: Starts, answers: &[u8], places: &[u16], row: RowNumber) -> RowPart
+fn read_part(ctx: &ResolveContext<'_>, row: RowNumber) -> RowPart
     ensures { result
-        ≡ answered_part (answer_in answers.now places.now row)
-        (marks_by (reads_in frames.now s answers.now places.now) row.0) }
+        ≡ answered_part (earlier ctx.now row)
+        (marks_by (reads_in ctx.now.frames.now ctx.now.starts ctx.now.answers.now ctx.now.places.now) row.0) }
 {
-    match past(answers, places, row) {
-        Answer::Resolved(_) => unmarked(RowOutcome::Sound),
-        Answer::Refused(_) => marked(follow_marks(frames, s, answers, places, row)),
-        Answer::Newer { row: _ } => marked(follow_marks(frames, s, answers, places, row)),
+    match past(ctx, row) {
+        Ok(_) => unmarked(RowOutcome::Sound),
+        Err(_) => marked(follow_marks(ctx, row)),
     }
 }
 
@@ -95,7 +93,15 @@ fn mark_part(frames: &[u8], row: RowNumber) -> RowPart
         let mut places = [0u16; MAX_FRAMES];
         answer_rows(Pass::First, frames, &mut answers, &mut places);
         let n = row_count(s);
-        read_part(frames, s, &answers, &places[..n], row)
+        read_part(
+            &ResolveContext {
+                frames,
+                starts: s,
+                answers: &answers,
+                places: &places[..n],
+            },
+            row,
+        )
     } else {
         unmarked(RowOutcome::Index)
     }
@@ -134,13 +140,12 @@ pub fn smallest_part(text: &[u8], limit: u32, frames: &mut [u8], row: RowNumber)
     ensures marks { result.marks ≡ part_marks limit text.now (length frames.old) row }
     ensures frames { frames.new ≡ frames_after limit text.now frames.old NotLent }
 {
-    let read = read_file(text, limit, frames);
-    match frames_in(read) {
-        OptionUsize::None => SmallestPart {
-            outcome: PartOutcome::NotAccepted(read),
+    match read_file(text, limit, frames) {
+        Err(e) => SmallestPart {
+            outcome: PartOutcome::NotAccepted(e),
             marks: [false; 1024],
         },
-        OptionUsize::Some(n) => handed(mark_part(first_frames(frames, n), row)),
+        Ok(n) => handed(mark_part(first_frames(frames, n), row)),
     }
 }
 
@@ -150,10 +155,8 @@ fn put_front(frames: &[u8], n: usize, cut: &mut [u8])
     ensures { (length cut.new ≡ length cut.old)
         × (take (16 * n) cut.new ≡ frames_bytes (listed (frame_at frames.now) n)) }
 {
-    let mut k = 0;
-    while k < n {
+    for k in 0..n {
         put_frame(cut, k, frame_at(frames, k));
-        k += 1;
     }
 }
 
@@ -191,11 +194,9 @@ fn cut_frames(frames: &[u8], marks: [bool; 1024], cut: &mut [u8]) -> usize
     let first = s.rows;
     put_front(frames, first, cut);
     let n = row_count(s);
-    let mut k = 0;
     let mut at = first;
-    while k < n {
+    for k in 0..n {
         at = put_row(frames, first, marks, k, cut, at);
-        k += 1;
     }
     at
 }
@@ -212,8 +213,8 @@ fn put_cut(frames: &[u8], marks: [bool; 1024], out: &mut [u8]) -> CutText
     let mut cut = [0u8; MAX_FRAME_BYTES];
     let n = cut_frames(frames, marks, &mut cut);
     match put_lines(first_frames(&cut, n), out) {
-        Printed::Bytes(_) => CutText::Lines(n as u16),
-        Printed::Short => CutText::Short,
+        Some(_) => CutText::Lines(n as u16),
+        None => CutText::Short,
     }
 }
 
@@ -255,9 +256,8 @@ pub fn cut_text(
     ensures cut { cut.new
         ≡ cut_after limit text.now (length frames.old) row cut.old }
 {
-    let read = read_file(text, limit, frames);
-    match frames_in(read) {
-        OptionUsize::None => CutText::NotAccepted(read),
-        OptionUsize::Some(n) => cut_part(first_frames(frames, n), row, cut),
+    match read_file(text, limit, frames) {
+        Err(e) => CutText::NotAccepted(e),
+        Ok(n) => cut_part(first_frames(frames, n), row, cut),
     }
 }

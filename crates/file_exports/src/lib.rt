@@ -14,14 +14,17 @@ ghost use Rattle.rule_file.specs.Exported.{outcome_number, no_room, one_number, 
 ghost use Rattle.rule_file.specs.Exported.{type_said_number};
 ghost use Rattle.rule_file.specs.Exported.{type_said_frame, pass_of, handed_frame};
 
-use answers::{CanonicalType, ComposeVerdict, Outcome, PointerBase, RowType, Sameness};
+use answers::{
+    CanonicalType, CompareError, ComposeVerdict, FileError, Outcome, PointerBase, QueryError,
+    RowType, Sameness, TypeError, VerdictError,
+};
 use frames::{Frame, frame_at, put_frame};
 use frames_answers::types::resolution_frame;
 use frames_answers::write::{answer_frame, newer_frame, outcome_frame, refused, verdict_frame};
 use ir::RowNumber;
 use law_cut::{CutText, PartOutcome};
 use law_join::JoinedFile;
-use rule_ranges::TypeRange;
+use rule_ranges::{RangeError, TypeRange};
 use rule_rows::Pass;
 use rule_sizes::TypeSize;
 use size_steps::table::{measure_frame, measure_number, range_frame, range_number, span_frame};
@@ -60,7 +63,7 @@ pub fn handed_frame(s: &[u8]) -> Frame
 pub fn no_room(text: &[u8], limit: u32) -> u32
     ensures { result ≡ no_room limit text.now }
 {
-    outcome_number(short_read(text, limit))
+    outcome_number(Err(short_read(text, limit)))
 }
 
 // A file's number; 0 where it is accepted.
@@ -68,13 +71,13 @@ fn outcome_number(o: Outcome) -> u32
     ensures { result ≡ outcome_number o }
 {
     match o {
-        Outcome::Accepted { frames: _ } => 0,
-        Outcome::Long { limit: _ } => 1,
-        Outcome::Torn { line: _ } => 2,
-        Outcome::Short => 3,
-        Outcome::Order { frame: _ } => 4,
-        Outcome::Field { frame: _ } => 5,
-        Outcome::Index { frame: _ } => 6,
+        Ok(_) => 0,
+        Err(FileError::Long { limit: _ }) => 1,
+        Err(FileError::Torn { line: _ }) => 2,
+        Err(FileError::Short) => 3,
+        Err(FileError::Order { frame: _ }) => 4,
+        Err(FileError::Field { frame: _ }) => 5,
+        Err(FileError::Index { frame: _ }) => 6,
     }
 }
 
@@ -98,7 +101,7 @@ fn put_index(out: &mut [u8]) -> u32
     ensures { (result ≡ not_there.number)
         × (out.new ≡ put_frame out.old 0 (refused_frame not_there)) }
 {
-    put(out, outcome_frame(Outcome::Index { frame: 0 }), 6)
+    put(out, outcome_frame(Err(FileError::Index { frame: 0 })), 6)
 }
 
 fn put_newer(out: &mut [u8]) -> u32
@@ -111,7 +114,7 @@ fn put_newer(out: &mut [u8]) -> u32
 fn put_zero(out: &mut [u8], said: u32) -> u32
     ensures { (result ≡ said) × (out.new ≡ put_frame out.old 0 (refused_frame no_refusal)) }
 {
-    put(out, outcome_frame(Outcome::Accepted { frames: 0 }), said)
+    put(out, outcome_frame(Ok(0)), said)
 }
 
 // A row's answer.
@@ -120,9 +123,9 @@ pub fn put_row(out: &mut [u8], given: RowType) -> u32
     ensures out { out.new ≡ put_frame out.old 0 (one_frame (row_type_said given)) }
 {
     match given {
-        RowType::Answered(a) => put(out, answer_frame(a), 0),
-        RowType::Index => put_index(out),
-        RowType::NotAccepted(o) => put_outcome(out, o),
+        Ok(a) => put(out, answer_frame(a), 0),
+        Err(QueryError::Index) => put_index(out),
+        Err(QueryError::NotAccepted(e)) => put_outcome(out, Err(e)),
     }
 }
 
@@ -132,10 +135,10 @@ pub fn put_verdict(out: &mut [u8], row: RowNumber, given: ComposeVerdict) -> u32
     ensures out { out.new ≡ put_frame out.old 0 (one_frame (compose_verdict_said row given)) }
 {
     match given {
-        ComposeVerdict::Judged(v) => put(out, verdict_frame(row, v), 0),
-        ComposeVerdict::NotCompose => put_index(out),
-        ComposeVerdict::Index => put_index(out),
-        ComposeVerdict::NotAccepted(o) => put_outcome(out, o),
+        Ok(v) => put(out, verdict_frame(row, v), 0),
+        Err(VerdictError::NotCompose) => put_index(out),
+        Err(VerdictError::Index) => put_index(out),
+        Err(VerdictError::NotAccepted(e)) => put_outcome(out, Err(e)),
     }
 }
 
@@ -145,12 +148,12 @@ pub fn put_sameness(out: &mut [u8], given: Sameness) -> u32
     ensures out { out.new ≡ put_frame out.old 0 (said_frame (sameness_said given)) }
 {
     match given {
-        Sameness::Same => put_zero(out, 0),
-        Sameness::Different => put_zero(out, 256),
-        Sameness::Newer => put_newer(out),
-        Sameness::Field => put(out, outcome_frame(Outcome::Field { frame: 0 }), 5),
-        Sameness::Index => put_index(out),
-        Sameness::NotAccepted(o) => put_outcome(out, o),
+        Ok(true) => put_zero(out, 0),
+        Ok(false) => put_zero(out, 256),
+        Err(CompareError::Newer) => put_newer(out),
+        Err(CompareError::Field) => put(out, outcome_frame(Err(FileError::Field { frame: 0 })), 5),
+        Err(CompareError::Index) => put_index(out),
+        Err(CompareError::NotAccepted(e)) => put_outcome(out, Err(e)),
     }
 }
 
@@ -160,10 +163,10 @@ pub fn put_canonical(out: &mut [u8], given: CanonicalType) -> u32
     ensures out { out.new ≡ put_frame out.old 0 (type_said_frame (canonical_said given)) }
 {
     match given {
-        CanonicalType::Form(t) => put(out, resolution_frame(t), 0),
-        CanonicalType::Newer => put_newer(out),
-        CanonicalType::Index => put_index(out),
-        CanonicalType::NotAccepted(o) => put_outcome(out, o),
+        Ok(t) => put(out, resolution_frame(t), 0),
+        Err(TypeError::Newer) => put_newer(out),
+        Err(TypeError::Index) => put_index(out),
+        Err(TypeError::NotAccepted(e)) => put_outcome(out, Err(e)),
     }
 }
 
@@ -173,11 +176,11 @@ pub fn put_base(out: &mut [u8], given: PointerBase) -> u32
     ensures out { out.new ≡ put_frame out.old 0 (type_said_frame (base_said given)) }
 {
     match given {
-        PointerBase::Base(t) => put(out, resolution_frame(t), 0),
-        PointerBase::NotPointer => put_zero(out, 257),
-        PointerBase::Newer => put_newer(out),
-        PointerBase::Index => put_index(out),
-        PointerBase::NotAccepted(o) => put_outcome(out, o),
+        Ok(Some(t)) => put(out, resolution_frame(t), 0),
+        Ok(None) => put_zero(out, 257),
+        Err(TypeError::Newer) => put_newer(out),
+        Err(TypeError::Index) => put_index(out),
+        Err(TypeError::NotAccepted(e)) => put_outcome(out, Err(e)),
     }
 }
 
@@ -187,9 +190,9 @@ pub fn put_size(out: &mut [u8], given: TypeSize) -> u32
     ensures out { out.new ≡ put_frame out.old 0 (size_said_frame (size_said given)) }
 {
     match given {
-        TypeSize::Measured(m) => put(out, measure_frame(m), measure_number(m)),
-        TypeSize::Index => put_index(out),
-        TypeSize::NotAccepted(o) => put_outcome(out, o),
+        Ok(m) => put(out, measure_frame(m), measure_number(m)),
+        Err(QueryError::Index) => put_index(out),
+        Err(QueryError::NotAccepted(e)) => put_outcome(out, Err(e)),
     }
 }
 
@@ -199,10 +202,10 @@ pub fn put_range(out: &mut [u8], given: TypeRange) -> u32
     ensures out { out.new ≡ put_frame out.old 0 (range_said_frame (type_range_said given)) }
 {
     match given {
-        TypeRange::Ranged(g) => put(out, range_frame(g), range_number(g)),
-        TypeRange::Span { place } => put(out, span_frame(place), 45),
-        TypeRange::Index => put_index(out),
-        TypeRange::NotAccepted(o) => put_outcome(out, o),
+        Ok(g) => put(out, range_frame(g), range_number(g)),
+        Err(RangeError::Span { place }) => put(out, span_frame(place), 45),
+        Err(RangeError::Index) => put_index(out),
+        Err(RangeError::NotAccepted(e)) => put_outcome(out, Err(e)),
     }
 }
 
@@ -215,7 +218,7 @@ pub fn put_part(out: &mut [u8], given: PartOutcome) -> u32
         PartOutcome::Marked => put_zero(out, 0),
         PartOutcome::Sound => put(out, refused(48, 0, 0, false), 48),
         PartOutcome::Index => put_index(out),
-        PartOutcome::NotAccepted(o) => put_outcome(out, o),
+        PartOutcome::NotAccepted(e) => put_outcome(out, Err(e)),
     }
 }
 
@@ -226,10 +229,10 @@ pub fn put_cut(out: &mut [u8], given: CutText) -> u32
 {
     match given {
         CutText::Lines(n) => put(out, refused(0, n, 0, false), 0),
-        CutText::Short => put_outcome(out, Outcome::Short),
+        CutText::Short => put_outcome(out, Err(FileError::Short)),
         CutText::Sound => put(out, refused(48, 0, 0, false), 48),
         CutText::Index => put_index(out),
-        CutText::NotAccepted(o) => put_outcome(out, o),
+        CutText::NotAccepted(e) => put_outcome(out, Err(e)),
     }
 }
 
@@ -238,13 +241,13 @@ fn outcome_of(o: Outcome, index: u32) -> Frame
     ensures { result ≡ refused_frame (whose index (outcome_values o)) }
 {
     match o {
-        Outcome::Accepted { frames: _ } => refused(0, 0, index, false),
-        Outcome::Long { limit } => refused(1, limit, index, false),
-        Outcome::Torn { line } => refused(2, line, index, false),
-        Outcome::Short => refused(3, 0, index, false),
-        Outcome::Order { frame } => refused(4, frame, index, false),
-        Outcome::Field { frame } => refused(5, frame, index, false),
-        Outcome::Index { frame } => refused(6, frame, index, false),
+        Ok(_) => refused(0, 0, index, false),
+        Err(FileError::Long { limit }) => refused(1, limit, index, false),
+        Err(FileError::Torn { line }) => refused(2, line, index, false),
+        Err(FileError::Short) => refused(3, 0, index, false),
+        Err(FileError::Order { frame }) => refused(4, frame, index, false),
+        Err(FileError::Field { frame }) => refused(5, frame, index, false),
+        Err(FileError::Index { frame }) => refused(6, frame, index, false),
     }
 }
 
@@ -255,8 +258,8 @@ pub fn put_joined(out: &mut [u8], given: JoinedFile) -> u32
 {
     match given {
         JoinedFile::Frames(n) => put(out, refused(0, n, 0, false), 0),
-        JoinedFile::First(o) => put(out, outcome_of(o, 0), outcome_number(o)),
-        JoinedFile::Second(o) => put(out, outcome_of(o, 1), outcome_number(o)),
+        JoinedFile::First(e) => put(out, outcome_of(Err(e), 0), outcome_number(Err(e))),
+        JoinedFile::Second(e) => put(out, outcome_of(Err(e), 1), outcome_number(Err(e))),
         JoinedFile::NotJoinable => put(out, refused(49, 0, 2, false), 49),
         JoinedFile::Long { limit } => put(out, refused(1, limit, 2, false), 1),
         JoinedFile::Short => put(out, refused(3, 0, 2, false), 3),

@@ -1,11 +1,10 @@
 -- The lines of the join: those of the frames that were put, all of them or none.
+use Rattle.std.specs.Prelude.{ℕ, Option, Some, None}
 use Prim.Native.Nat.{ℕ, ◌+◌, ◌*◌, ◌≤◌}
 use native.Mathlib.Omega.{arith}
 use mathlib.Core.Path.{◌≡◌, sym, ap, ◌∙◌}
 use mathlib.Core.List.{List}
 use lib.ListN.{length, take}
-use Rattle.answers.specs.declared.Printed.{Printed}
-use Rattle.answers.specs.declared.Printed.TheVariants as Pr
 use Rattle.text.specs.Lines.{text_of}
 use Rattle.frames.specs.Bytes.{frame_count}
 use Rattle.rule_file.specs.Printed.{printed, printed_after}
@@ -34,15 +33,15 @@ module _ (fr gr b : List ℕ) (room : 16 * (frame_count fr + frame_count gr) ≤
       ex ∙ ap (λ (k : ℕ). take k last) e ∙ ap (take (16 * length (join_frames fr gr))) put
       ∙ all-front b (join_frames fr gr) (omega (arith, frames-count fr gr))
 
-  module _ (o : ℕ) {p : Printed} (ep : p ≡ printed (text_of x (frame_count x)) o) where
+  module _ (o : ℕ) {p : Option ℕ} (ep : p ≡ printed (text_of x (frame_count x)) o) where
     printed-is : p ≡ printed (join_text fr gr) o
     printed-is = ep ∙ ap (λ (y : List ℕ). printed (text_of y (frame_count y)) o) join_is
 
-    pub joined-all : {k : ℕ} → p ≡ Pr.Bytes k
+    pub joined-all : {k : ℕ} → p ≡ Some k
         → Jf.Frames n ≡ as_frames (frame_count fr + frame_count gr) (printed (join_text fr gr) o)
     joined-all q = ap Jf.Frames en ∙ ap (as_frames (frame_count fr + frame_count gr)) (sym q ∙ printed-is)
 
-    pub joined-none : p ≡ Pr.Short
+    pub joined-none : p ≡ None
         → Jf.Short ≡ as_frames (frame_count fr + frame_count gr) (printed (join_text fr gr) o)
     joined-none q = ap (as_frames (frame_count fr + frame_count gr)) (sym q ∙ printed-is)
 

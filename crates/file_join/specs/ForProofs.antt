@@ -1,7 +1,6 @@
 -- Not part of any public statement: for proofs and code only. Frames written one after the other, and what the code
 -- asks of two files before it joins them.
-use Rattle.std.specs.Prelude.{ℕ, ◌+◌, ◌≤◌, ◌<◌, ◌≡◌, List, [], ◌∷◌}
-use Rattle.answers.specs.declared.Outcome.TheVariants.{Accepted}
+use Rattle.std.specs.Prelude.{ℕ, ◌+◌, ◌≤◌, ◌<◌, ◌≡◌, List, [], ◌∷◌, Ok}
 use Rattle.answers.specs.Limit.{max_frames}
 use Rattle.frames.specs.declared.Frame.{Frame}
 use Rattle.frames.specs.Bytes.{frame_at, frame_count, put_frame}
@@ -18,7 +17,7 @@ put_all b k (f ∷ l) = put_all (put_frame b k f) (k + 1) l
 
 -- the frames of an accepted file
 pub record Checked (fr : List ℕ) : Type 0 where
-  pub accepted : check_frames fr ≡ Accepted (frame_count fr)
+  pub accepted : check_frames fr ≡ Ok (frame_count fr)
   pub few : frame_count fr ≤ max_frames
 
 -- the numbers of each frame, moved past those of a first file, fit their bytes

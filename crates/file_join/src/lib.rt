@@ -2,10 +2,11 @@
 // join are written.
 #![tactic(auto)]
 
-ghost use Rattle.std.specs.Prelude.{◌≡◌, List, ℕ, ◌+◌, ◌-◌, ◌≤◌, length};
-ghost use Rattle.answers.specs.declared.Outcome.{Outcome};
+ghost use Rattle.std.specs.Prelude.{◌≡◌, List, ℕ, ◌+◌, ◌-◌, ◌<◌, ◌≤◌, length};
+ghost use Rattle.answers.specs.declared.FileError.{FileError};
 ghost use Rattle.answers.specs.Limit.{max_frames};
 ghost use Rattle.text.specs.declared.AnswerRoom.TheVariants.{NotLent};
+ghost use Rattle.frames.specs.declared.Frame.{Frame};
 ghost use Rattle.frames.specs.Bytes.{frame_count, frame_at};
 ghost use Rattle.archive.specs.Starts.{starts_of};
 ghost use Rattle.rule.specs.Things.{listed};
@@ -18,16 +19,15 @@ ghost use Rattle.law_join.specs.File.{join_text, by_tests, as_frames, join_in, j
 ghost use Rattle.law_join.specs.File.{joined_said};
 ghost use Rattle.file_join.specs.ForProofs.{put_all, Checked, Fitting};
 
-use answers::{MAX_FRAME_BYTES, Printed};
+use answers::MAX_FRAME_BYTES;
 use archive::Starts;
 use archive_access::families::find_starts;
 use file_lines::put_lines;
-use file_read::{first_frames, frames_in, read_file};
-use frames::{frame_at, frame_count, put_frame};
+use file_read::{first_frames, read_file};
+use frames::{Frame, frame_at, frame_count, put_frame};
 use frames_join::joinable::joins;
 use frames_join::moved::moved_frame;
 use law_join::JoinedFile;
-use rule_file::OptionUsize;
 use text_decode::most;
 
 // Where the parts of a file begin and end: types, members, items of each kind, rows, components.
@@ -51,36 +51,27 @@ fn bounds(s: Starts) -> [usize; 13]
     ]
 }
 
-// Puts the first file's frames from `from` up to `to`, past so many of the second.
-fn put_first(frames: &[u8], from: usize, to: usize, past: usize, joined: &mut [u8])
-    requires { (from ≤ to) × ((to ≤ max_frames) × (past ≤ max_frames)) }
-    ensures { joined.new
-        ≡ put_all joined.old (from + past)
-        (listed (λ (k : ℕ). frame_at frames.now (from + k)) (to - from)) }
+// Puts a file's frames from `from` up to `to`, each as `moved` gives it, past so many of the other file.
+fn put_part<F: Fn(Frame) -> Frame>(
+    frames: &[u8],
+    from: usize,
+    to: usize,
+    past: usize,
+    joined: &mut [u8],
+    moved: F,
+)
+    requires bounds { (from ≤ to) × ((to ≤ max_frames) × (past ≤ max_frames)) }
+    requires callable { F.IsAlwaysCallable moved }
+    ensures { (h : ℕ → Frame)
+        → ((k : ℕ) (f : Frame) → k < to → F.post moved (frame_at frames.now k) f → f ≡ h k)
+        → joined.new ≡ put_all joined.old (from + past) (listed (λ (k : ℕ). h (from + k)) (to - from)) }
 {
-    let mut k = from;
-    while k < to {
-        put_frame(joined, k + past, frame_at(frames, k));
-        k += 1;
+    for k in from..to {
+        put_frame(joined, k + past, moved(frame_at(frames, k)));
     }
 }
 
-// The second's, with their numbers moved; s is where the first's families begin.
-fn put_second(frames: &[u8], s: Starts, from: usize, to: usize, past: usize, joined: &mut [u8])
-    requires { (from ≤ to) × ((to ≤ frame_count frames.now) × ((to ≤ max_frames) × ((past ≤ max_frames)
-        × Fitting s frames.now))) }
-    ensures { joined.new
-        ≡ put_all joined.old (from + past)
-        (listed (λ (k : ℕ). moved_frame (join_moves s) (frame_at frames.now (from + k))) (to - from)) }
-{
-    let mut k = from;
-    while k < to {
-        put_frame(joined, k + past, moved_frame(s, frame_at(frames, k)));
-        k += 1;
-    }
-}
-
-// The frames of the join, part by part: in each the first's, then the second's.
+// The frames of the join, part by part: in each the first's, then the second's, with their numbers moved.
 fn put_frames(frames: &[u8], more: &[u8], joined: &mut [u8])
     requires { (frame_count frames.now ≤ max_frames) × ((frame_count more.now ≤ max_frames)
         × Fitting (starts_of frames.now) more.now) }
@@ -90,11 +81,16 @@ fn put_frames(frames: &[u8], more: &[u8], joined: &mut [u8])
     let s = find_starts(frames);
     let p = bounds(s);
     let q = bounds(find_starts(more));
-    let mut i = 0;
-    while i < 12 {
-        put_first(frames, p[i], p[i + 1], q[i], joined);
-        put_second(more, s, q[i], q[i + 1], p[i + 1], joined);
-        i += 1;
+    for i in 0..12 {
+        put_part(frames, p[i], p[i + 1], q[i], joined, |f| f);
+        put_part(
+            more,
+            q[i],
+            q[i + 1],
+            p[i + 1],
+            joined,
+            |f| moved_frame(s, f),
+        );
     }
 }
 
@@ -112,8 +108,8 @@ fn put_join(frames: &[u8], more: &[u8], joined: &mut [u8]) -> JoinedFile
     put_frames(frames, more, &mut buffer);
     let n = frame_count(frames) + frame_count(more);
     match put_lines(first_frames(&buffer, n), joined) {
-        Printed::Bytes(_) => JoinedFile::Frames(n as u16),
-        Printed::Short => JoinedFile::Short,
+        Some(_) => JoinedFile::Frames(n as u16),
+        None => JoinedFile::Short,
     }
 }
 
@@ -151,15 +147,14 @@ fn join_second(
         (read_file limit second.now (length more.old) NotLent) }
     ensures more { more.new ≡ frames_after limit second.now more.old NotLent }
     ensures joined { joined.new
-        ≡ over_file (λ (o : Outcome). joined.old)
+        ≡ over_file (λ (e : FileError). joined.old)
         (λ (gr : List ℕ). by_tests limit frames.now gr joined.old joined.old
         (printed_after (join_text frames.now gr) joined.old)) second.now
         (read_file limit second.now (length more.old) NotLent) }
 {
-    let read = read_file(second, limit, more);
-    match frames_in(read) {
-        OptionUsize::None => JoinedFile::Second(read),
-        OptionUsize::Some(n) => join_accepted(frames, first_frames(more, n), limit, joined),
+    match read_file(second, limit, more) {
+        Err(e) => JoinedFile::Second(e),
+        Ok(n) => join_accepted(frames, first_frames(more, n), limit, joined),
     }
 }
 
@@ -190,9 +185,8 @@ pub fn join_files(
         ≡ joined_after limit first.now second.now (length frames.old)
         (length more.old) joined.old }
 {
-    let read = read_file(first, limit, frames);
-    match frames_in(read) {
-        OptionUsize::None => JoinedFile::First(read),
-        OptionUsize::Some(n) => join_second(first_frames(frames, n), second, limit, more, joined),
+    match read_file(first, limit, frames) {
+        Err(e) => JoinedFile::First(e),
+        Ok(n) => join_second(first_frames(frames, n), second, limit, more, joined),
     }
 }

@@ -10,9 +10,8 @@ ghost use Rattle.rule_file.specs.Forms.{canonical_type, pointer_base_type};
 
 use answers::{CanonicalType, PointerBase};
 use archive_access::families::find_starts;
-use file_read::{first_frames, frames_in, read_file};
+use file_read::{first_frames, read_file};
 use ir::TypeNumber;
-use rule_file::OptionUsize;
 
 // The canonical form of type n: the value pointer, or n itself. The frame buffer is as `read_file` leaves it.
 #[tactic(auto, unfolding(rule_file::specs::Forms::canonical_type))]
@@ -22,14 +21,9 @@ pub fn canonical_form(text: &[u8], limit: u32, frames: &mut [u8], n: TypeNumber)
         ≡ canonical_said (canonical_type limit text.now (length frames.old) n) }
     ensures frames { frames.new ≡ frames_after limit text.now frames.old NotLent }
 {
-    let read = read_file(text, limit, frames);
-    match frames_in(read) {
-        OptionUsize::None => CanonicalType::NotAccepted(read),
-        OptionUsize::Some(k) => {
-            let fr = first_frames(frames, k);
-            type_methods::by_number::canonical_type(fr, find_starts(fr), n)
-        }
-    }
+    let k = read_file(text, limit, frames)?;
+    let fr = first_frames(frames, k);
+    type_methods::by_number::canonical_type(fr, find_starts(fr), n)
 }
 
 // The base of type n, or that it is no pointer. The frame buffer is as `read_file` leaves it.
@@ -40,12 +34,7 @@ pub fn pointer_base(text: &[u8], limit: u32, frames: &mut [u8], n: TypeNumber) -
         ≡ base_said (pointer_base_type limit text.now (length frames.old) n) }
     ensures frames { frames.new ≡ frames_after limit text.now frames.old NotLent }
 {
-    let read = read_file(text, limit, frames);
-    match frames_in(read) {
-        OptionUsize::None => PointerBase::NotAccepted(read),
-        OptionUsize::Some(k) => {
-            let fr = first_frames(frames, k);
-            type_methods::by_number::pointer_base(fr, find_starts(fr), n)
-        }
-    }
+    let k = read_file(text, limit, frames)?;
+    let fr = first_frames(frames, k);
+    type_methods::by_number::pointer_base(fr, find_starts(fr), n)
 }

@@ -6,29 +6,13 @@ ghost use Rattle.answers.specs.Numbers.{outcome_values, sameness_said};
 ghost use Rattle.text.specs.declared.AnswerRoom.TheVariants.{NotLent};
 ghost use Rattle.rule_file.specs.File.{read_file, file_said, frames_after};
 ghost use Rattle.rule_file.specs.Types.{same_types};
-ghost use Rattle.rule_file.specs.ForProofs.{frames_in};
 
 use answers::{Outcome, Sameness};
 use archive_access::families::find_starts;
 use check_file::check_frames;
 use frames::Frame;
-use rule_file::OptionUsize;
 use text::AnswerRoom;
 use text_decode::read_text;
-
-pub fn frames_in(o: Outcome) -> OptionUsize
-    ensures { result ≡ frames_in o }
-{
-    match o {
-        Outcome::Accepted { frames: n } => OptionUsize::Some(n),
-        Outcome::Long { limit: _ } => OptionUsize::None,
-        Outcome::Torn { line: _ } => OptionUsize::None,
-        Outcome::Short => OptionUsize::None,
-        Outcome::Order { frame: _ } => OptionUsize::None,
-        Outcome::Field { frame: _ } => OptionUsize::None,
-        Outcome::Index { frame: _ } => OptionUsize::None,
-    }
-}
 
 // The first n frames of a buffer; all of it where it has fewer.
 pub fn first_frames(frames: &[u8], n: usize) -> &[u8]
@@ -51,11 +35,8 @@ pub fn read_with(text: &[u8], limit: u32, frames: &mut [u8], room: AnswerRoom) -
     ensures said { outcome_values result ≡ file_said limit text.now (length frames.old) room }
     ensures frames { frames.new ≡ frames_after limit text.now frames.old room }
 {
-    let read = read_text(text, limit, frames, room);
-    match frames_in(read) {
-        OptionUsize::None => read,
-        OptionUsize::Some(n) => check_frames(first_frames(frames, n)),
-    }
+    let n = read_text(text, limit, frames, room)?;
+    check_frames(first_frames(frames, n))
 }
 
 // Whether a file is accepted, or the number and place of its fault.
@@ -77,12 +58,7 @@ pub fn same_type(text: &[u8], limit: u32, frames: &mut [u8], left: Frame, right:
         ≡ sameness_said (same_types limit text.now (length frames.old) left right) }
     ensures frames { frames.new ≡ frames_after limit text.now frames.old NotLent }
 {
-    let read = read_file(text, limit, frames);
-    match frames_in(read) {
-        OptionUsize::None => Sameness::NotAccepted(read),
-        OptionUsize::Some(n) => {
-            let fr = first_frames(frames, n);
-            type_methods::handed::same_type(fr, find_starts(fr), left, right)
-        }
-    }
+    let n = read_file(text, limit, frames)?;
+    let fr = first_frames(frames, n);
+    type_methods::handed::same_type(fr, find_starts(fr), left, right)
 }

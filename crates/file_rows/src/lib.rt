@@ -15,15 +15,16 @@ ghost use Rattle.rule_file.specs.Typing.{answers_after_row, to_verdict, verdict_
 ghost use Rattle.rule_file.specs.Typing.{verdict_said, answers_after_verdict};
 ghost use Rattle.rule_file.specs.ForProofs.{Ready};
 
-use answers::{ComposeVerdict, MAX_FRAMES, Outcome, RowType};
+use answers::{ComposeVerdict, FileError, MAX_FRAMES, Outcome, QueryError, RowType, VerdictError};
 use archive_access::families::{find_starts, is_row, row_count};
 use file_answers::{answer_rows, judge_row};
-use file_read::{first_frames, frames_in, read_with};
+use file_read::{first_frames, read_with};
 use frames::frame_at;
 use ir::RowNumber;
 use ir::numbers::is_compose;
+use row_operands::ResolveContext;
 use row_operands::past::past;
-use rule_file::{OptionUsize, TypedFile};
+use rule_file::TypedFile;
 use rule_rows::Pass;
 use text::AnswerRoom;
 
@@ -50,9 +51,17 @@ fn answer_one(pass: Pass, frames: &[u8], answers: &mut [u8], row: RowNumber) -> 
         let mut places = [0u16; MAX_FRAMES];
         answer_rows(pass, frames, answers, &mut places);
         let n = row_count(s);
-        RowType::Answered(past(answers, &places[..n], row))
+        Ok(past(
+            &ResolveContext {
+                frames,
+                starts: s,
+                answers,
+                places: &places[..n],
+            },
+            row,
+        ))
     } else {
-        RowType::Index
+        Err(QueryError::Index)
     }
 }
 
@@ -71,12 +80,20 @@ fn judge_one(pass: Pass, frames: &[u8], answers: &mut [u8], row: RowNumber) -> C
         if is_compose(f.b1) {
             let mut places = [0u16; MAX_FRAMES];
             answer_rows(pass, frames, answers, &mut places);
-            ComposeVerdict::Judged(judge_row(frames, s, answers, &places[..m], f))
+            Ok(judge_row(
+                &ResolveContext {
+                    frames,
+                    starts: s,
+                    answers,
+                    places: &places[..m],
+                },
+                f,
+            ))
         } else {
-            ComposeVerdict::NotCompose
+            Err(VerdictError::NotCompose)
         }
     } else {
-        ComposeVerdict::Index
+        Err(VerdictError::Index)
     }
 }
 
@@ -90,24 +107,13 @@ pub fn type_file(
     pass: Pass,
     frames: &mut [u8],
     answers: &mut [u8],
-) -> TypedFile
+) -> Result<TypedFile, FileError>
     ensures { HandsBack pass limit text.now frames.old answers.old result
         frames.new answers.new }
 {
-    let read = read_with(text, limit, frames, AnswerRoom::Lent(answers.len()));
-    match frames_in(read) {
-        OptionUsize::None => TypedFile {
-            outcome: read,
-            outputs: 0,
-        },
-        OptionUsize::Some(n) => {
-            let k = answer_all(pass, first_frames(frames, n), answers);
-            TypedFile {
-                outcome: read,
-                outputs: k,
-            }
-        }
-    }
+    let n = read_with(text, limit, frames, AnswerRoom::Lent(answers.len()))?;
+    let outputs = answer_all(pass, first_frames(frames, n), answers);
+    Ok(TypedFile { frames: n, outputs })
 }
 
 // The same, where the outcome is enough: how many frames are handed back is known from the file.
@@ -127,8 +133,8 @@ pub fn type_rows(
     ensures answers { answers.new
         ≡ answers_after pass limit text.now (length frames.old) answers.old }
 {
-    let typed = type_file(text, limit, pass, frames, answers);
-    typed.outcome
+    let typed = type_file(text, limit, pass, frames, answers)?;
+    Ok(typed.frames)
 }
 
 // The answer of one row, with the buffers as `type_rows` leaves them. The answer buffer is unchanged where the file
@@ -152,11 +158,8 @@ pub fn row_type(
     ensures answers { answers.new
         ≡ answers_after_row pass limit text.now (length frames.old) answers.old row }
 {
-    let read = read_with(text, limit, frames, AnswerRoom::Lent(answers.len()));
-    match frames_in(read) {
-        OptionUsize::None => RowType::NotAccepted(read),
-        OptionUsize::Some(n) => answer_one(pass, first_frames(frames, n), answers, row),
-    }
+    let n = read_with(text, limit, frames, AnswerRoom::Lent(answers.len()))?;
+    answer_one(pass, first_frames(frames, n), answers, row)
 }
 
 // The verdict on one compose, with the buffers as `type_rows` leaves them. The answer buffer is unchanged where the
@@ -182,9 +185,6 @@ pub fn compose_verdict(
         ≡ answers_after_verdict pass limit text.now (length frames.old)
         answers.old row }
 {
-    let read = read_with(text, limit, frames, AnswerRoom::Lent(answers.len()));
-    match frames_in(read) {
-        OptionUsize::None => ComposeVerdict::NotAccepted(read),
-        OptionUsize::Some(n) => judge_one(pass, first_frames(frames, n), answers, row),
-    }
+    let n = read_with(text, limit, frames, AnswerRoom::Lent(answers.len()))?;
+    judge_one(pass, first_frames(frames, n), answers, row)
 }

@@ -1,5 +1,7 @@
 -- A file within two limits (document 02, request 7): sizes and ranges are given alike at either, and the frame buffer
 -- is left alike. From `over-alike`.
+use Rattle.rule_ranges.specs.TypeRange.{range_error}
+use Rattle.rule_sizes.specs.TypeSize.{size_error}
 use Prim.Native.Nat.{ℕ, ◌*◌, ◌≤◌}
 use mathlib.Core.Path.{◌≡◌}
 use mathlib.Core.List.{List}
@@ -10,9 +12,7 @@ use Rattle.text.specs.Reading.{most_frames}
 use Rattle.text.proofs.Laws.{alike-within}
 use Rattle.text.specs.Room.{short_read}
 use Rattle.archive.specs.Starts.{starts_of}
-use Rattle.rule_sizes.specs.declared.TypeSize.TheVariants as Ts
 use Rattle.rule_sizes.specs.Sizes.{type_size_in}
-use Rattle.rule_ranges.specs.declared.TypeRange.TheVariants as Tr
 use Rattle.rule_ranges.specs.Ranges.{counts_of, type_range_in}
 use Rattle.rule_file.specs.File.{frames_after}
 use Rattle.law_file.proofs.Alike.{over-alike}
@@ -23,7 +23,7 @@ module _ (limit other : ℕ) (t : List ℕ) (a : length t ≤ 33 * most_frames l
     (f : ℕ) (n : TypeNumber) where
   pub size-alike : type_size limit t f n ≡ type_size other t f n
   unfolding type_size
-  size-alike = over-alike limit other t a b Ts.NotAccepted (λ (fr : List ℕ). type_size_in fr (starts_of fr) n) f NotLent
+  size-alike = over-alike limit other t a b size_error (λ (fr : List ℕ). type_size_in fr (starts_of fr) n) f NotLent
 
   module _ (least greatest : List ℕ) where
     pub range-alike : size_range limit t f least greatest n ≡ size_range other t f least greatest n
@@ -31,7 +31,7 @@ module _ (limit other : ℕ) (t : List ℕ) (a : length t ≤ 33 * most_frames l
     range-alike =
         rw (
           alike-within limit other t 0 NotLent a b,
-          over-alike limit other t a b Tr.NotAccepted
+          over-alike limit other t a b range_error
               (λ (fr : List ℕ). type_range_in fr (starts_of fr) (counts_of least) (counts_of greatest) n) f NotLent,
         )
 

@@ -13,12 +13,10 @@ ghost use Rattle.rule_file_sizes.specs.Ranges.{size_range, size_range_said, fram
 
 use archive::Starts;
 use archive_access::families::{find_starts, is_type};
-use file_read::{first_frames, frames_in, read_file};
+use file_read::{first_frames, read_file};
 use ir::TypeNumber;
-use rule_file::OptionUsize;
-use rule_ranges::TypeRange;
+use rule_ranges::{RangeError, TypeRange};
 use rule_sizes::TypeSize;
-use scan::Found;
 use size_pending::{faulty_span, pending_marks};
 use text_decode::room::short_read;
 use type_sizes::range_marked;
@@ -31,14 +29,9 @@ pub fn type_size(text: &[u8], limit: u32, frames: &mut [u8], n: TypeNumber) -> T
     ensures said { size_said result ≡ type_size_said limit text.now (length frames.old) n }
     ensures frames { frames.new ≡ frames_after limit text.now frames.old NotLent }
 {
-    let read = read_file(text, limit, frames);
-    match frames_in(read) {
-        OptionUsize::None => TypeSize::NotAccepted(read),
-        OptionUsize::Some(k) => {
-            let fr = first_frames(frames, k);
-            type_sizes::type_size(fr, find_starts(fr), n)
-        }
-    }
+    let count = read_file(text, limit, frames)?;
+    let fr = first_frames(frames, count);
+    type_sizes::type_size(fr, find_starts(fr), n)
 }
 
 // The range of type n: number 6 where there is no such type, then 45, then what it fills.
@@ -50,14 +43,14 @@ fn type_range(frames: &[u8], s: Starts, least: &[u32], greatest: &[u32], n: Type
 {
     if is_type(s, n) {
         match faulty_span(s, least, greatest) {
-            Found::At(o) => TypeRange::Span { place: o as u16 },
-            Found::Nothing => {
+            Some(o) => Err(RangeError::Span { place: o as u16 }),
+            None => {
                 let marks = pending_marks(frames, s);
-                TypeRange::Ranged(range_marked(frames, s, &marks, least, greatest, n))
+                Ok(range_marked(frames, s, &marks, least, greatest, n))
             }
         }
     } else {
-        TypeRange::Index
+        Err(RangeError::Index)
     }
 }
 
@@ -84,14 +77,9 @@ pub fn size_range(
 {
     let short = (least.len() < 1024) | (greatest.len() < 1024);
     if short {
-        return TypeRange::NotAccepted(short_read(text, limit));
+        return Err(RangeError::NotAccepted(short_read(text, limit)));
     }
-    let outcome = read_file(text, limit, frames);
-    match frames_in(outcome) {
-        OptionUsize::None => TypeRange::NotAccepted(outcome),
-        OptionUsize::Some(k) => {
-            let fr = first_frames(frames, k);
-            type_range(fr, find_starts(fr), least, greatest, n)
-        }
-    }
+    let k = read_file(text, limit, frames)?;
+    let fr = first_frames(frames, k);
+    type_range(fr, find_starts(fr), least, greatest, n)
 }

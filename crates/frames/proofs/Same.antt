@@ -1,6 +1,9 @@
 -- Two frames of one family that are within the values of their layouts, and that read as the same type, row, item,
 -- member or component, are the same frame: what a frame reads as gives its kind and its layout's values again, and
 -- these give the frame (FieldBack.antt).
+use Rattle.ir.specs.declared.Expression.{Expression}
+use Rattle.std.specs.Prelude.{Option, Some, None}
+use Rattle.ir.specs.declared.TypeInner.{TypeInner}
 use Prim.Native.Nat.{ℕ, ◌<◌}
 use native.Mathlib.Decide.{dec_lt}
 use native.Mathlib.Omega.{arith}
@@ -11,14 +14,10 @@ use Rattle.ir.proofs.Numbered.{type_kind-number, item_kind-number, row_kind-numb
 use Rattle.ir.proofs.Numbered.{unknown-row}
 use Rattle.ir.specs.declared.TypeKind.{TypeKind}
 use Rattle.ir.specs.declared.TypeKind.TheVariants as Tk
-use Rattle.ir.specs.declared.TypeForm.{TypeForm}
-use Rattle.ir.specs.declared.TypeForm.TheVariants as Tf
 use Rattle.ir.specs.declared.ItemKind.{ItemKind}
 use Rattle.ir.specs.declared.ItemKind.TheVariants as Ik
 use Rattle.ir.specs.declared.RowKind.{RowKind}
 use Rattle.ir.specs.declared.RowKind.TheVariants as Rk
-use Rattle.ir.specs.declared.RowForm.{RowForm}
-use Rattle.ir.specs.declared.RowForm.TheVariants as Rf
 use Rattle.ir.specs.Numbers.{type_kind_of, type_kind_number, item_kind_of, row_kind_of, row_kind_number}
 use Rattle.ir.specs.ForProofs.{item_kind_number}
 use Rattle.frames.specs.declared.Frame.{Frame}
@@ -43,9 +42,9 @@ layout-back (fields l) p f w h = laid-back l f w h
 -- TYPES
 
 -- the frame that a known type is written as
-abbrev pub form_frame : ℕ → TypeForm → Frame
-form_frame family (Tf.Known t) = type_frame family t
-form_frame family Tf.Unknown = zero_frame
+abbrev pub form_frame : ℕ → Option TypeInner → Frame
+form_frame family (Some t) = type_frame family t
+form_frame family None = zero_frame
 
 type-fielded : (k : TypeKind) → (k ≡ Tk.Unknown → ⊥) → Fielded (type_layout k)
 type-fielded Tk.Unknown n = absurd (n refl)
@@ -112,9 +111,9 @@ same-type f g v w e m n h q t =
 
 -- ROWS
 
-abbrev row_form_frame : ℕ → RowForm → Frame
-row_form_frame family (Rf.Known e) = row_frame family e
-row_form_frame family Rf.Unknown = zero_frame
+abbrev row_form_frame : ℕ → Option Expression → Frame
+row_form_frame family (Some e) = row_frame family e
+row_form_frame family None = zero_frame
 
 -- a row's kind that has fields: neither unknown nor Math
 abbrev pub Typed : RowKind → Type 0

@@ -1,5 +1,6 @@
 -- A sample frame of each kind of type and of row, written by hand from document 01, "The file", with what it stands
 -- for: its bytes are within their values, and it reads as that.
+use Rattle.std.specs.Prelude.{Some, None}
 use Prim.Native.Nat.{ℕ}
 use mathlib.Core.Path.{◌≡◌, refl}
 use mathlib.Core.Bool.{true, false}
@@ -8,7 +9,6 @@ use Rattle.ir.proofs.Tables.{up_from}
 use Rattle.ir.specs.declared.Scalar.{Scalar}
 use Rattle.ir.specs.declared.ScalarKind.TheVariants as Sk
 use Rattle.ir.specs.declared.VectorSize.TheVariants as Vs
-use Rattle.ir.specs.declared.OptionVectorSize.TheVariants as Os
 use Rattle.ir.specs.declared.CooperativeSize.TheVariants as Cs
 use Rattle.ir.specs.declared.CooperativeRole.TheVariants as Cr
 use Rattle.ir.specs.declared.AddressSpace.TheVariants as Sp
@@ -20,14 +20,11 @@ use Rattle.ir.specs.declared.Literal.TheVariants as Li
 use Rattle.ir.specs.declared.BinaryOperator.TheVariants as Bo
 use Rattle.ir.specs.declared.RelationalFunction.TheVariants as Rl
 use Rattle.ir.specs.declared.ImageQuery.TheVariants as Iq
-use Rattle.ir.specs.declared.OptionBytes.TheVariants as Ob
 use Rattle.ir.specs.declared.Width.TheVariants as Wd
 use Rattle.ir.specs.declared.TypeInner.{TypeInner}
 use Rattle.ir.specs.declared.TypeInner.TheVariants as Ti
-use Rattle.ir.specs.declared.TypeForm.TheVariants as Tf
 use Rattle.ir.specs.declared.Expression.{Expression}
 use Rattle.ir.specs.declared.Expression.TheVariants as Ex
-use Rattle.ir.specs.declared.RowForm.TheVariants as Rf
 use Rattle.ir.specs.Numbers.{type_kind_number, row_kind_number}
 use Rattle.frames.specs.Bytes.{frame_from}
 use Rattle.frames.specs.Fields.{all_of}
@@ -64,7 +61,7 @@ type_samples =
     )
     ∷ (
       1 ∷ 7 ∷ 0 ∷ 0 ∷ 3 ∷ 1 ∷ 9 ∷ 0 ∷ 0 ∷ 0 ∷ 0 ∷ 0 ∷ 0 ∷ 0 ∷ 0 ∷ 0 ∷ [],
-      Ti.ValuePointer Os.None (record {
+      Ti.ValuePointer None (record {
         kind =
             Sk.Bool;
         width = Wd.One;
@@ -132,7 +129,7 @@ row_samples =
     ∷ (4 ∷ 22 ∷ 9 ∷ 9 ∷ 9 ∷ 9 ∷ 9 ∷ 9 ∷ 9 ∷ 9 ∷ 9 ∷ 9 ∷ 9 ∷ 9 ∷ 9 ∷ 9 ∷ [], Ex.Math)
     ∷ (
       4 ∷ 23 ∷ 3 ∷ 0 ∷ 0 ∷ 0 ∷ 2 ∷ 1 ∷ 8 ∷ 0 ∷ 0 ∷ 0 ∷ 0 ∷ 0 ∷ 0 ∷ 0 ∷ [],
-      Ex.As (record { 0 = 3 }) Sk.Float (Ob.Some Wd.Eight),
+      Ex.As (record { 0 = 3 }) Sk.Float (Some Wd.Eight),
     )
     ∷ (4 ∷ 24 ∷ 3 ∷ 0 ∷ 0 ∷ 0 ∷ 0 ∷ 0 ∷ 0 ∷ 0 ∷ 0 ∷ 0 ∷ 0 ∷ 0 ∷ 0 ∷ 0 ∷ [], Ex.CallResult (record { 0 = 3 }))
     ∷ (4 ∷ 25 ∷ 3 ∷ 0 ∷ 0 ∷ 0 ∷ 0 ∷ 0 ∷ 0 ∷ 0 ∷ 0 ∷ 0 ∷ 0 ∷ 0 ∷ 0 ∷ 0 ∷ [], Ex.AtomicResult (record { 0 = 3 }))
@@ -170,7 +167,7 @@ types-fit = refl
 
 -- and each reads as its type
 pub types-read : map (λ (x : List ℕ × TypeInner). type_of (frame_from x.0 0)) type_samples
-    ≡ map (λ (x : List ℕ × TypeInner). Tf.Known x.1) type_samples
+    ≡ map (λ (x : List ℕ × TypeInner). Some x.1) type_samples
 unfolding type_of
 types-read = refl
 
@@ -185,6 +182,6 @@ rows_fit = refl
 
 -- and each reads as its row
 pub rows-read : map (λ (x : List ℕ × Expression). row_of (frame_from x.0 0)) row_samples
-    ≡ map (λ (x : List ℕ × Expression). Rf.Known x.1) row_samples
+    ≡ map (λ (x : List ℕ × Expression). Some x.1) row_samples
 unfolding row_of
 rows-read = refl

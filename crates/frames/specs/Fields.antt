@@ -1,14 +1,14 @@
 -- The fields of a frame (document 01, "The file"): for each, the bytes that it takes, what it reads from them, which
 -- bytes may stand there, and the bytes that it writes. A layout is a list of fields; every byte that no field takes is
 -- zero.
+use Rattle.ir.specs.declared.Width.{Width}
 use Rattle.std.specs.Prelude.{ℕ, zero, suc, ◌+◌, ◌*◌, ◌-◌, ◌/◌, ◌%◌, Bool, true, false, cond, not, ◌&&◌, ◌||◌, List, []}
+use Rattle.std.specs.Prelude.{Option, Some, None}
 use Rattle.std.specs.Prelude.{◌∷◌, ◌++◌, map, leb, ltb, eqb, get_or}
 use Rattle.ir.specs.declared.TypeNumber.{TypeNumber}
 use Rattle.ir.specs.declared.Scalar.{Scalar}
 use Rattle.ir.specs.declared.ScalarKind.{ScalarKind}
 use Rattle.ir.specs.declared.VectorSize.{VectorSize}
-use Rattle.ir.specs.declared.OptionVectorSize.{OptionVectorSize}
-use Rattle.ir.specs.declared.OptionVectorSize.TheVariants as Os
 use Rattle.ir.specs.declared.CooperativeSize.{CooperativeSize}
 use Rattle.ir.specs.declared.CooperativeRole.{CooperativeRole}
 use Rattle.ir.specs.declared.AddressSpace.{AddressSpace}
@@ -17,14 +17,10 @@ use Rattle.ir.specs.declared.ArraySize.TheVariants as As
 use Rattle.ir.specs.declared.ImageDimension.{ImageDimension}
 use Rattle.ir.specs.declared.ImageClass.{ImageClass}
 use Rattle.ir.specs.declared.ImageClass.TheVariants as Ic
-use Rattle.ir.specs.declared.FunctionResult.{FunctionResult}
-use Rattle.ir.specs.declared.FunctionResult.TheVariants as Fr
 use Rattle.ir.specs.declared.Literal.{Literal}
 use Rattle.ir.specs.declared.BinaryOperator.{BinaryOperator}
 use Rattle.ir.specs.declared.RelationalFunction.{RelationalFunction}
 use Rattle.ir.specs.declared.ImageQuery.{ImageQuery}
-use Rattle.ir.specs.declared.OptionBytes.{OptionBytes}
-use Rattle.ir.specs.declared.OptionBytes.TheVariants as Ob
 use Rattle.ir.specs.Numbers.{scalar_kind_of, scalar_kind_number, vector_size_of, vector_size_number}
 use Rattle.ir.specs.Numbers.{cooperative_size_of}
 use Rattle.ir.specs.Numbers.{cooperative_size_number}
@@ -63,7 +59,7 @@ pub data Field : Type 0 where
 -- what a field holds
 abbrev pub Val : Field → Type 0
 Val (vector_size i) = VectorSize
-Val (option_size i) = OptionVectorSize
+Val (option_size i) = Option VectorSize
 Val (cooperative_size i) = CooperativeSize
 Val (role i) = CooperativeRole
 Val (scalar_kind i) = ScalarKind
@@ -77,10 +73,10 @@ Val scalar = Scalar
 Val space = AddressSpace
 Val array_size = ArraySize
 Val class = ImageClass
-Val result = FunctionResult
+Val result = Option TypeNumber
 Val query = ImageQuery × ℕ
 Val relational = RelationalFunction × ℕ
-Val convert = OptionBytes
+Val convert = Option Width
 
 -- WHICH BYTES
 
@@ -112,8 +108,8 @@ takes convert k = among 7 2 k
 
 -- WHAT IS READ
 
-abbrev pub option_size_of : ℕ → OptionVectorSize
-option_size_of b = cond (eqb b 0) Os.None (Os.Some (vector_size_of b))
+abbrev pub option_size_of : ℕ → Option VectorSize
+option_size_of b = cond (eqb b 0) None (Some (vector_size_of b))
 
 -- form 0 is constant, 1 pending, 2 dynamic
 abbrev pub array_size_of : ℕ → ℕ → ArraySize
@@ -126,11 +122,11 @@ class_of c b5 b6 b7 =
     (storage_format_of b5) (access_of b7) ∷ [])
     c Ic.External
 
-abbrev pub result_of : ℕ → TypeNumber → FunctionResult
-result_of b t = cond (flag_of b) (Fr.Some t) Fr.None
+abbrev pub result_of : ℕ → TypeNumber → Option TypeNumber
+result_of b t = cond (flag_of b) (Some t) None
 
-abbrev pub convert_of : ℕ → ℕ → OptionBytes
-convert_of b w = cond (flag_of b) (Ob.Some (width_of w)) Ob.None
+abbrev pub convert_of : ℕ → ℕ → Option Width
+convert_of b w = cond (flag_of b) (Some (width_of w)) None
 
 abbrev pub read : (x : Field) → Frame → Val x
 read (vector_size i) f = vector_size_of (byte f i)
@@ -214,9 +210,9 @@ half_byte n j = get_or (n % 256 ∷ n / 256 ∷ []) j 0
 abbrev pub word_byte : ℕ → ℕ → ℕ
 word_byte n j = get_or (n % 256 ∷ n / 256 % 256 ∷ n / 256 / 256 % 256 ∷ n / 256 / 256 / 256 ∷ []) j 0
 
-abbrev pub option_size_number : OptionVectorSize → ℕ
-option_size_number Os.None = 0
-option_size_number (Os.Some n) = vector_size_number n
+abbrev pub option_size_number : Option VectorSize → ℕ
+option_size_number None = 0
+option_size_number (Some n) = vector_size_number n
 
 abbrev pub form_number : ArraySize → ℕ
 form_number (As.Constant n) = 0
@@ -236,14 +232,14 @@ class_bytes Ic.External = 2 ∷ 0 ∷ 0 ∷ 0 ∷ []
 class_bytes (Ic.Storage f a) = 3 ∷ storage_format_number f ∷ 0 ∷ access_number a ∷ []
 
 -- bytes 2 to 4
-abbrev pub result_bytes : FunctionResult → List ℕ
-result_bytes Fr.None = 0 ∷ 0 ∷ 0 ∷ []
-result_bytes (Fr.Some t) = t.0 % 256 ∷ t.0 / 256 ∷ 1 ∷ []
+abbrev pub result_bytes : Option TypeNumber → List ℕ
+result_bytes None = 0 ∷ 0 ∷ 0 ∷ []
+result_bytes (Some t) = t.0 % 256 ∷ t.0 / 256 ∷ 1 ∷ []
 
 -- bytes 7 and 8
-abbrev pub convert_bytes : OptionBytes → List ℕ
-convert_bytes Ob.None = 0 ∷ 0 ∷ []
-convert_bytes (Ob.Some w) = 1 ∷ width_number w ∷ []
+abbrev pub convert_bytes : Option Width → List ℕ
+convert_bytes None = 0 ∷ 0 ∷ []
+convert_bytes (Some w) = 1 ∷ width_number w ∷ []
 
 -- the byte that a field writes at place k, one of those that it takes
 abbrev pub write : (x : Field) → Val x → ℕ → ℕ

@@ -1,20 +1,18 @@
 -- Not part of any public statement: for proofs and code only. A frame by its numbers; what is handed back, read again
 -- from its frame; and the values of a row's and of an item's layout, with the frame that these make up (document 01,
 -- "The file", families 3 and 4), as Out.antt has them of a type.
-use Rattle.std.specs.Prelude.{ℕ, ◌/◌, ◌%◌, ◌-◌, cond, List, [], ◌∷◌, leb, eqb, get_or}
-use Rattle.ir.specs.declared.TypeForm.{TypeForm}
-use Rattle.ir.specs.declared.TypeForm.TheVariants as Tf
+use Rattle.ir.specs.declared.TypeInner.{TypeInner}
+use Rattle.std.specs.Prelude.{ℕ, ◌/◌, ◌%◌, ◌-◌, cond, List, [], ◌∷◌, leb, eqb, get_or, Option, Some, None, Ok, Err}
 use Rattle.ir.specs.Numbers.{flag_of, row_kind_number}
 use Rattle.ir.specs.ForProofs.{item_kind_number}
-use Rattle.answers.specs.declared.Answer.{Answer}
-use Rattle.answers.specs.declared.Answer.TheVariants as An
+use Rattle.answers.specs.Answer.{Answer}
 use Rattle.answers.specs.declared.Unresolved.{Unresolved}
 use Rattle.answers.specs.declared.Unresolved.TheVariants as Un
 use Rattle.answers.specs.ForProofs.{answered}
 use Rattle.answers.specs.declared.Refusal.TheVariants as Re
 use Rattle.ir.specs.declared.TypeResolution.TheVariants as Tr
-use Rattle.answers.specs.declared.Verdict.{Verdict}
-use Rattle.answers.specs.declared.Verdict.TheVariants as Vd
+use Rattle.answers.specs.Asked.{Verdict}
+use Rattle.answers.specs.declared.ComposeError.TheVariants as Co
 use Rattle.ir.specs.declared.RowKind.{RowKind}
 use Rattle.ir.specs.declared.RowKind.TheVariants as Rk
 use Rattle.ir.specs.declared.Expression.{Expression}
@@ -82,28 +80,28 @@ refusal_of f =
 unfoldable pub unresolved_of : Frame → Unresolved
 unresolved_of f = cond (eqb (byte f 0) 10) (refusal_of f) unreadable
 
-abbrev pub value_of : TypeForm → Answer
-value_of (Tf.Known t) = An.Resolved (Tr.Value t)
-value_of Tf.Unknown = answered unreadable
+abbrev pub value_of : Option TypeInner → Answer
+value_of (Some t) = Ok (Tr.Value t)
+value_of None = answered unreadable
 
 -- the answer that a frame of family 8, 9 or 10 stands for
 unfoldable pub answer_of : Frame → Answer
 answer_of f =
-    cond (eqb (byte f 0) 8) (An.Resolved (Tr.Handle (record { 0 = half f 2 })))
+    cond (eqb (byte f 0) 8) (Ok (Tr.Handle (record { 0 = half f 2 })))
     (cond (eqb (byte f 0) 9) (value_of (type_of f)) (answered (unresolved_of f)))
 
 abbrev pub newer_of : ℕ → Verdict
-newer_of n = cond (eqb n 0xffff_ffff) Vd.NewerComposed (Vd.NewerComponent n)
+newer_of n = cond (eqb n 0xffff_ffff) (Err Co.NewerComposed) (Err (Co.NewerComponent n))
 
 -- the verdict that a frame of family 11 stands for
 unfoldable pub verdict_of : Frame → Verdict
 verdict_of f =
-    cond (eqb (byte f 1) 0) Vd.Passes
+    cond (eqb (byte f 1) 0) (Ok tt)
     (cond (eqb (byte f 1) 22) (newer_of (word f 4))
-    (get_or (Vd.ComposedType ∷ Vd.ComponentCount (word f 4) (word f 8) ∷ Vd.ComponentType (word f 4)
-    ∷ Vd.ComponentRefused
-    (word f 4) ∷ []) (byte f 1 - 30)
-    Vd.ComposedType))
+    (get_or ((Err Co.ComposedType) ∷ (Err (Co.ComponentCount (word f 4) (word f 8))) ∷ (Err (Co.ComponentType
+    (word f 4)))
+    ∷ (Err (Co.ComponentRefused (word f 4))) ∷ []) (byte f 1 - 30)
+    (Err Co.ComposedType)))
 
 -- ROWS, ITEMS, MEMBERS AND COMPONENTS, written
 

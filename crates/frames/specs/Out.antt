@@ -1,6 +1,9 @@
 -- What is handed back, as frames (document 01, the end of "The file"): a type number is family 8, a value family 9,
 -- laid as a type, a refusal family 10, a verdict family 11; what a type fills is family 12, its range family 13.
-use Rattle.std.specs.Prelude.{ℕ, Bool, true, false}
+use Rattle.answers.specs.declared.VerdictError.TheVariants as Ve
+use Rattle.answers.specs.declared.QueryError.TheVariants as Qe
+use Rattle.answers.specs.declared.Unresolved.TheVariants as Un
+use Rattle.std.specs.Prelude.{ℕ, Bool, true, false, Ok, Err}
 use Rattle.ir.specs.declared.TypeNumber.{TypeNumber}
 use Rattle.ir.specs.declared.RowNumber.{RowNumber}
 use Rattle.ir.specs.declared.TypeKind.{TypeKind}
@@ -8,20 +11,18 @@ use Rattle.ir.specs.declared.TypeKind.TheVariants as Tk
 use Rattle.ir.specs.declared.TypeInner.{TypeInner}
 use Rattle.ir.specs.declared.TypeInner.TheVariants as Ti
 use Rattle.ir.specs.Numbers.{type_kind_number}
-use Rattle.answers.specs.Numbers.{Refused, Judged, at, not_there, outcome_values, refusal_values, verdict_values}
+use Rattle.answers.specs.Numbers.{Refused, Judged, at, not_there, outcome_values, error_values, refusal_values}
+use Rattle.answers.specs.Numbers.{verdict_values}
 use Rattle.answers.specs.Numbers.{SaidOne}
 use Rattle.answers.specs.Numbers.{asked, instead}
-use Rattle.answers.specs.declared.Answer.{Answer}
-use Rattle.answers.specs.declared.Answer.TheVariants as An
-use Rattle.answers.specs.declared.Outcome.{Outcome}
+use Rattle.answers.specs.Answer.{Answer}
+use Rattle.answers.specs.Outcome.{Outcome}
 use Rattle.answers.specs.declared.Refusal.{Refusal}
 use Rattle.ir.specs.declared.TypeResolution.{TypeResolution}
 use Rattle.ir.specs.declared.TypeResolution.TheVariants as Tr
-use Rattle.answers.specs.declared.Verdict.{Verdict}
-use Rattle.answers.specs.declared.RowType.{RowType}
-use Rattle.answers.specs.declared.RowType.TheVariants as Rt
-use Rattle.answers.specs.declared.ComposeVerdict.{ComposeVerdict}
-use Rattle.answers.specs.declared.ComposeVerdict.TheVariants as Cv
+use Rattle.answers.specs.Asked.{Verdict}
+use Rattle.answers.specs.Asked.{RowType}
+use Rattle.answers.specs.Asked.{ComposeVerdict}
 use Rattle.frames.specs.declared.Frame.{Frame}
 use Rattle.frames.specs.Fields.{Layout, Vals, laid}
 use Rattle.frames.specs.Layout.{type_layout, number_layout, refusal_layout, verdict_layout, size_layout, range_layout}
@@ -78,9 +79,9 @@ outcome_frame o = refused_frame (outcome_values o)
 
 -- a row's answer; newer is number 22 with the row where it was met
 abbrev pub answer_frame : Answer → Frame
-answer_frame (An.Resolved r) = resolution_frame r
-answer_frame (An.Refused e) = refused_frame (refusal_values e)
-answer_frame (An.Newer r) = refused_frame (at 22 r.0)
+answer_frame (Ok r) = resolution_frame r
+answer_frame (Err (Un.Refused e)) = refused_frame (refusal_values e)
+answer_frame (Err (Un.Newer r)) = refused_frame (at 22 r.0)
 
 abbrev pub judged_frame : RowNumber → Judged → Frame
 judged_frame r j = laid 11 j.number verdict_layout (r.0, (j.first, (j.given, tt)))
@@ -100,16 +101,16 @@ ranged_frame align least greatest = laid 13 0 range_layout (align, (least, (grea
 -- handed back", last paragraph)
 
 abbrev pub row_type_said : RowType → SaidOne Frame
-row_type_said (Rt.Answered a) = asked (answer_frame a)
-row_type_said Rt.Index = instead not_there
-row_type_said (Rt.NotAccepted o) = instead (outcome_values o)
+row_type_said (Ok a) = asked (answer_frame a)
+row_type_said (Err Qe.Index) = instead not_there
+row_type_said (Err (Qe.NotAccepted e)) = instead (error_values e)
 
 -- a row that is no compose is number 6 too: no compose has that number
 abbrev pub compose_verdict_said : RowNumber → ComposeVerdict → SaidOne Frame
-compose_verdict_said n (Cv.Judged v) = asked (verdict_frame n v)
-compose_verdict_said n Cv.NotCompose = instead not_there
-compose_verdict_said n Cv.Index = instead not_there
-compose_verdict_said n (Cv.NotAccepted o) = instead (outcome_values o)
+compose_verdict_said n (Ok v) = asked (verdict_frame n v)
+compose_verdict_said n (Err Ve.NotCompose) = instead not_there
+compose_verdict_said n (Err Ve.Index) = instead not_there
+compose_verdict_said n (Err (Ve.NotAccepted e)) = instead (error_values e)
 
 -- the frame that it is handed back as
 abbrev pub one_frame : SaidOne Frame → Frame

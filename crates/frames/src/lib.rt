@@ -7,7 +7,7 @@ pub mod read;
 ghost use Rattle.std.specs.Prelude.{◌≡◌, ℕ, ◌+◌, ◌*◌, ◌≤◌, ◌++◌, length, take, drop};
 ghost use Rattle.frames.specs.Bytes.{bytes_of, frame_count, frame_from, frame_at, zero_frame, put_frame};
 
-#[derive(Clone, Copy)]
+#[derive(Clone, Copy, PartialEq, Eq)]
 pub struct Frame {
     pub b0: u8,
     pub b1: u8,

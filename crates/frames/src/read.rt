@@ -1,7 +1,6 @@
 // The type, member or component that a frame stands for.
 ghost use Rattle.std.specs.Prelude.{◌≡◌, ◌+◌, ◌*◌};
 ghost use Rattle.ir.specs.declared.TypeKind.TheVariants.{Unknown};
-ghost use Rattle.ir.specs.declared.TypeForm.TheVariants.{Known};
 ghost use Rattle.frames.specs.Bytes.{half, word};
 ghost use Rattle.frames.specs.Fields.{read, scalar, class, option_size_of, array_size_of};
 ghost use Rattle.frames.specs.Forms.{type_as, type_of, member_of, component_of};
@@ -9,33 +8,18 @@ ghost use Rattle.frames.specs.Forms.{type_as, type_of, member_of, component_of};
 use super::Frame;
 use ir::{
     AddressSpace, ArraySize, ComponentNumber, CooperativeRole, CooperativeSize, ImageClass,
-    ImageDimension, ItemNumber, MemberNumber, OptionVectorSize, RowNumber, Scalar, ScalarKind,
-    StorageAccess, StorageFormat, StructMember, TypeForm, TypeInner, TypeKind, TypeNumber,
-    VectorSize, Width,
+    ImageDimension, ItemNumber, MemberNumber, RowNumber, Scalar, ScalarKind, StorageAccess,
+    StorageFormat, StructMember, TypeInner, TypeKind, TypeNumber, VectorSize, Width,
 };
 
-// A number in two bytes, the low one first.
-fn le16(a: u8, b: u8) -> u16
-    ensures { result ≡ a + b * 256 }
-{
-    (a as u16) + (b as u16) * 256
-}
-
-// A number in four bytes, the low one first.
-fn le32(a: u8, b: u8, c: u8, d: u8) -> u32
-    ensures { result ≡ a + b * 256 + c * 65536 + d * 16777216 }
-{
-    (a as u32) + (b as u32) * 256 + (c as u32) * 65536 + (d as u32) * 16777216
-}
-
-fn option_size(b: u8) -> OptionVectorSize
+fn option_size(b: u8) -> Option<VectorSize>
     ensures { result ≡ option_size_of b }
 {
     if b == 0 {
-        return OptionVectorSize::None;
+        return None;
     }
-    let size = VectorSize::from_number(b);
-    OptionVectorSize::Some(size)
+    let size = VectorSize::from(b);
+    Some(size)
 }
 
 fn array_size(form: u8, n: u32) -> ArraySize
@@ -53,78 +37,78 @@ impl Frame {
     pub fn named(self) -> u16
         ensures { result ≡ half self 2 }
     {
-        le16(self.b2, self.b3)
+        u16::from_le_bytes([self.b2, self.b3])
     }
 
     // They are a type: a pointer's or an array's base, the type of a member, an item or a compose.
     pub fn ty(self) -> TypeNumber
         ensures { result ≡ record { 0 = half self 2 } }
     {
-        TypeNumber(le16(self.b2, self.b3))
+        TypeNumber(self.named())
     }
 
     // They are a row: the operand that a row reads, or a component.
     pub fn operand(self) -> RowNumber
         ensures { result ≡ record { 0 = half self 2 } }
     {
-        RowNumber(le16(self.b2, self.b3))
+        RowNumber(self.named())
     }
 
     // They are the first member of a struct.
     pub fn first_member(self) -> MemberNumber
         ensures { result ≡ record { 0 = half self 2 } }
     {
-        MemberNumber(le16(self.b2, self.b3))
+        MemberNumber(self.named())
     }
 
     // Bytes 4 and 5: how many members a struct has, or components a compose.
     pub fn count(self) -> u16
         ensures { result ≡ half self 4 }
     {
-        le16(self.b4, self.b5)
+        u16::from_le_bytes([self.b4, self.b5])
     }
 
     // They are the right operand of a Binary row.
     pub fn right(self) -> RowNumber
         ensures { result ≡ record { 0 = half self 4 } }
     {
-        RowNumber(le16(self.b4, self.b5))
+        RowNumber(self.count())
     }
 
     // Bytes 4 to 7: in what is handed back an index, what was expected, or a component.
     pub fn index(self) -> u32
         ensures { result ≡ word self 4 }
     {
-        le32(self.b4, self.b5, self.b6, self.b7)
+        u32::from_le_bytes([self.b4, self.b5, self.b6, self.b7])
     }
 
     // Bytes 8 to 11: a count or an override.
     pub fn third(self) -> u32
         ensures { result ≡ word self 8 }
     {
-        le32(self.b8, self.b9, self.b10, self.b11)
+        u32::from_le_bytes([self.b8, self.b9, self.b10, self.b11])
     }
 
     // Bytes 12 to 15: a stride, span, offset, index, argument or first component.
     pub fn last(self) -> u32
         ensures { result ≡ word self 12 }
     {
-        le32(self.b12, self.b13, self.b14, self.b15)
+        u32::from_le_bytes([self.b12, self.b13, self.b14, self.b15])
     }
 
     // They are the first component of a compose.
     pub fn first_component(self) -> ComponentNumber
         ensures { result ≡ record { 0 = word self 12 } }
     {
-        ComponentNumber(le32(self.b12, self.b13, self.b14, self.b15))
+        ComponentNumber(self.last())
     }
 
     // Bytes 4 and 5, as a scalar.
     pub fn scalar(self) -> Scalar
         ensures { result ≡ read scalar self }
     {
-        let kind = ScalarKind::from_number(self.b4);
-        let width = Width::from_number(self.b5);
+        let kind = ScalarKind::from(self.b4);
+        let width = Width::from(self.b5);
         Scalar { kind, width }
     }
 
@@ -135,7 +119,7 @@ impl Frame {
         let c = self.b4;
         match c {
             0 => {
-                let kind = ScalarKind::from_number(self.b5);
+                let kind = ScalarKind::from(self.b5);
                 ImageClass::Sampled {
                     kind,
                     multi: self.b6 == 1,
@@ -146,8 +130,8 @@ impl Frame {
             },
             2 => ImageClass::External,
             3 => {
-                let format = StorageFormat::from_number(self.b5);
-                let access = StorageAccess::from_number(self.b7);
+                let format = StorageFormat::from(self.b5);
+                let access = StorageAccess::from(self.b7);
                 ImageClass::Storage { format, access }
             }
             _ => ImageClass::External,
@@ -156,13 +140,13 @@ impl Frame {
 
     // A type: family 1, or a value of family 9.
     #[tactic(auto, unfolding(crate::specs::Forms::type_of))]
-    pub fn type_form(self) -> TypeForm
+    pub fn type_form(self) -> Option<TypeInner>
         ensures { result ≡ type_of self }
     {
-        let kind = TypeKind::from_number(self.b1);
+        let kind = TypeKind::from(self.b1);
         match kind {
-            TypeKind::Unknown => TypeForm::Unknown,
-            _ => TypeForm::Known(inner(kind, self)),
+            TypeKind::Unknown => None,
+            _ => Some(inner(kind, self)),
         }
     }
 
@@ -188,7 +172,7 @@ impl Frame {
 // A type of a known kind; the arm of the unknown one is never taken.
 fn inner(kind: TypeKind, f: Frame) -> TypeInner
     requires { kind ≡ Unknown → ⊥ }
-    ensures { Known result ≡ type_as kind f }
+    ensures { Some result ≡ type_as kind f }
 {
     match kind {
         TypeKind::Unknown => TypeInner::Sampler { comparison: false },
@@ -197,13 +181,13 @@ fn inner(kind: TypeKind, f: Frame) -> TypeInner
             TypeInner::Scalar(scalar)
         }
         TypeKind::Vector => {
-            let size = VectorSize::from_number(f.b2);
+            let size = VectorSize::from(f.b2);
             let scalar = f.scalar();
             TypeInner::Vector { size, scalar }
         }
         TypeKind::Matrix => {
-            let columns = VectorSize::from_number(f.b2);
-            let rows = VectorSize::from_number(f.b3);
+            let columns = VectorSize::from(f.b2);
+            let rows = VectorSize::from(f.b3);
             let scalar = f.scalar();
             TypeInner::Matrix {
                 columns,
@@ -212,10 +196,10 @@ fn inner(kind: TypeKind, f: Frame) -> TypeInner
             }
         }
         TypeKind::CooperativeMatrix => {
-            let columns = CooperativeSize::from_number(f.b2);
-            let rows = CooperativeSize::from_number(f.b3);
+            let columns = CooperativeSize::from(f.b2);
+            let rows = CooperativeSize::from(f.b3);
             let scalar = f.scalar();
-            let role = CooperativeRole::from_number(f.b6);
+            let role = CooperativeRole::from(f.b6);
             TypeInner::CooperativeMatrix {
                 columns,
                 rows,
@@ -229,13 +213,13 @@ fn inner(kind: TypeKind, f: Frame) -> TypeInner
         }
         TypeKind::Pointer => {
             let base = f.ty();
-            let space = AddressSpace::from_number(f.b6, f.b7);
+            let space = AddressSpace::from((f.b6, f.b7));
             TypeInner::Pointer { base, space }
         }
         TypeKind::ValuePointer => {
             let size = option_size(f.b2);
             let scalar = f.scalar();
-            let space = AddressSpace::from_number(f.b6, f.b7);
+            let space = AddressSpace::from((f.b6, f.b7));
             TypeInner::ValuePointer {
                 size,
                 scalar,
@@ -255,7 +239,7 @@ fn inner(kind: TypeKind, f: Frame) -> TypeInner
             TypeInner::Struct { first, count, span }
         }
         TypeKind::Image => {
-            let dim = ImageDimension::from_number(f.b2);
+            let dim = ImageDimension::from(f.b2);
             let class = f.image_class();
             TypeInner::Image {
                 dim,

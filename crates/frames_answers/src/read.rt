@@ -4,15 +4,15 @@ ghost use Rattle.frames.specs.ForProofs.{refusal_of, unresolved_of, value_of, an
 
 use answers::{Answer, Refusal, Unresolved};
 use frames::Frame;
-use ir::{RowNumber, TypeForm, TypeNumber, TypeResolution};
+use ir::{RowNumber, TypeInner, TypeNumber, TypeResolution};
 
 // A value; a type of an unknown kind is none.
-fn value_of(form: TypeForm) -> Answer
+fn value_of(form: Option<TypeInner>) -> Answer
     ensures { result ≡ value_of form }
 {
     match form {
-        TypeForm::Known(t) => Answer::Resolved(TypeResolution::Value(t)),
-        TypeForm::Unknown => Answer::Refused(Refusal::MissingSpecialType),
+        Some(t) => Ok(TypeResolution::Value(t)),
+        None => Err(Unresolved::Refused(Refusal::MissingSpecialType)),
     }
 }
 
@@ -73,7 +73,7 @@ pub fn answer(f: Frame) -> Answer
     match family {
         8 => {
             let n = f.named();
-            Answer::Resolved(TypeResolution::Handle(TypeNumber(n)))
+            Ok(TypeResolution::Handle(TypeNumber(n)))
         }
         9 => value_of(f.type_form()),
         _ => {

@@ -7,10 +7,9 @@ ghost use Rattle.frames.specs.Out.{type_frame, number_frame, resolution_frame};
 ghost use Rattle.frames.specs.ForProofs.{packed};
 
 use frames::Frame;
-use ir::numbers::flag_number;
 use ir::{
-    AddressSpace, ArraySize, ImageClass, ImageDimension, MemberNumber, OptionVectorSize, Scalar,
-    TypeInner, TypeNumber, TypeResolution,
+    AddressSpace, ArraySize, ImageClass, ImageDimension, MemberNumber, Scalar, TypeInner,
+    TypeNumber, TypeResolution, VectorSize,
 };
 
 // A number of two bytes: its low byte, and its high byte.
@@ -69,12 +68,12 @@ pub fn number_frame(n: TypeNumber) -> Frame
 }
 
 // A size's number, or 0.
-fn option_size_number(n: OptionVectorSize) -> u8
+fn option_size_number(n: Option<VectorSize>) -> u8
     ensures { result ≡ option_size_number n }
 {
     match n {
-        OptionVectorSize::None => 0,
-        OptionVectorSize::Some(size) => size.number(),
+        None => 0,
+        Some(size) => u8::from(size),
     }
 }
 
@@ -104,16 +103,16 @@ fn form_count(z: ArraySize) -> u32
 fn image_frame(dim: ImageDimension, arrayed: bool, class: ImageClass) -> Frame
     ensures { result ≡ type_frame 9 (TypeInner.Image dim arrayed class) }
 {
-    let d = dim.number();
-    let a = flag_number(arrayed);
+    let d = u8::from(dim);
+    let a = u8::from(arrayed);
     match class {
         ImageClass::Sampled { kind, multi } => {
-            packed(9, 10, d, a, 0, kind.number(), flag_number(multi), 0, 0, 0)
+            packed(9, 10, d, a, 0, u8::from(kind), u8::from(multi), 0, 0, 0)
         }
-        ImageClass::Depth { multi } => packed(9, 10, d, a, 1, 0, flag_number(multi), 0, 0, 0),
+        ImageClass::Depth { multi } => packed(9, 10, d, a, 1, 0, u8::from(multi), 0, 0, 0),
         ImageClass::External => packed(9, 10, d, a, 2, 0, 0, 0, 0, 0),
         ImageClass::Storage { format, access } => {
-            packed(9, 10, d, a, 3, format.number(), 0, access.number(), 0, 0)
+            packed(9, 10, d, a, 3, u8::from(format), 0, u8::from(access), 0, 0)
         }
     }
 }
@@ -124,25 +123,15 @@ pub fn scalar_frame(kind: u8, b2: u8, b3: u8, s: Scalar, b6: u8, b7: u8) -> Fram
 {
     let k = s.kind;
     let w = s.width;
-    packed(9, kind, b2, b3, k.number(), w.number(), b6, b7, 0, 0)
+    packed(9, kind, b2, b3, u8::from(k), u8::from(w), b6, b7, 0, 0)
 }
 
 // A pointer: base, space and access.
 pub fn pointer_frame(base: TypeNumber, space: AddressSpace) -> Frame
     ensures { result ≡ type_frame 9 (TypeInner.Pointer base space) }
 {
-    packed(
-        9,
-        6,
-        low(base.0),
-        high(base.0),
-        0,
-        0,
-        space.number(),
-        space.access(),
-        0,
-        0,
-    )
+    let (space, access) = space.into();
+    packed(9, 6, low(base.0), high(base.0), 0, 0, space, access, 0, 0)
 }
 
 // A value of a kind that has a base and an array's size.
@@ -187,7 +176,7 @@ fn struct_frame(first: MemberNumber, count: u16, span: u32) -> Frame
 fn flag_frame(kind: u8, q: bool) -> Frame
     ensures { result ≡ packed 9 kind (flag_number q) 0 0 0 0 0 0 0 }
 {
-    packed(9, kind, flag_number(q), 0, 0, 0, 0, 0, 0, 0)
+    packed(9, kind, u8::from(q), 0, 0, 0, 0, 0, 0, 0)
 }
 
 // A type that stands by value.
@@ -196,32 +185,28 @@ pub fn value_frame(t: TypeInner) -> Frame
 {
     match t {
         TypeInner::Scalar(s) => scalar_frame(1, 0, 0, s, 0, 0),
-        TypeInner::Vector { size, scalar: s } => scalar_frame(2, size.number(), 0, s, 0, 0),
+        TypeInner::Vector { size, scalar: s } => scalar_frame(2, u8::from(size), 0, s, 0, 0),
         TypeInner::Matrix {
             columns,
             rows,
             scalar: s,
-        } => scalar_frame(3, columns.number(), rows.number(), s, 0, 0),
+        } => scalar_frame(3, u8::from(columns), u8::from(rows), s, 0, 0),
         TypeInner::CooperativeMatrix {
             columns,
             rows,
             scalar: s,
             role,
-        } => scalar_frame(4, columns.number(), rows.number(), s, role.number(), 0),
+        } => scalar_frame(4, u8::from(columns), u8::from(rows), s, u8::from(role), 0),
         TypeInner::Atomic(s) => scalar_frame(5, 0, 0, s, 0, 0),
         TypeInner::Pointer { base, space } => pointer_frame(base, space),
         TypeInner::ValuePointer {
             size,
             scalar: s,
             space,
-        } => scalar_frame(
-            7,
-            option_size_number(size),
-            0,
-            s,
-            space.number(),
-            space.access(),
-        ),
+        } => {
+            let (space, access) = space.into();
+            scalar_frame(7, option_size_number(size), 0, s, space, access)
+        }
         TypeInner::Array { base, size, stride } => array_frame(8, base, size, stride),
         TypeInner::Struct { first, count, span } => struct_frame(first, count, span),
         TypeInner::Image {

@@ -8,10 +8,9 @@ ghost use Rattle.frames.specs.Out.{sized_frame};
 ghost use Rattle.frames.specs.Out.{ranged_frame};
 
 use super::types::resolution_frame;
-use answers::{Answer, Outcome, Refusal, Verdict};
+use answers::{Answer, ComposeError, FileError, Outcome, Refusal, Unresolved, Verdict};
 use frames::Frame;
 use ir::RowNumber;
-use ir::numbers::flag_number;
 
 // A refusal: its number, its place, an index and whether it was indexed.
 pub fn refused(number: u8, place: u16, index: u32, indexed: bool) -> Frame
@@ -26,7 +25,7 @@ pub fn refused(number: u8, place: u16, index: u32, indexed: bool) -> Frame
         b5: (index / 256 % 256) as u8,
         b6: (index / 256 / 256 % 256) as u8,
         b7: (index / 256 / 256 / 256) as u8,
-        b8: flag_number(indexed),
+        b8: u8::from(indexed),
         b9: 0,
         b10: 0,
         b11: 0,
@@ -69,13 +68,13 @@ pub fn outcome_frame(o: Outcome) -> Frame
     ensures { result ≡ outcome_frame o }
 {
     match o {
-        Outcome::Accepted { frames: _ } => refused(0, 0, 0, false),
-        Outcome::Long { limit } => refused(1, limit, 0, false),
-        Outcome::Torn { line } => refused(2, line, 0, false),
-        Outcome::Short => refused(3, 0, 0, false),
-        Outcome::Order { frame } => refused(4, frame, 0, false),
-        Outcome::Field { frame } => refused(5, frame, 0, false),
-        Outcome::Index { frame } => refused(6, frame, 0, false),
+        Ok(_) => refused(0, 0, 0, false),
+        Err(FileError::Long { limit }) => refused(1, limit, 0, false),
+        Err(FileError::Torn { line }) => refused(2, line, 0, false),
+        Err(FileError::Short) => refused(3, 0, 0, false),
+        Err(FileError::Order { frame }) => refused(4, frame, 0, false),
+        Err(FileError::Field { frame }) => refused(5, frame, 0, false),
+        Err(FileError::Index { frame }) => refused(6, frame, 0, false),
     }
 }
 
@@ -84,9 +83,9 @@ pub fn answer_frame(a: Answer) -> Frame
     ensures { result ≡ answer_frame a }
 {
     match a {
-        Answer::Resolved(r) => resolution_frame(r),
-        Answer::Refused(e) => refusal_frame(e),
-        Answer::Newer { row } => newer_frame(row),
+        Ok(r) => resolution_frame(r),
+        Err(Unresolved::Refused(e)) => refusal_frame(e),
+        Err(Unresolved::Newer { row }) => newer_frame(row),
     }
 }
 
@@ -120,13 +119,13 @@ pub fn verdict_frame(row: RowNumber, v: Verdict) -> Frame
     ensures { result ≡ verdict_frame row v }
 {
     match v {
-        Verdict::Passes => judged(row, 0, 0, 0),
-        Verdict::ComposedType => judged(row, 30, 0, 0),
-        Verdict::ComponentCount { expected, given } => judged(row, 31, expected, given),
-        Verdict::ComponentType { index } => judged(row, 32, index, 0),
-        Verdict::ComponentRefused { index } => judged(row, 33, index, 0),
-        Verdict::NewerComposed => judged(row, 22, 0xffff_ffff, 0),
-        Verdict::NewerComponent { index } => judged(row, 22, index, 0),
+        Ok(()) => judged(row, 0, 0, 0),
+        Err(ComposeError::ComposedType) => judged(row, 30, 0, 0),
+        Err(ComposeError::ComponentCount { expected, given }) => judged(row, 31, expected, given),
+        Err(ComposeError::ComponentType { index }) => judged(row, 32, index, 0),
+        Err(ComposeError::ComponentRefused { index }) => judged(row, 33, index, 0),
+        Err(ComposeError::NewerComposed) => judged(row, 22, 0xffff_ffff, 0),
+        Err(ComposeError::NewerComponent { index }) => judged(row, 22, index, 0),
     }
 }
 

@@ -3,7 +3,7 @@ ghost use Rattle.std.specs.Prelude.{◌≡◌};
 ghost use Rattle.law_join.specs.Joinable.{type_joins, item_joins, row_joins, frame_joins, joinable};
 
 use archive::Starts;
-use archive_access::families::{find_starts, minus};
+use archive_access::families::find_starts;
 use frames::{Frame, frame_at, frame_count};
 use ir::{ItemKind, RowKind, TypeKind};
 
@@ -62,7 +62,7 @@ fn row_joins(s: Starts, kind: RowKind, f: Frame) -> bool
         RowKind::AccessIndex => true,
         RowKind::Splat => true,
         RowKind::Swizzle => true,
-        RowKind::FunctionArgument => (f.last() as usize) < minus(s.locals, s.arguments),
+        RowKind::FunctionArgument => (f.last() as usize) < s.locals.saturating_sub(s.arguments),
         RowKind::GlobalVariable => true,
         RowKind::LocalVariable => true,
         RowKind::Load => true,
@@ -97,10 +97,10 @@ fn frame_joins(s: Starts, f: Frame) -> bool
     let family = f.b0;
     match family {
         0 => true,
-        1 => type_joins(TypeKind::from_number(f.b1)),
+        1 => type_joins(TypeKind::from(f.b1)),
         2 => true,
-        3 => item_joins(ItemKind::from_number(f.b1)),
-        4 => row_joins(s, RowKind::from_number(f.b1), f),
+        3 => item_joins(ItemKind::from(f.b1)),
+        4 => row_joins(s, RowKind::from(f.b1), f),
         5 => true,
         _ => true,
     }
@@ -114,10 +114,8 @@ pub fn joins(frames: &[u8]) -> bool
     let s = find_starts(frames);
     let n = frame_count(frames);
     let mut ok = true;
-    let mut k = 0;
-    while k < n {
-        ok = ok & frame_joins(s, frame_at(frames, k));
-        k += 1;
+    for k in 0..n {
+        ok &= frame_joins(s, frame_at(frames, k));
     }
     ok
 }

@@ -85,7 +85,7 @@ fn type_numbers_as(kind: TypeKind, f: Frame) -> Numbers
 fn type_numbers(f: Frame) -> Numbers
     ensures { spots_of result ≡ type_numbers (type_kind_of (byte f 1)) f }
 {
-    type_numbers_as(TypeKind::from_number(f.b1), f)
+    type_numbers_as(TypeKind::from(f.b1), f)
 }
 
 // A member names a type.
@@ -126,7 +126,7 @@ fn item_numbers_as(kind: ItemKind, f: Frame) -> Numbers
 fn item_numbers(f: Frame) -> Numbers
     ensures { spots_of result ≡ item_numbers (item_kind_of (byte f 1)) f }
 {
-    item_numbers_as(ItemKind::from_number(f.b1), f)
+    item_numbers_as(ItemKind::from(f.b1), f)
 }
 
 // Only a size reads its image.
@@ -177,12 +177,12 @@ fn row_numbers_as(kind: RowKind, f: Frame) -> Numbers
         RowKind::Load => Numbers::One(Spot::B2(Counted::Rows)),
         RowKind::ImageSample => Numbers::One(Spot::B2(Counted::Rows)),
         RowKind::ImageLoad => Numbers::One(Spot::B2(Counted::Rows)),
-        RowKind::ImageQuery => query_numbers(ImageQuery::from_number(f.b6)),
+        RowKind::ImageQuery => query_numbers(ImageQuery::from(f.b6)),
         RowKind::Unary => Numbers::One(Spot::B2(Counted::Rows)),
         RowKind::Binary => Numbers::Two(Spot::B2(Counted::Rows), Spot::B4(Counted::Rows)),
         RowKind::Select => Numbers::One(Spot::B2(Counted::Rows)),
         RowKind::Derivative => Numbers::One(Spot::B2(Counted::Rows)),
-        RowKind::Relational => relational_numbers(RelationalFunction::from_number(f.b6)),
+        RowKind::Relational => relational_numbers(RelationalFunction::from(f.b6)),
         RowKind::Math => Numbers::Nothing,
         RowKind::As => Numbers::One(Spot::B2(Counted::Rows)),
         RowKind::CallResult => Numbers::One(Spot::B2(Counted::Functions)),
@@ -203,7 +203,7 @@ fn row_numbers_as(kind: RowKind, f: Frame) -> Numbers
 pub fn row_numbers(f: Frame) -> Numbers
     ensures { spots_of result ≡ row_numbers (row_kind_of (byte f 1)) f }
 {
-    row_numbers_as(RowKind::from_number(f.b1), f)
+    row_numbers_as(RowKind::from(f.b1), f)
 }
 
 // A component names a row.
@@ -229,46 +229,47 @@ pub fn frame_numbers(f: Frame) -> Numbers
     }
 }
 
-// A frame with another number in bytes 2 and 3.
+// A frame with another number in bytes 2 and 3. A function for each place, since a frame's bytes are fields by name:
+// one for all would have an arm for each and be no plainer.
 pub fn with_b2(f: Frame, n: u16) -> Frame
     ensures { result ≡ with_half f 2 n }
 {
-    let mut g = f;
-    g.b2 = (n % 256) as u8;
-    g.b3 = (n / 256) as u8;
-    g
+    let [b2, b3] = n.to_le_bytes();
+    Frame { b2, b3, ..f }
 }
 
 // In bytes 4 and 5.
 pub fn with_b4(f: Frame, n: u16) -> Frame
     ensures { result ≡ with_half f 4 n }
 {
-    let mut g = f;
-    g.b4 = (n % 256) as u8;
-    g.b5 = (n / 256) as u8;
-    g
+    let [b4, b5] = n.to_le_bytes();
+    Frame { b4, b5, ..f }
 }
 
 // In bytes 8 to 11.
 pub fn with_b8(f: Frame, n: u32) -> Frame
     ensures { result ≡ with_word f 8 n }
 {
-    let mut g = f;
-    g.b8 = (n % 256) as u8;
-    g.b9 = (n / 256 % 256) as u8;
-    g.b10 = (n / 256 / 256 % 256) as u8;
-    g.b11 = (n / 256 / 256 / 256) as u8;
-    g
+    let [b8, b9, b10, b11] = n.to_le_bytes();
+    Frame {
+        b8,
+        b9,
+        b10,
+        b11,
+        ..f
+    }
 }
 
 // In bytes 12 to 15.
 pub fn with_b12(f: Frame, n: u32) -> Frame
     ensures { result ≡ with_word f 12 n }
 {
-    let mut g = f;
-    g.b12 = (n % 256) as u8;
-    g.b13 = (n / 256 % 256) as u8;
-    g.b14 = (n / 256 / 256 % 256) as u8;
-    g.b15 = (n / 256 / 256 / 256) as u8;
-    g
+    let [b12, b13, b14, b15] = n.to_le_bytes();
+    Frame {
+        b12,
+        b13,
+        b14,
+        b15,
+        ..f
+    }
 }

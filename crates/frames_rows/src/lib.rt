@@ -3,35 +3,30 @@
 
 ghost use Rattle.std.specs.Prelude.{◌≡◌};
 ghost use Rattle.ir.specs.declared.RowKind.TheVariants.{Unknown};
-ghost use Rattle.ir.specs.declared.RowForm.TheVariants.{Known};
 ghost use Rattle.frames.specs.Fields.{result_of, convert_of};
 ghost use Rattle.frames.specs.Forms.{item_as, row_as, item_of, row_of};
 
 use frames::Frame;
 use ir::{
-    AddressSpace, BinaryOperator, CooperativeRole, CooperativeSize, Expression, FunctionResult,
-    ImageQuery, Item, ItemKind, ItemNumber, Literal, OptionBytes, RelationalFunction, RowForm,
-    RowKind, RowNumber, ScalarKind, TypeNumber, VectorSize, Width,
+    AddressSpace, BinaryOperator, CooperativeRole, CooperativeSize, Expression, ImageQuery, Item,
+    ItemKind, ItemNumber, Literal, RelationalFunction, RowKind, RowNumber, ScalarKind, TypeNumber,
+    VectorSize, Width,
 };
 
 // A function's result: its type, where the flag says that there is one.
-fn function_result(b: u8, ty: TypeNumber) -> FunctionResult
+fn function_result(b: u8, ty: TypeNumber) -> Option<TypeNumber>
     ensures { result ≡ result_of b ty }
 {
-    if b == 1 {
-        FunctionResult::Some(ty)
-    } else {
-        FunctionResult::None
-    }
+    if b == 1 { Some(ty) } else { None }
 }
 
-fn converted(b: u8, width: u8) -> OptionBytes
+fn converted(b: u8, width: u8) -> Option<Width>
     ensures { result ≡ convert_of b width }
 {
     if b == 1 {
-        OptionBytes::Some(Width::from_number(width))
+        Some(Width::from(width))
     } else {
-        OptionBytes::None
+        None
     }
 }
 
@@ -40,18 +35,18 @@ fn converted(b: u8, width: u8) -> OptionBytes
 pub fn item_of(f: Frame) -> Item
     ensures { result ≡ item_of f }
 {
-    item_as(ItemKind::from_number(f.b1), f)
+    item_as(ItemKind::from(f.b1), f)
 }
 
 // A row, family 4.
 #[tactic(auto, unfolding(frames::specs::Forms::row_of))]
-pub fn row_form(f: Frame) -> RowForm
+pub fn row_form(f: Frame) -> Option<Expression>
     ensures { result ≡ row_of f }
 {
-    let kind = RowKind::from_number(f.b1);
+    let kind = RowKind::from(f.b1);
     match kind {
-        RowKind::Unknown => RowForm::Unknown,
-        _ => RowForm::Known(expression(kind, f)),
+        RowKind::Unknown => None,
+        _ => Some(expression(kind, f)),
     }
 }
 
@@ -64,7 +59,7 @@ fn item_as(kind: ItemKind, f: Frame) -> Item
         ItemKind::Constant => Item::Constant { ty },
         ItemKind::Override => Item::Override { ty },
         ItemKind::GlobalVariable => {
-            let space = AddressSpace::from_number(f.b6, f.b7);
+            let space = AddressSpace::from((f.b6, f.b7));
             Item::GlobalVariable { ty, space }
         }
         ItemKind::FunctionArgument => Item::FunctionArgument { ty },
@@ -81,13 +76,13 @@ fn item_as(kind: ItemKind, f: Frame) -> Item
 // A row of a known kind; the arm of the unknown one is never taken.
 fn expression(kind: RowKind, f: Frame) -> Expression
     requires { kind ≡ Unknown → ⊥ }
-    ensures { Known result ≡ row_as kind f }
+    ensures { Some result ≡ row_as kind f }
 {
     let n = f.named();
     match kind {
         RowKind::Unknown => Expression::Math,
         RowKind::Literal => {
-            let literal = Literal::from_number(f.b6);
+            let literal = Literal::from(f.b6);
             Expression::Literal(literal)
         }
         RowKind::Constant => Expression::Constant(ItemNumber(n as u32)),
@@ -111,14 +106,14 @@ fn expression(kind: RowKind, f: Frame) -> Expression
             }
         }
         RowKind::Splat => {
-            let size = VectorSize::from_number(f.b6);
+            let size = VectorSize::from(f.b6);
             Expression::Splat {
                 size,
                 value: RowNumber(n),
             }
         }
         RowKind::Swizzle => {
-            let size = VectorSize::from_number(f.b6);
+            let size = VectorSize::from(f.b6);
             Expression::Swizzle {
                 size,
                 vector: RowNumber(n),
@@ -141,7 +136,7 @@ fn expression(kind: RowKind, f: Frame) -> Expression
             image: RowNumber(n),
         },
         RowKind::ImageQuery => {
-            let query = ImageQuery::from_number(f.b6);
+            let query = ImageQuery::from(f.b6);
             Expression::ImageQuery {
                 image: RowNumber(n),
                 query,
@@ -149,7 +144,7 @@ fn expression(kind: RowKind, f: Frame) -> Expression
         }
         RowKind::Unary => Expression::Unary { expr: RowNumber(n) },
         RowKind::Binary => {
-            let op = BinaryOperator::from_number(f.b6);
+            let op = BinaryOperator::from(f.b6);
             let right = f.right();
             Expression::Binary {
                 op,
@@ -162,7 +157,7 @@ fn expression(kind: RowKind, f: Frame) -> Expression
         },
         RowKind::Derivative => Expression::Derivative { expr: RowNumber(n) },
         RowKind::Relational => {
-            let fun = RelationalFunction::from_number(f.b6);
+            let fun = RelationalFunction::from(f.b6);
             Expression::Relational {
                 fun,
                 argument: RowNumber(n),
@@ -170,7 +165,7 @@ fn expression(kind: RowKind, f: Frame) -> Expression
         }
         RowKind::Math => Expression::Math,
         RowKind::As => {
-            let kind = ScalarKind::from_number(f.b6);
+            let kind = ScalarKind::from(f.b6);
             let convert = converted(f.b7, f.b8);
             Expression::As {
                 expr: RowNumber(n),
@@ -192,9 +187,9 @@ fn expression(kind: RowKind, f: Frame) -> Expression
             ty: TypeNumber(n),
         },
         RowKind::CooperativeLoad => {
-            let columns = CooperativeSize::from_number(f.b6);
-            let rows = CooperativeSize::from_number(f.b7);
-            let role = CooperativeRole::from_number(f.b8);
+            let columns = CooperativeSize::from(f.b6);
+            let rows = CooperativeSize::from(f.b7);
+            let role = CooperativeRole::from(f.b8);
             Expression::CooperativeLoad {
                 columns,
                 rows,

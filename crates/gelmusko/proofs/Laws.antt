@@ -1,28 +1,30 @@
 -- What the exported functions rest on: an out-slice that is too small changes nothing, and a number handed in that has
 -- more than 16 bits is out of range, since a file has at most 1,024 frames. From the laws of reading a file.
-use Prim.Native.Nat.{ℕ, ◌*◌, ◌≤◌, ◌<◌, min}
+use Rattle.rule_ranges.specs.TypeRange.{range_error}
+use Rattle.rule_sizes.specs.TypeSize.{size_error}
+use Rattle.answers.specs.Numbers.{error_values}
+use Rattle.answers.specs.Asked.{base_error, canonical_error}
+use Rattle.rule_ranges.specs.declared.RangeError.TheVariants as Ge
+use Rattle.answers.specs.declared.QueryError.TheVariants as Qe
+use Rattle.answers.specs.declared.TypeError.TheVariants as Te
+use Rattle.answers.specs.declared.FileError.{FileError}
+use Rattle.std.specs.Prelude.{Ok, Err}
+use Prim.Native.Nat.{ℕ, ◌≤◌, min}
 use native.Mathlib.Decide.{dec_le}
 use native.Mathlib.Omega.{arith}
 use mathlib.Core.Path.{◌≡◌, refl, sym, ap, ◌∙◌}
-use mathlib.Core.Bool.{Bool, true, false, cond}
+use mathlib.Core.Bool.{Bool, false, cond}
 use mathlib.Core.List.{List}
-use lib.Dec.{ltb}
 use lib.ListN.{length}
 use borrow.Author.Tests.{le-ltb}
-use Rattle.scan.specs.Lowest.{lowest}
-use Rattle.scan.specs.declared.Found.{Found}
-use Rattle.answers.specs.declared.Outcome.{Outcome}
-use Rattle.answers.specs.declared.Outcome.TheVariants.{Accepted, Long, Torn, Short, Order, Field, Index}
-use Rattle.answers.specs.declared.CanonicalType.TheVariants as Ct
-use Rattle.answers.specs.declared.PointerBase.TheVariants as Pb
+use Rattle.answers.specs.Outcome.{Outcome}
 use Rattle.answers.specs.Limit.{max_frames}
 use Rattle.text.specs.declared.AnswerRoom.{AnswerRoom}
 use Rattle.text.specs.declared.AnswerRoom.TheVariants.{NotLent, Lent}
-use Rattle.text.specs.Lines.{line_ok, line_count, decoded}
-use Rattle.text.specs.Reading.{most_frames, after_torn, too_short, read_text}
+use Rattle.text.specs.Lines.{decoded}
+use Rattle.text.specs.Reading.{read_text}
 use Rattle.text.proofs.Laws.{count_small}
-use Rattle.frames.specs.declared.Frame.{Frame}
-use Rattle.frames.specs.Bytes.{frame_count, put_frame}
+use Rattle.frames.specs.Bytes.{frame_count}
 use Rattle.archive.specs.Starts.{starts_of, row_count, type_count}
 use Rattle.archive.specs.Names.{is_row, is_type}
 use Rattle.archive.specs.Access.{type_in}
@@ -31,9 +33,7 @@ use Rattle.rule.specs.Things.{see}
 use Rattle.rule_rows.specs.declared.Pass.{Pass}
 use Rattle.rule_compose.specs.Rows.{verdict_of}
 use Rattle.rule_types.specs.Canonical.{base_of_form, pointer_base_in, canonical_of_form, canonical_type_in}
-use Rattle.rule_sizes.specs.declared.TypeSize.TheVariants as Ts
 use Rattle.rule_sizes.specs.Sizes.{measure_in, type_size_in}
-use Rattle.rule_ranges.specs.declared.TypeRange.TheVariants as Tr
 use Rattle.rule_ranges.specs.Ranges.{counts_of, range_in, faulty_span, unless_span, type_range_in}
 use Rattle.rule_answers.specs.Outputs.{row_answer}
 use Rattle.rule_file.specs.File.{over_file, read_file}
@@ -46,13 +46,13 @@ use Rattle.rule_file_sizes.specs.Sizes.{type_size}
 use Rattle.rule_file_sizes.specs.Ranges.{by_tables, size_range}
 use Rattle.text.specs.Room.{or_short, short_read}
 use Rattle.text.proofs.Room.{short-any}
-use Rattle.rule_file.specs.Exported.{outcome_number, no_room, by_room}
+use Rattle.rule_file.specs.Exported.{no_room}
 
 -- numbers 1 and 2 do not depend on what is lent
 pub any-room : (limit : ℕ) (t : List ℕ) (f : ℕ) (room : AnswerRoom) → no_room limit t
-    ≡ outcome_number (or_short (read_text limit t f room))
+    ≡ (error_values (or_short (read_text limit t f room))).number
 unfolding no_room
-any-room limit t f room = ap outcome_number (short-any limit t f room)
+any-room limit t f room = ap (λ (e : FileError). (error_values e).number) (short-any limit t f room)
 
 -- A NUMBER HANDED IN
 
@@ -66,18 +66,13 @@ clamped-is g z h n k e = go (dec_le 65535 n)
     go (no l) = let q : k ≡ n = omega arith in ap g q
 
 -- two things asked of an accepted file are the same where they are of its frames
-pub over-same : {A : Type 0} (f : Outcome → A) (g h : List ℕ → A) (t : List ℕ) (o : Outcome)
-    → ((n : ℕ) → o ≡ Accepted n → g (decoded t n) ≡ h (decoded t n))
+pub over-same : {A : Type 0} (f : FileError → A) (g h : List ℕ → A) (t : List ℕ) (o : Outcome)
+    → ((n : ℕ) → o ≡ Ok n → g (decoded t n) ≡ h (decoded t n))
     → over_file f g t o ≡ over_file f h t o
-over-same f g h t (Accepted n) e = e n refl
-over-same f g h t (Long m) e = refl
-over-same f g h t (Torn k) e = refl
-over-same f g h t Short e = refl
-over-same f g h t (Order k) e = refl
-over-same f g h t (Field k) e = refl
-over-same f g h t (Index k) e = refl
+over-same f g h t (Ok n) e = e n refl
+over-same f g h t (Err x) e = refl
 
-pub few : (limit : ℕ) (t : List ℕ) (f : ℕ) (room : AnswerRoom) (n : ℕ) → read_file limit t f room ≡ Accepted n
+pub few : (limit : ℕ) (t : List ℕ) (f : ℕ) (room : AnswerRoom) (n : ℕ) → read_file limit t f room ≡ Ok n
     → frame_count (decoded t n) ≤ max_frames
 few limit t f room n e = rw (count-decoded t n) (count_small ((accepted-when limit t f room n).0 e).readable)
 
@@ -107,7 +102,7 @@ module _ (pass : Pass) (limit : ℕ) (t : List ℕ) (f a : ℕ) where
       ≡ row_type pass limit t f a (record { 0 = n })
   row-clamped = clamped-is (λ (m : ℕ). row_type pass limit t f a (record { 0 = m })) _ row-stray
 
-  given-stray : (m n : ℕ) → 65535 ≤ m → read_file limit t f (Lent a) ≡ Accepted n
+  given-stray : (m n : ℕ) → 65535 ≤ m → read_file limit t f (Lent a) ≡ Ok n
       → verdict_given pass (record { 0 = m }) (decoded t n) ≡ VerdictGiven.no_row
   given-stray m n l e =
       ap (λ (b : Bool). cond b (or_no_compose (verdict_of pass (see (decoded t n)) m)) VerdictGiven.no_row)
@@ -139,13 +134,8 @@ module _ (pass : Pass) (limit : ℕ) (t : List ℕ) (f a : ℕ) where
           (over_file VerdictGiven.not_accepted (λ (x : List ℕ). VerdictGiven.no_row) t o)
           ≡ verdict_said (record { 0 = 0 })
           (over_file VerdictGiven.not_accepted (λ (x : List ℕ). VerdictGiven.no_row) t o)
-      go (Accepted n) = refl
-      go (Long k) = refl
-      go (Torn k) = refl
-      go Short = refl
-      go (Order k) = refl
-      go (Field k) = refl
-      go (Index k) = refl
+      go (Ok n) = refl
+      go (Err x) = refl
 
   pub said-clamped : (n k : ℕ) → k ≡ min n 65535
       → verdict_said (record {
@@ -161,10 +151,10 @@ module _ (pass : Pass) (limit : ℕ) (t : List ℕ) (f a : ℕ) where
 module _ (pass : Pass) (limit : ℕ) (t : List ℕ) (f : ℕ) (an : List ℕ) where
   answers-stray : (m : ℕ) → 65535 ≤ m
       → answers_after_row pass limit t f an (record { 0 = m })
-      ≡ over_file (λ (o : Outcome). an) (λ (x : List ℕ). an) t (read_file limit t f (Lent (length an)))
+      ≡ over_file (λ (e : FileError). an) (λ (x : List ℕ). an) t (read_file limit t f (Lent (length an)))
   unfolding answers_after_row
   answers-stray m l =
-      over-same (λ (o : Outcome). an)
+      over-same (λ (e : FileError). an)
       (λ (x : List ℕ). cond (is_row (starts_of x) (record { 0 = m })) (answers_written pass an x) an)
       (λ (x : List ℕ). an) t (read_file limit t f (Lent (length an)))
       (λ n e.
@@ -177,10 +167,10 @@ module _ (pass : Pass) (limit : ℕ) (t : List ℕ) (f : ℕ) (an : List ℕ) wh
 
   judged-stray : (m : ℕ) → 65535 ≤ m
       → answers_after_verdict pass limit t f an (record { 0 = m })
-      ≡ over_file (λ (o : Outcome). an) (λ (x : List ℕ). an) t (read_file limit t f (Lent (length an)))
+      ≡ over_file (λ (e : FileError). an) (λ (x : List ℕ). an) t (read_file limit t f (Lent (length an)))
   unfolding answers_after_verdict
   judged-stray m l =
-      over-same (λ (o : Outcome). an)
+      over-same (λ (e : FileError). an)
       (λ (x : List ℕ). if_judged (answers_written pass an x) an (verdict_given pass (record { 0 = m }) x))
       (λ (x : List ℕ). an) t (read_file limit t f (Lent (length an)))
       (λ n e. ap (if_judged (answers_written pass an (decoded t n)) an)
@@ -194,15 +184,16 @@ module _ (pass : Pass) (limit : ℕ) (t : List ℕ) (f : ℕ) (an : List ℕ) wh
 module _ (limit : ℕ) (t : List ℕ) (f : ℕ) where
   pub canonical-stray : (m : ℕ) → 65535 ≤ m
       → canonical_type limit t f (record { 0 = m })
-      ≡ over_file Ct.NotAccepted (λ (x : List ℕ). Ct.Index) t (read_file limit t f NotLent)
+      ≡ over_file canonical_error (λ (x : List ℕ). (Err Te.Index)) t (read_file limit t f NotLent)
   unfolding canonical_type canonical_type_in
   canonical-stray m l =
-      over-same Ct.NotAccepted (λ (x : List ℕ). canonical_type_in x (starts_of x) (record { 0 = m }))
-      (λ (x : List ℕ). Ct.Index) t (read_file limit t f NotLent)
+      over-same canonical_error (λ (x : List ℕ). canonical_type_in x (starts_of x) (record { 0 = m }))
+      (λ (x : List ℕ). (Err Te.Index)) t (read_file limit t f NotLent)
       (λ n e.
       let x = decoded t n in
       ap (λ (b : Bool). cond b
-      (canonical_of_form x (starts_of x) (record { 0 = m }) (type_in x (starts_of x) (record { 0 = m }))) Ct.Index)
+      (canonical_of_form x (starts_of x) (record { 0 = m }) (type_in x (starts_of x) (record { 0 = m })))
+      (Err Te.Index))
       (no-type x m (few limit t f NotLent n e) l))
 
   pub canonical-clamped : (n k : ℕ) → k ≡ min n 65535
@@ -211,14 +202,14 @@ module _ (limit : ℕ) (t : List ℕ) (f : ℕ) where
 
   pub base-stray : (m : ℕ) → 65535 ≤ m
       → pointer_base_type limit t f (record { 0 = m })
-      ≡ over_file Pb.NotAccepted (λ (x : List ℕ). Pb.Index) t (read_file limit t f NotLent)
+      ≡ over_file base_error (λ (x : List ℕ). (Err Te.Index)) t (read_file limit t f NotLent)
   unfolding pointer_base_type pointer_base_in
   base-stray m l =
-      over-same Pb.NotAccepted (λ (x : List ℕ). pointer_base_in x (starts_of x) (record { 0 = m }))
-      (λ (x : List ℕ). Pb.Index) t (read_file limit t f NotLent)
+      over-same base_error (λ (x : List ℕ). pointer_base_in x (starts_of x) (record { 0 = m }))
+      (λ (x : List ℕ). (Err Te.Index)) t (read_file limit t f NotLent)
       (λ n e.
       let x = decoded t n in
-      ap (λ (b : Bool). cond b (base_of_form (type_in x (starts_of x) (record { 0 = m }))) Pb.Index)
+      ap (λ (b : Bool). cond b (base_of_form (type_in x (starts_of x) (record { 0 = m }))) (Err Te.Index))
       (no-type x m (few limit t f NotLent n e) l))
 
   pub base-clamped : (n k : ℕ) → k ≡ min n 65535
@@ -227,14 +218,14 @@ module _ (limit : ℕ) (t : List ℕ) (f : ℕ) where
 
   pub size-stray : (m : ℕ) → 65535 ≤ m
       → type_size limit t f (record { 0 = m })
-      ≡ over_file Ts.NotAccepted (λ (x : List ℕ). Ts.Index) t (read_file limit t f NotLent)
+      ≡ over_file size_error (λ (x : List ℕ). (Err Qe.Index)) t (read_file limit t f NotLent)
   unfolding type_size type_size_in
   size-stray m l =
-      over-same Ts.NotAccepted (λ (x : List ℕ). type_size_in x (starts_of x) (record { 0 = m }))
-      (λ (x : List ℕ). Ts.Index) t (read_file limit t f NotLent)
+      over-same size_error (λ (x : List ℕ). type_size_in x (starts_of x) (record { 0 = m }))
+      (λ (x : List ℕ). (Err Qe.Index)) t (read_file limit t f NotLent)
       (λ n e.
       let x = decoded t n in
-      ap (λ (b : Bool). cond b (Ts.Measured (measure_in x (starts_of x) (record { 0 = m }))) Ts.Index)
+      ap (λ (b : Bool). cond b (Ok (measure_in x (starts_of x) (record { 0 = m }))) (Err Qe.Index))
       (no-type x m (few limit t f NotLent n e) l))
 
   pub size-clamped : (n k : ℕ) → k ≡ min n 65535 → type_size limit t f (record { 0 = k })
@@ -244,19 +235,19 @@ module _ (limit : ℕ) (t : List ℕ) (f : ℕ) where
 module _ (limit : ℕ) (t : List ℕ) (f : ℕ) (least greatest : List ℕ) where
   pub range-stray : (m : ℕ) → 65535 ≤ m
       → size_range limit t f least greatest (record { 0 = m })
-      ≡ by_tables least greatest (Tr.NotAccepted (short_read limit t))
-      (over_file Tr.NotAccepted (λ (x : List ℕ). Tr.Index) t (read_file limit t f NotLent))
+      ≡ by_tables least greatest (Err (Ge.NotAccepted (short_read limit t)))
+      (over_file range_error (λ (x : List ℕ). (Err Ge.Index)) t (read_file limit t f NotLent))
   unfolding size_range type_range_in
   range-stray m l =
-      ap (by_tables least greatest (Tr.NotAccepted (short_read limit t)))
-      (over-same Tr.NotAccepted
+      ap (by_tables least greatest (Err (Ge.NotAccepted (short_read limit t))))
+      (over-same range_error
       (λ (x : List ℕ). type_range_in x (starts_of x) (counts_of least) (counts_of greatest) (record { 0 = m }))
-      (λ (x : List ℕ). Tr.Index) t (read_file limit t f NotLent)
+      (λ (x : List ℕ). (Err Ge.Index)) t (read_file limit t f NotLent)
       (λ n e.
       let x = decoded t n in
       ap (λ (b : Bool). cond b
       (unless_span (faulty_span (starts_of x) (counts_of least) (counts_of greatest))
-      (range_in x (starts_of x) (counts_of least) (counts_of greatest) (record { 0 = m }))) Tr.Index)
+      (range_in x (starts_of x) (counts_of least) (counts_of greatest) (record { 0 = m }))) (Err Ge.Index))
       (no-type x m (few limit t f NotLent n e) l)))
 
   pub range-clamped : (n k : ℕ) → k ≡ min n 65535

@@ -1,13 +1,14 @@
 -- Frames handed in to a comparison of an accepted file: one of another length than 16 gets 5, and the left one's 5 or 6
 -- comes before the right one's. From the laws of the comparison.
+use Rattle.answers.specs.Asked.{sameness_error}
+use Rattle.answers.specs.declared.CompareError.TheVariants as Ce
+use Rattle.std.specs.Prelude.{Ok, Err}
 use Prim.Native.Nat.{ℕ}
 use mathlib.Core.Path.{◌≡◌, refl, ap, ◌∙◌}
 use mathlib.Core.Bool.{Bool, cond}
 use mathlib.Core.List.{List}
 use lib.ListN.{length}
 use borrow.Author.Tests.{ne_eqb}
-use Rattle.answers.specs.declared.Outcome.TheVariants.{Accepted}
-use Rattle.answers.specs.declared.Sameness.TheVariants as Sa
 use Rattle.text.specs.declared.AnswerRoom.TheVariants.{NotLent}
 use Rattle.text.specs.Lines.{decoded}
 use Rattle.frames.specs.declared.Frame.{Frame}
@@ -34,17 +35,18 @@ zeros-five s = refl
 wrong-five : (s : Starts) (l : List ℕ) → (length l ≡ 16 → ⊥) → fault_of s (type_answer_of (handed_frame l)) ≡ Fa.Field
 wrong-five s l h = ap (λ (f : Frame). fault_of s (type_answer_of f)) (zeros-for l h) ∙ zeros-five s
 
-module _ (limit : ℕ) (t : List ℕ) (f n : ℕ) (e : read_file limit t f NotLent ≡ Accepted n) where
+module _ (limit : ℕ) (t : List ℕ) (f n : ℕ) (e : read_file limit t f NotLent ≡ Ok n) where
   abbrev fr : List ℕ
   fr = decoded t n
 
   -- what is asked is asked of the file's frames
   asked : (l r : Frame) → same_types limit t f l r ≡ sameness_of (same_in fr (starts_of fr) l r)
   unfolding same_types same_type
-  asked l r = ap (over_file Sa.NotAccepted (λ (x : List ℕ). sameness_of (same_type x l r)) t) e
+  asked l r = ap (over_file sameness_error (λ (x : List ℕ). sameness_of (same_type x l r)) t) e
 
   -- whatever the right one is
-  pub wrong-left : (l : List ℕ) (r : Frame) → (length l ≡ 16 → ⊥) → same_types limit t f (handed_frame l) r ≡ Sa.Field
+  pub wrong-left : (l : List ℕ) (r : Frame) → (length l ≡ 16 → ⊥)
+      → same_types limit t f (handed_frame l) r ≡ Err Ce.Field
   unfolding same_in
   wrong-left l r h =
       asked (handed_frame l) r
@@ -53,7 +55,7 @@ module _ (limit : ℕ) (t : List ℕ) (f n : ℕ) (e : read_file limit t f NotLe
 
   -- whatever the right one is, of a wrong length too
   pub stray-left : (l r : List ℕ) → fault_of (starts_of fr) (type_answer_of (handed_frame l)) ≡ Fa.Index
-      → same_types limit t f (handed_frame l) (handed_frame r) ≡ Sa.Index
+      → same_types limit t f (handed_frame l) (handed_frame r) ≡ Err Ce.Index
   unfolding same_in
   stray-left l r h =
       asked (handed_frame l) (handed_frame r)
@@ -63,7 +65,7 @@ module _ (limit : ℕ) (t : List ℕ) (f n : ℕ) (e : read_file limit t f NotLe
   -- where the left one gets neither 5 nor 6
   pub wrong-right : (l : Frame) (r : List ℕ) → fault_of (starts_of fr) (type_answer_of l) ≡ Fa.Sound
       → (length r ≡ 16 → ⊥)
-      → same_types limit t f l (handed_frame r) ≡ Sa.Field
+      → same_types limit t f l (handed_frame r) ≡ Err Ce.Field
   unfolding same_in
   wrong-right l r s h =
       asked l (handed_frame r)

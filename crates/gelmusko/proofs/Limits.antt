@@ -1,14 +1,15 @@
 -- A file within two limits (document 02, request 7), by the exported functions: what each returns, the frame that it
 -- writes and every lent byte are the same at either. By their contracts each is what follows on reading the text, which
 -- reads alike at both.
+use Rattle.answers.specs.declared.FileError.{FileError}
 use Prim.Native.Nat.{ℕ, ◌*◌, ◌≤◌}
 use mathlib.Core.Path.{◌≡◌, ap}
 use mathlib.Core.List.{List, []}
 use lib.ListN.{length}
 use Rattle.ir.specs.declared.TypeNumber.{TypeNumber}
 use Rattle.ir.specs.declared.RowNumber.{RowNumber}
-use Rattle.answers.specs.declared.Outcome.{Outcome}
-use Rattle.answers.specs.Numbers.{sameness_said, canonical_said, base_said}
+use Rattle.answers.specs.Outcome.{Outcome}
+use Rattle.answers.specs.Numbers.{error_values, sameness_said, canonical_said, base_said}
 use Rattle.text.specs.declared.AnswerRoom.TheVariants.{NotLent, Lent}
 use Rattle.text.specs.Reading.{most_frames}
 use Rattle.text.specs.Room.{or_short, short_read}
@@ -139,7 +140,7 @@ module _ (limit other : ℕ) (t : List ℕ) (a : length t ≤ 33 * most_frames l
     (b : length t ≤ 33 * most_frames other) where
   pub no-room-alike : no_room limit t ≡ no_room other t
   unfolding no_room short_read
-  no-room-alike = ap (λ (o : Outcome). outcome_number (or_short o)) (alike-within limit other t 0 NotLent a b)
+  no-room-alike = ap (λ (o : Outcome). (error_values (or_short o)).number) (alike-within limit other t 0 NotLent a b)
 
   module _ (fr out : List ℕ) where
     abbrev frames : frames_after limit t fr NotLent ≡ frames_after other t fr NotLent

@@ -1,28 +1,24 @@
 -- What the exported functions of the cut rest on: a row's number handed in that has more than 16 bits is out of range,
 -- and a table of marks that is too small changes nothing but the out-slice. From the laws of a number handed in.
+use Rattle.answers.specs.declared.FileError.{FileError}
+use Rattle.std.specs.Prelude.{Ok}
 use Prim.Native.Nat.{ℕ, ◌≤◌, ◌<◌, min}
-use native.Mathlib.Omega.{arith}
-use mathlib.Core.Path.{◌≡◌, refl, sym, ap, ◌∙◌}
+use mathlib.Core.Path.{◌≡◌, sym, ap, ◌∙◌}
 use mathlib.Core.Bool.{Bool, cond}
 use mathlib.Core.List.{List, ◌++◌}
 use lib.ListN.{length, drop}
 use borrow.Author.Tests.{lt-ltb, le-ltb}
-use Rattle.answers.specs.declared.Outcome.{Outcome}
-use Rattle.answers.specs.declared.Outcome.TheVariants.{Accepted}
+use Rattle.answers.specs.Outcome.{Outcome}
 use Rattle.answers.specs.Limit.{max_frames}
-use Rattle.answers.specs.Numbers.{Refused, outcome_values}
+use Rattle.answers.specs.Numbers.{error_values}
 use Rattle.text.specs.declared.AnswerRoom.TheVariants.{NotLent}
 use Rattle.text.specs.Lines.{decoded}
 use Rattle.text.specs.Room.{short_read}
-use Rattle.frames.specs.declared.Frame.{Frame}
-use Rattle.frames.specs.Bytes.{frame_count, put_frame}
-use Rattle.frames.specs.Out.{refused_frame}
-use Rattle.archive.specs.Starts.{starts_of}
-use Rattle.archive.specs.Names.{is_row}
+use Rattle.frames.specs.Bytes.{frame_count}
 use Rattle.rule.specs.Things.{see}
 use Rattle.rule_rows.specs.declared.Pass.TheVariants as Pa
 use Rattle.rule_answers.specs.Outputs.{row_answer}
-use Rattle.rule_file.specs.File.{over_file, read_file, frames_after}
+use Rattle.rule_file.specs.File.{read_file, frames_after}
 use Rattle.rule_file.specs.Printed.{printed, printed_after}
 use Rattle.law_cut.specs.declared.PartOutcome.{PartOutcome}
 use Rattle.law_cut.specs.declared.PartOutcome.TheVariants as Po
@@ -31,7 +27,7 @@ use Rattle.law_cut.specs.Marks.{max_marks, no_marks, marks_of}
 use Rattle.law_cut.specs.File.{of_answer, part_in, smallest_part, if_marked, part_marks, part_said, part_file}
 use Rattle.law_cut.specs.File.{part_text}
 use Rattle.law_cut.specs.File.{as_lines, or_number, cut_in, cut_text, cut_after}
-use Rattle.law_cut.specs.Exported.{mark_bytes, by_table, part_exported, frames_marked, table_after}
+use Rattle.law_cut.specs.Exported.{mark_bytes, part_exported, frames_marked, table_after}
 use Rattle.gelmusko.proofs.Laws.{clamped-is, over-same, few, no-row}
 
 -- no file has a row of a number from 65,535 on
@@ -39,7 +35,7 @@ part_none : (fr : List ℕ) (m : ℕ) → frame_count fr ≤ max_frames → 6553
 part_none fr m h l = ap (λ (b : Bool). cond b (of_answer (row_answer Pa.First (see fr) m)) Po.Index) (no-row fr m h l)
 
 module _ (limit : ℕ) (t : List ℕ) (f : ℕ) where
-  part-there : (m n : ℕ) → 65535 ≤ m → read_file limit t f NotLent ≡ Accepted n
+  part-there : (m n : ℕ) → 65535 ≤ m → read_file limit t f NotLent ≡ Ok n
       → part_in (record { 0 = m }) (decoded t n) ≡ Po.Index
   part-there m n l e = part_none (decoded t n) m (few limit t f NotLent n e) l
 
@@ -56,7 +52,7 @@ module _ (limit : ℕ) (t : List ℕ) (f : ℕ) where
   unfolding part_marks
   marks-clamped =
       clamped-is (λ (m : ℕ). part_marks limit t f (record { 0 = m })) _
-      (λ m l. over-same (λ (o : Outcome). no_marks)
+      (λ m l. over-same (λ (e : FileError). no_marks)
       (λ (x : List ℕ). if_marked (marks_of Pa.First x m) no_marks (part_in (record { 0 = m }) x))
       (λ (x : List ℕ). no_marks) t (read_file limit t f NotLent)
       (λ n e. ap (if_marked (marks_of Pa.First (decoded t n) m) no_marks) (part-there m n l e)))
@@ -76,7 +72,7 @@ module _ (limit : ℕ) (t : List ℕ) (f : ℕ) where
   unfolding cut_after
   lines-clamped out =
       clamped-is (λ (m : ℕ). cut_after limit t f (record { 0 = m }) out) _
-      (λ m l. over-same (λ (o : Outcome). out)
+      (λ m l. over-same (λ (e : FileError). out)
       (λ (x : List ℕ). if_marked (printed_after (part_text (record { 0 = m }) x) out) out
       (part_in (record { 0 = m }) x))
       (λ (x : List ℕ). out) t (read_file limit t f NotLent)
@@ -86,9 +82,9 @@ module _ (limit : ℕ) (t : List ℕ) (f : ℕ) where
 
 -- too small: number 3, or the text's 1 or 2, and both buffers stay
 module _ (limit : ℕ) (t fr table : List ℕ) (small : length table < max_marks) where
-  pub short-said : (f n : ℕ) → outcome_values (short_read limit t) ≡ part_exported limit t f (record { 0 = n }) table
+  pub short-said : (f n : ℕ) → error_values (short_read limit t) ≡ part_exported limit t f (record { 0 = n }) table
   unfolding part_exported
-  short-said f n = sym (ap (λ (b : Bool). cond b (outcome_values (short_read limit t))
+  short-said f n = sym (ap (λ (b : Bool). cond b (error_values (short_read limit t))
       (part_said (smallest_part limit t f (record { 0 = n })))) (lt-ltb (length table) max_marks small))
 
   pub short-frames : fr ≡ frames_marked limit t fr table
@@ -109,7 +105,7 @@ module _ (limit : ℕ) (t fr table : List ℕ) (room : max_marks ≤ length tabl
   unfolding part_exported
   room-said e =
       ap part_said (e ∙ part-clamped limit t f n k ek)
-      ∙ sym (ap (λ (b : Bool). cond b (outcome_values (short_read limit t))
+      ∙ sym (ap (λ (b : Bool). cond b (error_values (short_read limit t))
       (part_said (smallest_part limit t f (record { 0 = n })))) (le-ltb (length table) max_marks room))
 
   pub room-frames : frames_after limit t fr NotLent ≡ frames_marked limit t fr table

@@ -25,10 +25,8 @@ fn put_marks(marks: [bool; 1024], table: &mut [u8])
     requires { max_marks ≤ length table.old }
     ensures { table.new ≡ mark_bytes marks ++ drop max_marks table.old }
 {
-    let mut k = 0;
-    while k < 1024 {
-        table[k] = mark_byte(marks[k]);
-        k += 1;
+    for (k, marked) in marks.iter().enumerate() {
+        table[k] = mark_byte(*marked);
     }
 }
 
@@ -62,7 +60,7 @@ pub extern "C" fn gelmusko_smallest_part(
         return no_room(text, limit);
     }
     if marks.len() < 1024 {
-        return put_outcome(out, short_read(text, limit));
+        return put_outcome(out, Err(short_read(text, limit)));
     }
     let part = smallest_part(text, limit, frames, RowNumber(clamped(row)));
     let found = part.marks;

@@ -3,3 +3,5 @@ pub mod Numbered
 pub mod Others
 pub mod Keys
 pub mod Formats
+pub mod Equal
+pub mod SameTypes

@@ -1,6 +1,7 @@
 -- The arm `_` of a match over types. There it is told that the kind is one of those that no arm before it names; what
 -- is to be shown of such a type is shown of each of these kinds, for all that a type of it may hold. Kinds are numbered
 -- from 0 as `TypeInner` declares them.
+use Rattle.std.specs.Prelude.{Option}
 use Prim.Native.Nat.{ℕ}
 use mathlib.Core.Bool.{Bool, true, false, not}
 use mathlib.Core.List.{List, [], ◌∷◌}
@@ -10,7 +11,6 @@ use types.Run.{OneOf, miss}
 use denote.Enum.Declared.{tag_of}
 use Rattle.ir.specs.declared.Scalar.{Scalar}
 use Rattle.ir.specs.declared.VectorSize.{VectorSize}
-use Rattle.ir.specs.declared.OptionVectorSize.{OptionVectorSize}
 use Rattle.ir.specs.declared.CooperativeSize.{CooperativeSize}
 use Rattle.ir.specs.declared.CooperativeRole.{CooperativeRole}
 use Rattle.ir.specs.declared.TypeNumber.{TypeNumber}
@@ -58,7 +58,7 @@ pub record Each (l : List ℕ) (P : TypeInner → Type 0) : Type 0 where
   pub atomic : On (has_key l 4) ((k : Scalar) → P (Ti.Atomic k))
   pub pointer : On (has_key l 5) ((b : TypeNumber) (p : AddressSpace) → P (Ti.Pointer b p))
   pub value-pointer : On (has_key l 6)
-      ((z : OptionVectorSize) (k : Scalar) (p : AddressSpace) → P (Ti.ValuePointer z k p))
+      ((z : Option VectorSize) (k : Scalar) (p : AddressSpace) → P (Ti.ValuePointer z k p))
   pub array : On (has_key l 7) ((b : TypeNumber) (z : ArraySize) (n : ℕ) → P (Ti.Array b z n))
   pub struct : On (has_key l 8) ((m : MemberNumber) (n z : ℕ) → P (Ti.Struct m n z))
   pub image : On (has_key l 9) ((d : ImageDimension) (q : Bool) (c : ImageClass) → P (Ti.Image d q c))

@@ -1,59 +1,51 @@
 // The declarations of the source (ir/mod.rs, lines 324 to 1916), its names and its order, in the forms that document 01
-// asks for: a number type for each arena in the place of Handle<T>, enums by value, and an enum of its own for each
-// Option.
+// asks for: a number type for each arena in the place of Handle<T>, enums by value.
 #![tactic(auto)]
 
 pub mod methods;
 pub mod numbers;
 
 // The number of a type, counted from 0 within family 1.
-#[derive(Clone, Copy)]
+#[derive(Clone, Copy, PartialEq, Eq)]
 pub struct TypeNumber(pub u16);
 
 // The number of a member, counted from 0 within family 2.
-#[derive(Clone, Copy)]
+#[derive(Clone, Copy, PartialEq, Eq)]
 pub struct MemberNumber(pub u16);
 
 // The number of an item, counted from 0 within its kind.
-#[derive(Clone, Copy)]
+#[derive(Clone, Copy, PartialEq, Eq)]
 pub struct ItemNumber(pub u32);
 
 // The number of a row, counted from 0 within family 4.
-#[derive(Clone, Copy)]
+#[derive(Clone, Copy, PartialEq, Eq)]
 pub struct RowNumber(pub u16);
 
 // The number of a component, counted from 0 within family 5.
-#[derive(Clone, Copy)]
+#[derive(Clone, Copy, PartialEq, Eq)]
 pub struct ComponentNumber(pub u32);
 
-#[derive(Clone, Copy)]
+#[derive(Clone, Copy, PartialEq, Eq)]
 pub enum VectorSize {
-    Bi,
-    Tri,
-    Quad,
+    Bi = 2,
+    Tri = 3,
+    Quad = 4,
 }
 
-// The source's Option<VectorSize>.
-#[derive(Clone, Copy)]
-pub enum OptionVectorSize {
-    None,
-    Some(VectorSize),
-}
-
-#[derive(Clone, Copy)]
+#[derive(Clone, Copy, PartialEq, Eq)]
 pub enum CooperativeSize {
-    Eight,
-    Sixteen,
+    Eight = 8,
+    Sixteen = 16,
 }
 
-#[derive(Clone, Copy)]
+#[derive(Clone, Copy, PartialEq, Eq)]
 pub enum CooperativeRole {
     A,
     B,
     C,
 }
 
-#[derive(Clone, Copy)]
+#[derive(Clone, Copy, PartialEq, Eq)]
 pub enum ScalarKind {
     Sint,
     Uint,
@@ -64,15 +56,15 @@ pub enum ScalarKind {
 }
 
 // The width of a scalar in bytes, 1, 2, 4 or 8 (document 02, request 2). The source has any number of bytes, `Bytes`.
-#[derive(Clone, Copy)]
+#[derive(Clone, Copy, PartialEq, Eq)]
 pub enum Width {
-    One,
-    Two,
-    Four,
-    Eight,
+    One = 1,
+    Two = 2,
+    Four = 4,
+    Eight = 8,
 }
 
-#[derive(Clone, Copy)]
+#[derive(Clone, Copy, PartialEq, Eq)]
 pub struct Scalar {
     pub kind: ScalarKind,
     pub width: Width,
@@ -142,14 +134,14 @@ impl Scalar {
 }
 
 // The source's set of flags LOAD, STORE and ATOMIC.
-#[derive(Clone, Copy)]
+#[derive(Clone, Copy, PartialEq, Eq)]
 pub struct StorageAccess {
     pub load: bool,
     pub store: bool,
     pub atomic: bool,
 }
 
-#[derive(Clone, Copy)]
+#[derive(Clone, Copy, PartialEq, Eq)]
 pub enum AddressSpace {
     Function,
     Private,
@@ -163,22 +155,22 @@ pub enum AddressSpace {
     IncomingRayPayload,
 }
 
-#[derive(Clone, Copy)]
+#[derive(Clone, Copy, PartialEq, Eq)]
 pub enum ArraySize {
     Constant(u32),
     Pending(ItemNumber),
     Dynamic,
 }
 
-#[derive(Clone, Copy)]
+#[derive(Clone, Copy, PartialEq, Eq)]
 pub enum ImageDimension {
-    D1,
-    D2,
-    D3,
-    Cube,
+    D1 = 1,
+    D2 = 2,
+    D3 = 3,
+    Cube = 4,
 }
 
-#[derive(Clone, Copy)]
+#[derive(Clone, Copy, PartialEq, Eq)]
 pub enum StorageFormat {
     R8Unorm,
     R8Snorm,
@@ -223,7 +215,7 @@ pub enum StorageFormat {
     Rgba16Snorm,
 }
 
-#[derive(Clone, Copy)]
+#[derive(Clone, Copy, PartialEq, Eq)]
 pub enum ImageClass {
     Sampled {
         kind: ScalarKind,
@@ -240,7 +232,7 @@ pub enum ImageClass {
 }
 
 // The inner form of a type. A struct's members are the frames of family 2 from `first` on, `count` of them.
-#[derive(Clone, Copy)]
+#[derive(Clone, Copy, PartialEq, Eq)]
 pub enum TypeInner {
     Scalar(Scalar),
     Vector {
@@ -264,7 +256,7 @@ pub enum TypeInner {
         space: AddressSpace,
     },
     ValuePointer {
-        size: OptionVectorSize,
+        size: Option<VectorSize>,
         scalar: Scalar,
         space: AddressSpace,
     },
@@ -298,56 +290,21 @@ pub enum TypeInner {
     },
 }
 
-// A type of a file: of a kind that this reader knows, or not.
-#[derive(Clone, Copy)]
-pub enum TypeForm {
-    Known(TypeInner),
-    Unknown,
-}
-
 // The type of an expression: a type of the file, by number, or a value.
-#[derive(Clone, Copy)]
+#[derive(Clone, Copy, PartialEq, Eq)]
 pub enum TypeResolution {
     Handle(TypeNumber),
     Value(TypeInner),
 }
 
-// The source's Option<Scalar>.
-#[derive(Clone, Copy)]
-pub enum OptionScalar {
-    None,
-    Some(Scalar),
-}
-
-// The source's Option<AddressSpace>.
-#[derive(Clone, Copy)]
-pub enum OptionAddressSpace {
-    None,
-    Some(AddressSpace),
-}
-
-// The source's Option<TypeResolution>.
-#[derive(Clone, Copy)]
-pub enum OptionTypeResolution {
-    None,
-    Some(TypeResolution),
-}
-
-#[derive(Clone, Copy)]
+#[derive(Clone, Copy, PartialEq, Eq)]
 pub struct StructMember {
     pub ty: TypeNumber,
     pub offset: u32,
 }
 
-// The source's Option<FunctionResult>.
-#[derive(Clone, Copy)]
-pub enum FunctionResult {
-    None,
-    Some(TypeNumber),
-}
-
 // An item of a file, by the kinds of family 3. The source has an arena for each but the last two, its special types.
-#[derive(Clone, Copy)]
+#[derive(Clone, Copy, PartialEq, Eq)]
 pub enum Item {
     Unknown,
     Constant { ty: TypeNumber },
@@ -355,13 +312,13 @@ pub enum Item {
     GlobalVariable { ty: TypeNumber, space: AddressSpace },
     FunctionArgument { ty: TypeNumber },
     LocalVariable { ty: TypeNumber },
-    Function { result: FunctionResult },
+    Function { result: Option<TypeNumber> },
     RayIntersection { ty: TypeNumber },
     RayVertexReturn { ty: TypeNumber },
 }
 
 // A literal's kind; its value stands in no frame.
-#[derive(Clone, Copy)]
+#[derive(Clone, Copy, PartialEq, Eq)]
 pub enum Literal {
     F64,
     F32,
@@ -377,7 +334,7 @@ pub enum Literal {
     AbstractFloat,
 }
 
-#[derive(Clone, Copy)]
+#[derive(Clone, Copy, PartialEq, Eq)]
 pub enum BinaryOperator {
     Add,
     Subtract,
@@ -399,7 +356,7 @@ pub enum BinaryOperator {
     ShiftRight,
 }
 
-#[derive(Clone, Copy)]
+#[derive(Clone, Copy, PartialEq, Eq)]
 pub enum RelationalFunction {
     All,
     Any,
@@ -407,7 +364,7 @@ pub enum RelationalFunction {
     IsInf,
 }
 
-#[derive(Clone, Copy)]
+#[derive(Clone, Copy, PartialEq, Eq)]
 pub enum ImageQuery {
     Size,
     NumLevels,
@@ -415,16 +372,9 @@ pub enum ImageQuery {
     NumSamples,
 }
 
-// The source's Option<Bytes>.
-#[derive(Clone, Copy)]
-pub enum OptionBytes {
-    None,
-    Some(Width),
-}
-
 // A row's expression, with what a row's frame carries. A compose's components are the frames of family 5 from `first`
 // on, `count` of them.
-#[derive(Clone, Copy)]
+#[derive(Clone, Copy, PartialEq, Eq)]
 pub enum Expression {
     Literal(Literal),
     Constant(ItemNumber),
@@ -489,7 +439,7 @@ pub enum Expression {
     As {
         expr: RowNumber,
         kind: ScalarKind,
-        convert: OptionBytes,
+        convert: Option<Width>,
     },
     CallResult(ItemNumber),
     AtomicResult {
@@ -517,15 +467,8 @@ pub enum Expression {
     },
 }
 
-// A row of a file: of a kind that this reader knows, or not. Math is known, and is not typed.
-#[derive(Clone, Copy)]
-pub enum RowForm {
-    Known(Expression),
-    Unknown,
-}
-
 // The kind of a type, by the cases of TypeInner.
-#[derive(Clone, Copy)]
+#[derive(Clone, Copy, PartialEq, Eq)]
 pub enum TypeKind {
     Unknown,
     Scalar,
@@ -545,7 +488,7 @@ pub enum TypeKind {
 }
 
 // The kind of an item.
-#[derive(Clone, Copy)]
+#[derive(Clone, Copy, PartialEq, Eq)]
 pub enum ItemKind {
     Unknown,
     Constant,
@@ -559,7 +502,7 @@ pub enum ItemKind {
 }
 
 // The kind of a row, by the cases of Expression.
-#[derive(Clone, Copy)]
+#[derive(Clone, Copy, PartialEq, Eq)]
 pub enum RowKind {
     Unknown,
     Literal,

@@ -1,91 +1,72 @@
-// The source's proc/type_methods.rs, lines 138 to 218: the methods of TypeInner that take no types, and the equality of
-// scalars.
+// The source's proc/type_methods.rs, lines 138 to 218: the methods of TypeInner that take no types.
 ghost use Rattle.std.specs.Prelude.{◌≡◌};
-ghost use Rattle.ir.specs.Scalars.{equal_scalars};
 ghost use Rattle.ir.specs.Formats.{storage_scalar};
 ghost use Rattle.ir.specs.TypeMethods.{scalar_in, value_base, pointer_base};
 ghost use Rattle.ir.specs.ForProofs.{pointer_space};
 
-use super::{
-    OptionAddressSpace, OptionScalar, OptionTypeResolution, OptionVectorSize, Scalar,
-    StorageFormat, TypeInner, TypeResolution,
-};
+use super::{Scalar, StorageFormat, TypeInner, TypeResolution};
+use crate::{AddressSpace, VectorSize};
 
 // What a value pointer points to: a scalar, or a vector where it has a size.
-fn value_base(size: OptionVectorSize, scalar: Scalar) -> TypeInner
+fn value_base(size: Option<VectorSize>, scalar: Scalar) -> TypeInner
     ensures { result ≡ value_base size scalar }
 {
     match size {
-        OptionVectorSize::None => TypeInner::Scalar(scalar),
-        OptionVectorSize::Some(size) => TypeInner::Vector { size, scalar },
-    }
-}
-
-impl Scalar {
-    // Whether two scalars have the same kind and the same width.
-    pub fn equals(self, other: Scalar) -> bool
-        ensures { result ≡ equal_scalars self other }
-    {
-        let kind = self.kind;
-        let wanted = other.kind;
-        let width = self.width;
-        let asked = other.width;
-        (kind.number() == wanted.number()) & (width.number() == asked.number())
+        None => TypeInner::Scalar(scalar),
+        Some(size) => TypeInner::Vector { size, scalar },
     }
 }
 
 impl TypeInner {
     // The scalar of a scalar, vector, matrix or cooperative matrix.
-    pub fn scalar(self) -> OptionScalar
+    pub fn scalar(self) -> Option<Scalar>
         ensures { result ≡ scalar_in self }
     {
         match self {
-            TypeInner::Scalar(scalar) => OptionScalar::Some(scalar),
-            TypeInner::Vector { size: _, scalar } => OptionScalar::Some(scalar),
+            TypeInner::Scalar(scalar) => Some(scalar),
+            TypeInner::Vector { size: _, scalar } => Some(scalar),
             TypeInner::Matrix {
                 columns: _,
                 rows: _,
                 scalar,
-            } => OptionScalar::Some(scalar),
+            } => Some(scalar),
             TypeInner::CooperativeMatrix {
                 columns: _,
                 rows: _,
                 scalar,
                 role: _,
-            } => OptionScalar::Some(scalar),
-            _ => OptionScalar::None,
+            } => Some(scalar),
+            _ => None,
         }
     }
 
     // The space of a pointer.
-    pub fn pointer_space(self) -> OptionAddressSpace
+    pub fn pointer_space(self) -> Option<AddressSpace>
         ensures { result ≡ pointer_space self }
     {
         match self {
-            TypeInner::Pointer { base: _, space } => OptionAddressSpace::Some(space),
+            TypeInner::Pointer { base: _, space } => Some(space),
             TypeInner::ValuePointer {
                 size: _,
                 scalar: _,
                 space,
-            } => OptionAddressSpace::Some(space),
-            _ => OptionAddressSpace::None,
+            } => Some(space),
+            _ => None,
         }
     }
 
     // What a pointer points to.
-    pub fn pointer_base_type(self) -> OptionTypeResolution
+    pub fn pointer_base_type(self) -> Option<TypeResolution>
         ensures { result ≡ pointer_base self }
     {
         match self {
-            TypeInner::Pointer { base, space: _ } => OptionTypeResolution::Some(
-                TypeResolution::Handle(base),
-            ),
+            TypeInner::Pointer { base, space: _ } => Some(TypeResolution::Handle(base)),
             TypeInner::ValuePointer {
                 size,
                 scalar,
                 space: _,
-            } => OptionTypeResolution::Some(TypeResolution::Value(value_base(size, scalar))),
-            _ => OptionTypeResolution::None,
+            } => Some(TypeResolution::Value(value_base(size, scalar))),
+            _ => None,
         }
     }
 }

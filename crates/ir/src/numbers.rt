@@ -1,12 +1,12 @@
 // The numbers of kinds and cases (document 01, "The file"): each enum's cases are numbered in the source's order. A
 // byte that is no case's number gives the first case; which bytes may stand is the layout's to say.
-ghost use Rattle.std.specs.Prelude.{◌≡◌, ◌≤◌, eqb};
+ghost use Rattle.std.specs.Prelude.{◌≡◌, eqb};
 ghost use Rattle.ir.specs.declared.RowKind.TheVariants.{Compose};
 ghost use Rattle.ir.specs.Numbers.{type_kind_of, item_kind_of, row_kind_of, row_kind_number, vector_size_of};
 ghost use Rattle.ir.specs.Numbers.{vector_size_number, cooperative_role_of, cooperative_role_number, scalar_kind_of};
 ghost use Rattle.ir.specs.Numbers.{scalar_kind_number, image_dimension_of, image_dimension_number, storage_format_of};
 ghost use Rattle.ir.specs.Numbers.{storage_format_number, literal_of, binary_operator_of, relational_function_of};
-ghost use Rattle.ir.specs.Numbers.{image_query_of, flag_number, cooperative_size_of, cooperative_size_number, width_of};
+ghost use Rattle.ir.specs.Numbers.{image_query_of, cooperative_size_of, cooperative_size_number, width_of};
 ghost use Rattle.ir.specs.Numbers.{width_number, is_width, access_of, access_number, space_of, space_number};
 ghost use Rattle.ir.specs.Numbers.{space_access};
 
@@ -16,10 +16,10 @@ use super::{
     TypeKind, VectorSize, Width,
 };
 
-impl TypeKind {
-    pub fn from_number(n: u8) -> Self
-        ensures { result ≡ type_kind_of n }
-    {
+impl From<u8> for TypeKind {
+    ghost from_gives = { λ n x. x ≡ type_kind_of n };
+
+    fn from(n: u8) -> Self {
         match n {
             0 => TypeKind::Unknown,
             1 => TypeKind::Scalar,
@@ -41,10 +41,10 @@ impl TypeKind {
     }
 }
 
-impl ItemKind {
-    pub fn from_number(n: u8) -> Self
-        ensures { result ≡ item_kind_of n }
-    {
+impl From<u8> for ItemKind {
+    ghost from_gives = { λ n x. x ≡ item_kind_of n };
+
+    fn from(n: u8) -> Self {
         match n {
             0 => ItemKind::Unknown,
             1 => ItemKind::Constant,
@@ -67,10 +67,10 @@ pub fn is_compose(kind: u8) -> bool
     kind == 5
 }
 
-impl RowKind {
-    pub fn from_number(n: u8) -> Self
-        ensures { result ≡ row_kind_of n }
-    {
+impl From<u8> for RowKind {
+    ghost from_gives = { λ n x. x ≡ row_kind_of n };
+
+    fn from(n: u8) -> Self {
         match n {
             0 => RowKind::Unknown,
             1 => RowKind::Literal,
@@ -112,10 +112,10 @@ impl RowKind {
     }
 }
 
-impl VectorSize {
-    pub fn from_number(n: u8) -> Self
-        ensures { result ≡ vector_size_of n }
-    {
+impl From<u8> for VectorSize {
+    ghost from_gives = { λ n x. x ≡ vector_size_of n };
+
+    fn from(n: u8) -> Self {
         match n {
             2 => VectorSize::Bi,
             3 => VectorSize::Tri,
@@ -123,22 +123,28 @@ impl VectorSize {
             _ => VectorSize::Bi,
         }
     }
+}
 
-    pub fn number(self) -> u8
-        ensures { result ≡ vector_size_number self }
-    {
-        match self {
-            VectorSize::Bi => 2,
-            VectorSize::Tri => 3,
-            VectorSize::Quad => 4,
-        }
+impl From<VectorSize> for u8 {
+    ghost from_gives = { λ x n. n ≡ vector_size_number x };
+
+    fn from(x: VectorSize) -> u8 {
+        x as u8
     }
 }
 
-impl CooperativeRole {
-    pub fn from_number(n: u8) -> Self
-        ensures { result ≡ cooperative_role_of n }
-    {
+impl From<VectorSize> for u32 {
+    ghost from_gives = { λ x n. n ≡ vector_size_number x };
+
+    fn from(x: VectorSize) -> u32 {
+        x as u32
+    }
+}
+
+impl From<u8> for CooperativeRole {
+    ghost from_gives = { λ n x. x ≡ cooperative_role_of n };
+
+    fn from(n: u8) -> Self {
         match n {
             0 => CooperativeRole::A,
             1 => CooperativeRole::B,
@@ -146,22 +152,20 @@ impl CooperativeRole {
             _ => CooperativeRole::A,
         }
     }
+}
 
-    pub fn number(self) -> u8
-        ensures { result ≡ cooperative_role_number self }
-    {
-        match self {
-            CooperativeRole::A => 0,
-            CooperativeRole::B => 1,
-            CooperativeRole::C => 2,
-        }
+impl From<CooperativeRole> for u8 {
+    ghost from_gives = { λ x n. n ≡ cooperative_role_number x };
+
+    fn from(x: CooperativeRole) -> u8 {
+        x as u8
     }
 }
 
-impl ScalarKind {
-    pub fn from_number(n: u8) -> Self
-        ensures { result ≡ scalar_kind_of n }
-    {
+impl From<u8> for ScalarKind {
+    ghost from_gives = { λ n x. x ≡ scalar_kind_of n };
+
+    fn from(n: u8) -> Self {
         match n {
             0 => ScalarKind::Sint,
             1 => ScalarKind::Uint,
@@ -172,25 +176,20 @@ impl ScalarKind {
             _ => ScalarKind::Sint,
         }
     }
+}
 
-    pub fn number(self) -> u8
-        ensures { result ≡ scalar_kind_number self }
-    {
-        match self {
-            ScalarKind::Sint => 0,
-            ScalarKind::Uint => 1,
-            ScalarKind::Float => 2,
-            ScalarKind::Bool => 3,
-            ScalarKind::AbstractInt => 4,
-            ScalarKind::AbstractFloat => 5,
-        }
+impl From<ScalarKind> for u8 {
+    ghost from_gives = { λ x n. n ≡ scalar_kind_number x };
+
+    fn from(x: ScalarKind) -> u8 {
+        x as u8
     }
 }
 
-impl ImageDimension {
-    pub fn from_number(n: u8) -> Self
-        ensures { result ≡ image_dimension_of n }
-    {
+impl From<u8> for ImageDimension {
+    ghost from_gives = { λ n x. x ≡ image_dimension_of n };
+
+    fn from(n: u8) -> Self {
         match n {
             1 => ImageDimension::D1,
             2 => ImageDimension::D2,
@@ -199,23 +198,20 @@ impl ImageDimension {
             _ => ImageDimension::D1,
         }
     }
+}
 
-    pub fn number(self) -> u8
-        ensures { result ≡ image_dimension_number self }
-    {
-        match self {
-            ImageDimension::D1 => 1,
-            ImageDimension::D2 => 2,
-            ImageDimension::D3 => 3,
-            ImageDimension::Cube => 4,
-        }
+impl From<ImageDimension> for u8 {
+    ghost from_gives = { λ x n. n ≡ image_dimension_number x };
+
+    fn from(x: ImageDimension) -> u8 {
+        x as u8
     }
 }
 
-impl StorageFormat {
-    pub fn from_number(n: u8) -> Self
-        ensures { result ≡ storage_format_of n }
-    {
+impl From<u8> for StorageFormat {
+    ghost from_gives = { λ n x. x ≡ storage_format_of n };
+
+    fn from(n: u8) -> Self {
         match n {
             0 => StorageFormat::R8Unorm,
             1 => StorageFormat::R8Snorm,
@@ -261,60 +257,20 @@ impl StorageFormat {
             _ => StorageFormat::R8Unorm,
         }
     }
+}
 
-    pub fn number(self) -> u8
-        ensures { result ≡ storage_format_number self }
-    {
-        match self {
-            StorageFormat::R8Unorm => 0,
-            StorageFormat::R8Snorm => 1,
-            StorageFormat::R8Uint => 2,
-            StorageFormat::R8Sint => 3,
-            StorageFormat::R16Uint => 4,
-            StorageFormat::R16Sint => 5,
-            StorageFormat::R16Float => 6,
-            StorageFormat::Rg8Unorm => 7,
-            StorageFormat::Rg8Snorm => 8,
-            StorageFormat::Rg8Uint => 9,
-            StorageFormat::Rg8Sint => 10,
-            StorageFormat::R32Uint => 11,
-            StorageFormat::R32Sint => 12,
-            StorageFormat::R32Float => 13,
-            StorageFormat::Rg16Uint => 14,
-            StorageFormat::Rg16Sint => 15,
-            StorageFormat::Rg16Float => 16,
-            StorageFormat::Rgba8Unorm => 17,
-            StorageFormat::Rgba8Snorm => 18,
-            StorageFormat::Rgba8Uint => 19,
-            StorageFormat::Rgba8Sint => 20,
-            StorageFormat::Bgra8Unorm => 21,
-            StorageFormat::Rgb10a2Uint => 22,
-            StorageFormat::Rgb10a2Unorm => 23,
-            StorageFormat::Rg11b10Ufloat => 24,
-            StorageFormat::R64Uint => 25,
-            StorageFormat::Rg32Uint => 26,
-            StorageFormat::Rg32Sint => 27,
-            StorageFormat::Rg32Float => 28,
-            StorageFormat::Rgba16Uint => 29,
-            StorageFormat::Rgba16Sint => 30,
-            StorageFormat::Rgba16Float => 31,
-            StorageFormat::Rgba32Uint => 32,
-            StorageFormat::Rgba32Sint => 33,
-            StorageFormat::Rgba32Float => 34,
-            StorageFormat::R16Unorm => 35,
-            StorageFormat::R16Snorm => 36,
-            StorageFormat::Rg16Unorm => 37,
-            StorageFormat::Rg16Snorm => 38,
-            StorageFormat::Rgba16Unorm => 39,
-            StorageFormat::Rgba16Snorm => 40,
-        }
+impl From<StorageFormat> for u8 {
+    ghost from_gives = { λ x n. n ≡ storage_format_number x };
+
+    fn from(x: StorageFormat) -> u8 {
+        x as u8
     }
 }
 
-impl Literal {
-    pub fn from_number(n: u8) -> Self
-        ensures { result ≡ literal_of n }
-    {
+impl From<u8> for Literal {
+    ghost from_gives = { λ n x. x ≡ literal_of n };
+
+    fn from(n: u8) -> Self {
         match n {
             0 => Literal::F64,
             1 => Literal::F32,
@@ -333,10 +289,10 @@ impl Literal {
     }
 }
 
-impl BinaryOperator {
-    pub fn from_number(n: u8) -> Self
-        ensures { result ≡ binary_operator_of n }
-    {
+impl From<u8> for BinaryOperator {
+    ghost from_gives = { λ n x. x ≡ binary_operator_of n };
+
+    fn from(n: u8) -> Self {
         match n {
             0 => BinaryOperator::Add,
             1 => BinaryOperator::Subtract,
@@ -361,10 +317,10 @@ impl BinaryOperator {
     }
 }
 
-impl RelationalFunction {
-    pub fn from_number(n: u8) -> Self
-        ensures { result ≡ relational_function_of n }
-    {
+impl From<u8> for RelationalFunction {
+    ghost from_gives = { λ n x. x ≡ relational_function_of n };
+
+    fn from(n: u8) -> Self {
         match n {
             0 => RelationalFunction::All,
             1 => RelationalFunction::Any,
@@ -375,10 +331,10 @@ impl RelationalFunction {
     }
 }
 
-impl ImageQuery {
-    pub fn from_number(n: u8) -> Self
-        ensures { result ≡ image_query_of n }
-    {
+impl From<u8> for ImageQuery {
+    ghost from_gives = { λ n x. x ≡ image_query_of n };
+
+    fn from(n: u8) -> Self {
         match n {
             0 => ImageQuery::Size,
             1 => ImageQuery::NumLevels,
@@ -389,100 +345,88 @@ impl ImageQuery {
     }
 }
 
-// A flag is 0 or 1.
-pub fn flag_number(flag: bool) -> u8
-    ensures { (result ≡ flag_number flag) × (result ≤ 1) }
-{
-    if flag { 1 } else { 0 }
-}
+impl From<u8> for CooperativeSize {
+    ghost from_gives = { λ n x. x ≡ cooperative_size_of n };
 
-impl CooperativeSize {
-    pub fn from_number(n: u8) -> Self
-        ensures { result ≡ cooperative_size_of n }
-    {
-        if n == 16 {
-            CooperativeSize::Sixteen
-        } else {
-            CooperativeSize::Eight
+    fn from(n: u8) -> Self {
+        match n {
+            16 => CooperativeSize::Sixteen,
+            _ => CooperativeSize::Eight,
         }
     }
+}
 
-    pub fn number(self) -> u8
-        ensures { result ≡ cooperative_size_number self }
-    {
-        match self {
-            CooperativeSize::Eight => 8,
-            CooperativeSize::Sixteen => 16,
+impl From<CooperativeSize> for u8 {
+    ghost from_gives = { λ x n. n ≡ cooperative_size_number x };
+
+    fn from(x: CooperativeSize) -> u8 {
+        x as u8
+    }
+}
+
+impl From<u8> for Width {
+    ghost from_gives = { λ n x. x ≡ width_of n };
+
+    fn from(n: u8) -> Self {
+        match n {
+            2 => Width::Two,
+            4 => Width::Four,
+            8 => Width::Eight,
+            _ => Width::One,
         }
+    }
+}
+
+impl From<Width> for u8 {
+    ghost from_gives = { λ x n. n ≡ width_number x };
+
+    fn from(x: Width) -> u8 {
+        x as u8
     }
 }
 
 impl Width {
-    pub fn from_number(n: u8) -> Self
-        ensures { result ≡ width_of n }
-    {
-        if n == 2 {
-            Width::Two
-        } else {
-            if n == 4 {
-                Width::Four
-            } else {
-                if n == 8 { Width::Eight } else { Width::One }
-            }
-        }
-    }
-
-    pub fn number(self) -> u8
-        ensures { result ≡ width_number self }
-    {
-        match self {
-            Width::One => 1,
-            Width::Two => 2,
-            Width::Four => 4,
-            Width::Eight => 8,
-        }
-    }
-
     // Whether a width has this number.
     pub fn is_number(n: u8) -> bool
         ensures { result ≡ is_width n }
     {
-        (n == 1) | ((n == 2) | ((n == 4) | (n == 8)))
+        matches!(n, 1 | 2 | 4 | 8)
     }
 }
 
-impl StorageAccess {
-    pub fn from_number(n: u8) -> Self
-        ensures { result ≡ access_of n }
-    {
+impl From<u8> for StorageAccess {
+    ghost from_gives = { λ n x. x ≡ access_of n };
+
+    fn from(n: u8) -> Self {
         StorageAccess {
             load: n % 2 == 1,
             store: n / 2 % 2 == 1,
             atomic: n / 4 % 2 == 1,
         }
     }
+}
 
-    pub fn number(self) -> u8
-        ensures { result ≡ access_number self }
-    {
-        flag_number(self.load) + 2 * flag_number(self.store) + 4 * flag_number(self.atomic)
+impl From<StorageAccess> for u8 {
+    ghost from_gives = { λ x n. n ≡ access_number x };
+
+    fn from(x: StorageAccess) -> u8 {
+        u8::from(x.load) + 2 * u8::from(x.store) + 4 * u8::from(x.atomic)
     }
 }
 
-impl AddressSpace {
-    // The access counts in the storage space alone.
-    pub fn from_number(n: u8, access: u8) -> Self
-        ensures { result ≡ space_of n access }
-    {
+// A space's number, and its access. The access counts in the storage space alone.
+impl From<(u8, u8)> for AddressSpace {
+    ghost from_gives = { λ n x. x ≡ space_of n.0 n.1 };
+
+    fn from((n, access): (u8, u8)) -> Self {
         match n {
             0 => AddressSpace::Function,
             1 => AddressSpace::Private,
             2 => AddressSpace::WorkGroup,
             3 => AddressSpace::Uniform,
-            4 => {
-                let access = StorageAccess::from_number(access);
-                AddressSpace::Storage { access }
-            }
+            4 => AddressSpace::Storage {
+                access: StorageAccess::from(access),
+            },
             5 => AddressSpace::Handle,
             6 => AddressSpace::Immediate,
             7 => AddressSpace::TaskPayload,
@@ -491,38 +435,23 @@ impl AddressSpace {
             _ => AddressSpace::Function,
         }
     }
+}
 
-    pub fn number(self) -> u8
-        ensures { result ≡ space_number self }
-    {
-        match self {
-            AddressSpace::Function => 0,
-            AddressSpace::Private => 1,
-            AddressSpace::WorkGroup => 2,
-            AddressSpace::Uniform => 3,
-            AddressSpace::Storage { access: _ } => 4,
-            AddressSpace::Handle => 5,
-            AddressSpace::Immediate => 6,
-            AddressSpace::TaskPayload => 7,
-            AddressSpace::RayPayload => 8,
-            AddressSpace::IncomingRayPayload => 9,
-        }
-    }
+impl From<AddressSpace> for (u8, u8) {
+    ghost from_gives = { λ x n. n ≡ (space_number x, space_access x) };
 
-    pub fn access(self) -> u8
-        ensures { result ≡ space_access self }
-    {
-        match self {
-            AddressSpace::Function => 0,
-            AddressSpace::Private => 0,
-            AddressSpace::WorkGroup => 0,
-            AddressSpace::Uniform => 0,
-            AddressSpace::Storage { access } => access.number(),
-            AddressSpace::Handle => 0,
-            AddressSpace::Immediate => 0,
-            AddressSpace::TaskPayload => 0,
-            AddressSpace::RayPayload => 0,
-            AddressSpace::IncomingRayPayload => 0,
+    fn from(x: AddressSpace) -> (u8, u8) {
+        match x {
+            AddressSpace::Function => (0, 0),
+            AddressSpace::Private => (1, 0),
+            AddressSpace::WorkGroup => (2, 0),
+            AddressSpace::Uniform => (3, 0),
+            AddressSpace::Storage { access } => (4, u8::from(access)),
+            AddressSpace::Handle => (5, 0),
+            AddressSpace::Immediate => (6, 0),
+            AddressSpace::TaskPayload => (7, 0),
+            AddressSpace::RayPayload => (8, 0),
+            AddressSpace::IncomingRayPayload => (9, 0),
         }
     }
 }

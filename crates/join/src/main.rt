@@ -9,7 +9,7 @@
 
 ghost use Rattle.std.specs.Prelude.{◌≤◌, IfOk, length};
 
-use answers::{MAX_FRAME_BYTES, MAX_LIMIT, MAX_TEXT_BYTES, Printed};
+use answers::{MAX_FRAME_BYTES, MAX_LIMIT, MAX_TEXT_BYTES};
 use file_exports::put_joined;
 use file_join::join_files;
 use file_lines::put_lines;
@@ -26,7 +26,7 @@ fn print_number(rt: &impl Print, given: JoinedFile) -> io::Result<()> {
     let mut bytes = [0u8; 16];
     put_joined(&mut bytes, given);
     let mut line = [0u8; 33];
-    if let Printed::Bytes(_) = put_lines(&bytes, &mut line) {
+    if let Some(_) = put_lines(&bytes, &mut line) {
         rt.write_all(&line)?;
     }
     Ok(())

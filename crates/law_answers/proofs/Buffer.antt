@@ -1,6 +1,8 @@
 -- The answer buffer while rows are typed in order: it holds what was handed back so far, each row's answer at its
 -- place, so a rule that reads there comes to our outcome. Every answer of ours over an accepted file is one that the
 -- code has.
+use Rattle.std.specs.Prelude.{Ok, Err}
+use Rattle.answers.specs.declared.Unresolved.TheVariants as Un
 use Prim.Native.Nat.{ℕ, zero, suc, ◌≤◌, ◌<◌}
 use native.Mathlib.Omega.{arith}
 use mathlib.Core.Path.{◌≡◌, refl, sym, ap, ◌∙◌}
@@ -8,7 +10,6 @@ use mathlib.Core.List.{List, [], ◌∷◌, ◌++◌}
 use lib.ListN.{length}
 use Rattle.scan.specs.Lists.{build}
 use Rattle.ir.specs.declared.TypeResolution.TheVariants as Tr
-use Rattle.answers.specs.declared.Answer.TheVariants as An
 use Rattle.frames.specs.declared.Frame.{Frame}
 use Rattle.archive.specs.Starts.{starts_of, row_count}
 use Rattle.rule.specs.Answers.{TypeAnswer, number, value, malformed, Typed, given, refused, chosen_refusal, Place, row}
@@ -31,12 +32,12 @@ use Rattle.law_answers.proofs.Placed.{Placed, past_is, placed-more}
 
 -- an answer in range is one that the code has
 in-range-held : (pass : Pass) (fr : List ℕ) (n : ℕ) (x : Result Typed) → InRange pass fr n x → Held x
-in-range-held pass fr n (told (given (number t))) h = record { answer = An.Resolved (Tr.Handle t); is = refl }
-in-range-held pass fr n (told (given (value t))) h = record { answer = An.Resolved (Tr.Value t); is = refl }
+in-range-held pass fr n (told (given (number t))) h = record { answer = Ok (Tr.Handle t); is = refl }
+in-range-held pass fr n (told (given (value t))) h = record { answer = Ok (Tr.Value t); is = refl }
 in-range-held pass fr n (told (given (malformed f))) h = absurd h
-in-range-held pass fr n (told (refused e)) h = record { answer = An.Refused e; is = refl }
+in-range-held pass fr n (told (refused e)) h = record { answer = Err (Un.Refused e); is = refl }
 in-range-held pass fr n (told (chosen_refusal f)) h = absurd h
-in-range-held pass fr n (newer (row r)) h = record { answer = An.Newer r; is = refl }
+in-range-held pass fr n (newer (row r)) h = record { answer = Err (Un.Newer r); is = refl }
 in-range-held pass fr n (newer (component i)) h = absurd h
 in-range-held pass fr n (newer composed) h = absurd h
 in-range-held pass fr n (newer nowhere) h = absurd h

@@ -9,7 +9,7 @@ use lib.ListN.{length, get_or, length-append, get_or-append, get_or-eq_default}
 use lib.Seq.{get_or-append_seam, take_at}
 use borrow.Author.Tests.{lt-ltb, le-ltb}
 use Rattle.ir.specs.declared.RowNumber.{RowNumber}
-use Rattle.answers.specs.declared.Answer.{Answer}
+use Rattle.answers.specs.Answer.{Answer}
 use Rattle.frames.specs.declared.Frame.{Frame}
 use Rattle.frames.specs.Bytes.{bytes_of, frame_at, zero_frame}
 use Rattle.frames.specs.Out.{answer_frame}

@@ -1,5 +1,6 @@
 -- The answer buffer that check 3 asks for has room for what is handed back: each row of an accepted file is a line of
 -- family 4, and a compose one of kind 5.
+use Rattle.std.specs.Prelude.{Option as CodeOption, Some, None}
 use Prim.Native.Nat.{ℕ, zero, suc, ◌+◌, ◌*◌, ◌-◌, ◌/◌, ◌≤◌, ◌<◌}
 use native.Mathlib.Decide.{dec_lt}
 use native.Mathlib.Omega.{arith}
@@ -18,8 +19,6 @@ use Rattle.ir.specs.declared.RowKind.{RowKind}
 use Rattle.ir.specs.declared.RowKind.TheVariants as Rk
 use Rattle.ir.specs.declared.Expression.{Expression}
 use Rattle.ir.specs.declared.Expression.TheVariants as Ex
-use Rattle.ir.specs.declared.RowForm.{RowForm}
-use Rattle.ir.specs.declared.RowForm.TheVariants as Ro
 use Rattle.ir.specs.Numbers.{row_kind_of, row_kind_number}
 use Rattle.ir.proofs.Numbered.{row_kind-number, unknown-row}
 use Rattle.scan.specs.Lists.{sum_below}
@@ -88,7 +87,7 @@ shown-compose fr s (Ex.CooperativeLoad x0 x1 x2 x3) r h = never (cc)
 shown-compose fr s (Ex.CooperativeMultiplyAdd x0) r h = never (cc)
 
 only-compose : (k : RowKind) (f : Frame) (t : TypeNumber) (n : ℕ) (c : ComponentNumber) → row_as k f
-    ≡ Ro.Known (Ex.Compose t n c)
+    ≡ Some (Ex.Compose t n c)
     → k ≡ Rk.Compose
 only-compose Rk.Unknown f t n c e = never (cc)
 only-compose Rk.Literal f t n c e = never (cc)
@@ -126,7 +125,7 @@ only-compose Rk.SubgroupOperationResult f t n c e = never (cc)
 only-compose Rk.CooperativeLoad f t n c e = never (cc)
 only-compose Rk.CooperativeMultiplyAdd f t n c e = never (cc)
 
-compose-byte : (f : Frame) (t : TypeNumber) (n : ℕ) (c : ComponentNumber) → row_of f ≡ Ro.Known (Ex.Compose t n c)
+compose-byte : (f : Frame) (t : TypeNumber) (n : ℕ) (c : ComponentNumber) → row_of f ≡ Some (Ex.Compose t n c)
     → byte f 1 ≡ 5
 unfolding row_of
 compose-byte f t n c e = go (only-compose (row_kind_of (byte f 1)) f t n c e) (dec_lt (byte f 1) 35)
@@ -137,14 +136,14 @@ compose-byte f t n c e = go (only-compose (row_kind_of (byte f 1)) f t n c e) (d
         cc)
 
 module _ (fr : List ℕ) where
-  pub row-compose : (f : RowForm) (r : Rule Judgement) (k : Frame) → f ≡ row_of k
+  pub row-compose : (f : CodeOption Expression) (r : Rule Judgement) (k : Frame) → f ≡ row_of k
       → of_shown (see_row fr (starts_of fr) f)
       ≡ some r
       → byte k 1 ≡ 5
-  row-compose Ro.Unknown r k q h = never (cc)
-  row-compose (Ro.Known e) r k q h =
+  row-compose None r k q h = never (cc)
+  row-compose (Some e) r k q h =
       let c = shown-compose fr (starts_of fr) e r h in
-      compose-byte k c.ty c.count c.first (sym q ∙ ap Ro.Known c.is)
+      compose-byte k c.ty c.count c.first (sym q ∙ ap Some c.is)
 
   pub row_is : (n : RowNumber) → is_row (starts_of fr) n ≡ true → row_in fr (starts_of fr) n
       ≡ row_of (frame_at fr ((starts_of fr).rows + n.0))

@@ -1,11 +1,12 @@
 -- A file within two limits (document 02, request 7): the part, its marks and its lines are given alike at either. From
 -- `over-alike`.
+use Rattle.answers.specs.declared.FileError.{FileError}
 use Prim.Native.Nat.{ℕ, ◌*◌, ◌≤◌}
 use mathlib.Core.Path.{◌≡◌}
 use mathlib.Core.List.{List}
 use lib.ListN.{length}
 use Rattle.ir.specs.declared.RowNumber.{RowNumber}
-use Rattle.answers.specs.declared.Outcome.{Outcome}
+use Rattle.answers.specs.Outcome.{Outcome}
 use Rattle.text.specs.declared.AnswerRoom.TheVariants.{NotLent}
 use Rattle.text.specs.Reading.{most_frames}
 use Rattle.text.specs.Room.{short_read}
@@ -29,7 +30,7 @@ module _ (limit other : ℕ) (t : List ℕ) (a : length t ≤ 33 * most_frames l
   pub marks-alike : part_marks limit t f n ≡ part_marks other t f n
   unfolding part_marks
   marks-alike =
-      over-alike limit other t a b (λ (o : Outcome). no_marks)
+      over-alike limit other t a b (λ (e : FileError). no_marks)
       (λ (fr : List ℕ). if_marked (marks_of Pa.First fr n.0) no_marks (part_in n fr)) f NotLent
 
   pub cut-alike : (o : ℕ) → cut_text limit t f n o ≡ cut_text other t f n o
@@ -39,7 +40,7 @@ module _ (limit other : ℕ) (t : List ℕ) (a : length t ≤ 33 * most_frames l
   pub lines-alike : (out : List ℕ) → cut_after limit t f n out ≡ cut_after other t f n out
   unfolding cut_after
   lines-alike out =
-      over-alike limit other t a b (λ (o : Outcome). out)
+      over-alike limit other t a b (λ (e : FileError). out)
       (λ (fr : List ℕ). if_marked (printed_after (part_text n fr) out) out (part_in n fr)) f NotLent
 
   -- as they are exported

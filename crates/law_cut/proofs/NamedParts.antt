@@ -1,5 +1,9 @@
 -- The parts of the rules of rows: what each gives by the form of a type names no row but the operand that it is
 -- handed. By cases on the form, or by the selectors.
+use Rattle.std.specs.Prelude.{Option as CodeOption, Some, None}
+use Rattle.ir.specs.declared.Width.{Width}
+use Rattle.ir.specs.declared.TypeResolution.{TypeResolution}
+use Rattle.ir.specs.declared.VectorSize.{VectorSize}
 use Prim.Native.Nat.{ℕ}
 use mathlib.Core.Bool.{Bool, true, false, cond}
 use mathlib.Core.List.{List}
@@ -9,21 +13,12 @@ use lib.ListN.{get_elem?}
 use Rattle.scan.proofs.Laws.{by-test}
 use Rattle.ir.specs.declared.TypeNumber.{TypeNumber}
 use Rattle.ir.specs.declared.RowNumber.{RowNumber}
-use Rattle.ir.specs.declared.OptionVectorSize.{OptionVectorSize}
-use Rattle.ir.specs.declared.OptionVectorSize.TheVariants as Ov
 use Rattle.ir.specs.declared.CooperativeSize.{CooperativeSize}
 use Rattle.ir.specs.declared.CooperativeRole.{CooperativeRole}
 use Rattle.ir.specs.declared.Scalar.{Scalar}
 use Rattle.ir.specs.declared.AddressSpace.{AddressSpace}
 use Rattle.ir.specs.declared.AddressSpace.TheVariants as Sp
-use Rattle.ir.specs.declared.FunctionResult.{FunctionResult}
-use Rattle.ir.specs.declared.FunctionResult.TheVariants as Fr
 use Rattle.ir.specs.declared.ScalarKind.{ScalarKind}
-use Rattle.ir.specs.declared.OptionBytes.{OptionBytes}
-use Rattle.ir.specs.declared.OptionScalar.{OptionScalar}
-use Rattle.ir.specs.declared.OptionScalar.TheVariants as Os
-use Rattle.ir.specs.declared.OptionTypeResolution.{OptionTypeResolution}
-use Rattle.ir.specs.declared.OptionTypeResolution.TheVariants as Ot
 use Rattle.ir.specs.declared.TypeInner.{TypeInner}
 use Rattle.ir.specs.declared.TypeInner.TheVariants as Ti
 use Rattle.ir.specs.Scalars.{BOOL, equal_scalars}
@@ -107,15 +102,15 @@ module _ (N : ℕ → Type 0) where
   pointer-names base i p (some t) h = tt
   pointer-names base i p none h = h
 
-  component-names : (base : RowNumber) (k : Scalar) (p : AddressSpace) (z : OptionVectorSize) → N base.0
+  component-names : (base : RowNumber) (k : Scalar) (p : AddressSpace) (z : CodeOption VectorSize) → N base.0
       → TypedNames N (access_component base k p z)
-  component-names base k p (Ov.Some z) h = tt
-  component-names base k p Ov.None h = h
+  component-names base k p (Some z) h = tt
+  component-names base k p None h = h
 
-  index-component : (base : RowNumber) (i : ℕ) (k : Scalar) (p : AddressSpace) (z : OptionVectorSize) → N base.0
+  index-component : (base : RowNumber) (i : ℕ) (k : Scalar) (p : AddressSpace) (z : CodeOption VectorSize) → N base.0
       → TypedNames N (index_component base i k p z)
-  index-component base i k p (Ov.Some z) h = bounded-names base i _ _ h
-  index-component base i k p Ov.None h = h
+  index-component base i k p (Some z) h = bounded-names base i _ _ h
+  index-component base i k p None h = h
 
   pub access-into : (base : RowNumber) (t : TypeInner) → N base.0 → TypedNames N (access_into base t)
   access-into base t h =
@@ -149,14 +144,14 @@ module _ (N : ℕ → Type 0) where
       (by-struct (TypedNames N) t (pointer-names base i p (get_elem? l i) h)
       (any-binding (TypedNames N) t (λ b. tt) tt))))
 
-  pub loaded-names : (n : RowNumber) (o : OptionTypeResolution) → N n.0 → TypedNames N (loaded n o)
-  loaded-names n (Ot.Some r) h = tt
-  loaded-names n Ot.None h = h
+  pub loaded-names : (n : RowNumber) (o : CodeOption TypeResolution) → N n.0 → TypedNames N (loaded n o)
+  loaded-names n (Some r) h = tt
+  loaded-names n None h = h
 
-  pub cooperative-names : (c r : CooperativeSize) (o : CooperativeRole) (n : RowNumber) (k : OptionScalar) → N n.0
+  pub cooperative-names : (c r : CooperativeSize) (o : CooperativeRole) (n : RowNumber) (k : CodeOption Scalar) → N n.0
       → TypedNames N (cooperative_of c r o n k)
-  cooperative-names c r o n (Os.Some k) h = tt
-  cooperative-names c r o n Os.None h = h
+  cooperative-names c r o n (Some k) h = tt
+  cooperative-names c r o n None h = h
 
   pub variable-names : (t : TypeNumber) (p : AddressSpace) → TypedNames N (variable t p)
   variable-names t Sp.Handle = tt
@@ -174,9 +169,9 @@ module _ (N : ℕ → Type 0) where
   argument-names i (some t) = tt
   argument-names i none = tt
 
-  pub result-names : (r : FunctionResult) → TypedNames N (result_of r)
-  result-names (Fr.Some t) = tt
-  result-names Fr.None = tt
+  pub result-names : (r : CodeOption TypeNumber) → TypedNames N (result_of r)
+  result-names (Some t) = tt
+  result-names None = tt
 
   pub special-names : (o : Option TypeNumber) → TypedNames N (special o)
   special-names (some t) = tt
@@ -209,6 +204,6 @@ module _ (N : ℕ → Type 0) where
   pub logical-names : (t : TypeInner) → TypedNames N (logical_of t)
   logical-names t = by_scalar (TypedNames N) t (λ k. equal-names (equal_scalars k BOOL)) tt
 
-  pub cast-names : (to : ScalarKind) (w : OptionBytes) (t : TypeInner) → TypedNames N (cast_of to w t)
+  pub cast-names : (to : ScalarKind) (w : CodeOption Width) (t : TypeInner) → TypedNames N (cast_of to w t)
   cast-names to w t = by_scalar (TypedNames N) t (λ k. tt)
       (by-vector (TypedNames N) t (λ z k. tt) (by-matrix (TypedNames N) t (λ c r k. tt) tt))

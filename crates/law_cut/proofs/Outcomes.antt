@@ -1,6 +1,8 @@
 -- WHICH OUTCOME: it is read off the frame that `row_type` hands back of the row. A refusal's frame, family 10, 22
 -- too, is marked; a type's is sound, number 48; number 6 in place of a frame is number 6. Where nothing is marked no
 -- mark is set. The lines that `cut_text` writes are the cut's, so what holds of these holds of what is in the buffer.
+use Rattle.answers.specs.declared.FileError.{FileError}
+use Rattle.std.specs.Prelude.{Ok, Err}
 use Prim.Native.Nat.{ℕ, ◌*◌, ◌≤◌}
 use native.Mathlib.Omega.{arith}
 use mathlib.Core.Path.{◌≡◌, refl, sym, ap, ◌∙◌}
@@ -11,8 +13,7 @@ use lib.ListN.{length, take, drop}
 use lib.Seq.{take_at}
 use borrow.Author.Tests.{ltb-true}
 use Rattle.ir.specs.declared.RowNumber.{RowNumber}
-use Rattle.answers.specs.declared.Outcome.{Outcome}
-use Rattle.answers.specs.declared.Outcome.TheVariants.{Accepted, Long, Torn, Short, Order, Field, Index}
+use Rattle.answers.specs.Outcome.{Outcome}
 use Rattle.answers.specs.Numbers.{SaidOne, asked, instead}
 use Rattle.text.specs.declared.AnswerRoom.TheVariants.{NotLent, Lent}
 use Rattle.text.specs.Lines.{line_count, decoded}
@@ -76,7 +77,7 @@ part-is n fr good = go (is_row (starts_of fr) n) refl
     go false q = rw q
 
 -- of a text that is accepted with an answer buffer of a bytes
-pub outcome-is : (limit : ℕ) (t : List ℕ) (f a c : ℕ) (n : RowNumber) → read_file limit t f (Lent a) ≡ Accepted c
+pub outcome-is : (limit : ℕ) (t : List ℕ) (f a c : ℕ) (n : RowNumber) → read_file limit t f (Lent a) ≡ Ok c
     → smallest_part limit t f n ≡ by_said (row_said (row_type Pa.First limit t f a n))
 unfolding smallest_part row_type
 outcome-is limit t f a c n e =
@@ -85,16 +86,10 @@ outcome-is limit t f a c n e =
     (part-is n (decoded t c) (record { order = x.order; fields = x.fields; index = x.index }))
 
 -- a text that is not accepted gives its own number
-pub outcome-refused : (limit : ℕ) (t : List ℕ) (f : ℕ) (n : RowNumber) (o : Outcome) → read_file limit t f NotLent ≡ o
-    → ((c : ℕ) → o ≡ Accepted c → ⊥) → smallest_part limit t f n ≡ Po.NotAccepted o
+pub outcome-refused : (limit : ℕ) (t : List ℕ) (f : ℕ) (n : RowNumber) (x : FileError)
+    → read_file limit t f NotLent ≡ Err x → smallest_part limit t f n ≡ Po.NotAccepted x
 unfolding smallest_part
-outcome-refused limit t f n (Accepted c) e h = absurd (h c refl)
-outcome-refused limit t f n (Long m) e h = rw e
-outcome-refused limit t f n (Torn k) e h = rw e
-outcome-refused limit t f n Short e h = rw e
-outcome-refused limit t f n (Order k) e h = rw e
-outcome-refused limit t f n (Field k) e h = rw e
-outcome-refused limit t f n (Index k) e h = rw e
+outcome-refused limit t f n x e = rw e
 
 -- THE MARKS WITH A NUMBER: none is set
 
@@ -106,16 +101,11 @@ unmarked marks (Po.NotAccepted o) h = refl
 
 unmarked-over : (t : List ℕ) (n : RowNumber) (o : Outcome)
     → (over_file Po.NotAccepted (part_in n) t o ≡ Po.Marked → ⊥)
-    → over_file (λ (x : Outcome). no_marks)
+    → over_file (λ (x : FileError). no_marks)
     (λ (fr : List ℕ). if_marked (marks_of Pa.First fr n.0) no_marks (part_in n fr)) t o
     ≡ no_marks
-unmarked-over t n (Accepted c) h = unmarked (marks_of Pa.First (decoded t c) n.0) (part_in n (decoded t c)) h
-unmarked-over t n (Long m) h = refl
-unmarked-over t n (Torn k) h = refl
-unmarked-over t n Short h = refl
-unmarked-over t n (Order k) h = refl
-unmarked-over t n (Field k) h = refl
-unmarked-over t n (Index k) h = refl
+unmarked-over t n (Ok c) h = unmarked (marks_of Pa.First (decoded t c) n.0) (part_in n (decoded t c)) h
+unmarked-over t n (Err x) h = refl
 
 pub no-mark : (limit : ℕ) (t : List ℕ) (f : ℕ) (n : RowNumber) → (smallest_part limit t f n ≡ Po.Marked → ⊥)
     → part_marks limit t f n ≡ no_marks
@@ -156,7 +146,7 @@ front_of n fr out k x =
     (length-text (part_file n fr) (frame_count (part_file n fr)) ∙ ap (λ (j : ℕ). 33 * j) (sym x.lines)))
 
 wrote-over : (limit : ℕ) (t : List ℕ) (f : ℕ) (n : RowNumber) (out : List ℕ) (k c : ℕ)
-    → read_file limit t f NotLent ≡ Accepted c → c ≡ line_count t → cut_in n (length out) (decoded t c) ≡ Ct.Lines k
+    → read_file limit t f NotLent ≡ Ok c → c ≡ line_count t → cut_in n (length out) (decoded t c) ≡ Ct.Lines k
     → Wrote limit t f n out k
 unfolding smallest_part cut_after
 wrote-over limit t f n out k c e q h =
@@ -176,22 +166,17 @@ wrote limit t f n out k e = go (read_file limit t f NotLent) refl e
     go : (o : Outcome) → read_file limit t f NotLent ≡ o → over_file Ct.NotAccepted (cut_in n (length out)) t o
         ≡ Ct.Lines k
         → Wrote limit t f n out k
-    go (Accepted c) q h = wrote-over limit t f n out k c q (lines_are limit t f NotLent c q) h
-    go (Long m) q h = never (cc)
-    go (Torn j) q h = never (cc)
-    go Short q h = never (cc)
-    go (Order j) q h = never (cc)
-    go (Field j) q h = never (cc)
-    go (Index j) q h = never (cc)
+    go (Ok c) q h = wrote-over limit t f n out k c q (lines_are limit t f NotLent c q) h
+    go (Err x) q h = never (cc)
 
 module _ (limit : ℕ) (t : List ℕ) (f : ℕ) (n : RowNumber) (out : List ℕ) (k : ℕ)
     (e : cut_text limit t f n (length out) ≡ Ct.Lines k) where
   -- THE LINES IN THE BUFFER ARE ACCEPTED, with any frame buffer of 16 bytes a line
   pub written-accepted : (g : ℕ) → 16 * k ≤ g → read_file limit (take (33 * k) (cut_after limit t f n out)) g NotLent
-      ≡ Accepted k
+      ≡ Ok k
   written-accepted g room =
       let w = wrote limit t f n out k e in
-      rw w.text (cut-accepted limit t f n w.marked g (omega (arith, w.lines)) ∙ ap Accepted (sym w.lines))
+      rw w.text (cut-accepted limit t f n w.marked g (omega (arith, w.lines)) ∙ ap Ok (sym w.lines))
 
   -- AND THEY SHOW THE REFUSAL: `row_type` hands back of the row there the frame that it hands back of the whole text,
   -- moved; x is that frame, with any buffers that suffice

@@ -1,5 +1,6 @@
 -- THE SMALLEST PART of a file that shows a refusal (document 02, request 12), put together: the cut to the marks of a
 -- row is accepted, and has no more frames than the file. A row that names rows reads one, so it is not the cut's first.
+use Rattle.std.specs.Prelude.{Ok, Some, Option, None}
 use Prim.Native.Nat.{ℕ, ◌+◌, ◌≤◌, ◌<◌}
 use native.Mathlib.Omega.{arith}
 use mathlib.Core.Path.{◌≡◌}
@@ -14,9 +15,6 @@ use Rattle.ir.specs.declared.RelationalFunction.{RelationalFunction}
 use Rattle.ir.specs.declared.RelationalFunction.TheVariants as Rf
 use Rattle.ir.specs.declared.Expression.{Expression}
 use Rattle.ir.specs.declared.Expression.TheVariants as Ex
-use Rattle.ir.specs.declared.RowForm.{RowForm}
-use Rattle.ir.specs.declared.RowForm.TheVariants as Ro
-use Rattle.answers.specs.declared.Outcome.TheVariants.{Accepted}
 use Rattle.answers.specs.Limit.{max_frames}
 use Rattle.frames.specs.Bytes.{frame_at, frame_count}
 use Rattle.frames.specs.Forms.{row_of}
@@ -43,26 +41,26 @@ use Rattle.law_cut.proofs.Accepted.{cut-good}
 
 module _ (us : Answers) where
   -- there is a row among those that these operands lead to
-  abbrev Some : List RowNumber → Type 0
-  Some l = (r : ℕ) × In r (numbers (read_to us l))
+  abbrev AnyRow : List RowNumber → Type 0
+  AnyRow l = (r : ℕ) × In r (numbers (read_to us l))
 
-  sample-some : (n : RowNumber) (g : Bool) → Some (sample_reads n g).operands
+  sample-some : (n : RowNumber) (g : Bool) → AnyRow (sample_reads n g).operands
   sample-some n true = (n.0, first)
   sample-some n false = (n.0, first)
 
-  query-some : (n : RowNumber) (q : ImageQuery) → NamesQueried q → Some (query_reads n q).operands
+  query-some : (n : RowNumber) (q : ImageQuery) → NamesQueried q → AnyRow (query_reads n q).operands
   query-some n Iq.Size h = (n.0, first)
   query-some n Iq.NumLevels h = absurd h
   query-some n Iq.NumLayers h = absurd h
   query-some n Iq.NumSamples h = absurd h
 
-  relational-some : (f : RelationalFunction) (n : RowNumber) → NamesRelated f → Some (relational_reads f n).operands
+  relational-some : (f : RelationalFunction) (n : RowNumber) → NamesRelated f → AnyRow (relational_reads f n).operands
   relational-some Rf.All n h = absurd h
   relational-some Rf.Any n h = absurd h
   relational-some Rf.IsNan n h = (n.0, first)
   relational-some Rf.IsInf n h = (n.0, first)
 
-  binary-some : (op : BinaryOperator) (l r : RowNumber) → Some (binary_reads op l r).operands
+  binary-some : (op : BinaryOperator) (l r : RowNumber) → AnyRow (binary_reads op l r).operands
   binary-some Bo.Add l r = (l.0, first)
   binary-some Bo.Subtract l r = (l.0, first)
   binary-some Bo.Multiply l r = (l.0, first)
@@ -82,13 +80,13 @@ module _ (us : Answers) where
   binary-some Bo.ShiftLeft l r = (l.0, first)
   binary-some Bo.ShiftRight l r = (l.0, first)
 
-  binary-by-some : (pass : Pass) (op : BinaryOperator) (l r : RowNumber) → Some (binary_reads_by pass op l r).operands
+  binary-by-some : (pass : Pass) (op : BinaryOperator) (l r : RowNumber) → AnyRow (binary_reads_by pass op l r).operands
   binary-by-some Pa.First op l r = binary-some op l r
   binary-by-some Pa.Second op l r = (l.0, first)
 
   module _ (pass : Pass) (fr : List ℕ) where
     -- a row that names rows reads one
-    expression-some : (e : Expression) → NamesRow e → Some (operands_of pass (shown fr (starts_of fr) e))
+    expression-some : (e : Expression) → NamesRow e → AnyRow (operands_of pass (shown fr (starts_of fr) e))
     expression-some (Ex.Literal l) h = absurd h
     expression-some (Ex.Constant i) h = absurd h
     expression-some (Ex.Override i) h = absurd h
@@ -124,9 +122,9 @@ module _ (us : Answers) where
     expression-some (Ex.CooperativeLoad c r o n) h = (n.0, first)
     expression-some (Ex.CooperativeMultiplyAdd n) h = (n.0, first)
 
-    form-some : (r : RowForm) → FormNamesRow r → Some (operands_of pass (see_row fr (starts_of fr) r))
-    form-some (Ro.Known e) h = expression-some e h
-    form-some Ro.Unknown h = absurd h
+    form-some : (r : Option Expression) → FormNamesRow r → AnyRow (operands_of pass (see_row fr (starts_of fr) r))
+    form-some (Some e) h = expression-some e h
+    form-some None h = absurd h
 
 module _ (pass : Pass) (fr : List ℕ) (good : Good fr) (n : ℕ) (there : n < row_count (starts_of fr))
     (few : row_count (starts_of fr) ≤ max_marks) where
@@ -158,5 +156,5 @@ module _ (pass : Pass) (fr : List ℕ) (good : Good fr) (n : ℕ) (there : n < r
       let c = (starts-ordered fr).components in let d = (begins fr 1280).within in omega arith
 
   pub part-accepted : frame_count fr ≤ max_frames → check_frames (cut_file (marks_of pass fr n) fr)
-      ≡ Accepted (frame_count (cut_file (marks_of pass fr n) fr))
+      ≡ Ok (frame_count (cut_file (marks_of pass fr n) fr))
   part-accepted l = let a = part-few in (good-when (cut_file marks fr) (omega arith)).1 part-good

@@ -1,6 +1,8 @@
 -- OF THE PUBLIC FUNCTIONS, over any text, limit and buffers: where the smallest part of a row is marked, the lines of
 -- the cut are accepted, and the frame that `row_type` gives of the row there is the one that it gives in the whole
 -- file, with its numbers moved. A marked text was accepted, so its frames pass the checks, and the laws of frames hold.
+use Rattle.answers.specs.declared.FileError.{FileError}
+use Rattle.std.specs.Prelude.{Ok, Err}
 use Prim.Native.Nat.{ℕ, ◌*◌, ◌≤◌, ◌<◌}
 use native.Mathlib.Omega.{arith}
 use mathlib.Core.Path.{◌≡◌, refl, sym, ap, ◌∙◌, subst}
@@ -9,8 +11,7 @@ use mathlib.Core.List.{List}
 use mathlib.Core.Logic.{◌⊎◌, ◌↔◌}
 use borrow.Author.Tests.{ltb-true, lt-ltb}
 use Rattle.ir.specs.declared.RowNumber.{RowNumber}
-use Rattle.answers.specs.declared.Outcome.{Outcome}
-use Rattle.answers.specs.declared.Outcome.TheVariants.{Accepted, Long, Torn, Short, Order, Field, Index}
+use Rattle.answers.specs.Outcome.{Outcome}
 use Rattle.answers.specs.Numbers.{asked}
 use Rattle.text.specs.declared.AnswerRoom.TheVariants.{NotLent, Lent}
 use Rattle.text.specs.Lines.{line_count, decoded}
@@ -53,18 +54,13 @@ never z = absurd (omega arith)
 -- how many frames an outcome of marks was given over
 record Given (n : RowNumber) (t : List ℕ) (o : Outcome) : Type 0 where
   frames : ℕ
-  accepted : o ≡ Accepted frames
+  accepted : o ≡ Ok frames
   marked : part_in n (decoded t frames) ≡ Po.Marked
 
 given-when : (n : RowNumber) (t : List ℕ) (o : Outcome) → over_file Po.NotAccepted (part_in n) t o ≡ Po.Marked
     → Given n t o
-given-when n t (Accepted c) e = record { frames = c; accepted = refl; marked = e }
-given-when n t (Long m) e = never (cc)
-given-when n t (Torn k) e = never (cc)
-given-when n t Short e = never (cc)
-given-when n t (Order k) e = never (cc)
-given-when n t (Field k) e = never (cc)
-given-when n t (Index k) e = never (cc)
+given-when n t (Ok c) e = record { frames = c; accepted = refl; marked = e }
+given-when n t (Err x) e = never (cc)
 
 there-when : (n : RowNumber) (fr : List ℕ) → part_in n fr ≡ Po.Marked → n.0 < row_count (starts_of fr)
 there-when n fr e = ltb-true n.0 (row_count (starts_of fr)) (go (is_row (starts_of fr) n) refl)
@@ -84,16 +80,11 @@ given-said fr k x e = go (is_row (starts_of fr) k) refl
 
 said-over : (t : List ℕ) (k : RowNumber) (x : Frame) (o : Outcome)
     → row_said (over_file not_accepted (row_given Pa.First k) t o) ≡ asked x
-    → ((c : ℕ) → o ≡ Accepted c → c ≡ line_count t) → row_frame (row_answer Pa.First (see (text_frames t)) k.0) ≡ x
-said-over t k x (Accepted c) e h =
+    → ((c : ℕ) → o ≡ Ok c → c ≡ line_count t) → row_frame (row_answer Pa.First (see (text_frames t)) k.0) ≡ x
+said-over t k x (Ok c) e h =
     subst (λ (j : ℕ). row_frame (row_answer Pa.First (see (decoded t j)) k.0) ≡ x) (h c refl)
     (given-said (decoded t c) k x e)
-said-over t k x (Long m) e h = never (cc)
-said-over t k x (Torn j) e h = never (cc)
-said-over t k x Short e h = never (cc)
-said-over t k x (Order j) e h = never (cc)
-said-over t k x (Field j) e h = never (cc)
-said-over t k x (Index j) e h = never (cc)
+said-over t k x (Err y) e h = never (cc)
 
 frame-of : (limit : ℕ) (t : List ℕ) (f a : ℕ) (k : RowNumber) (x : Frame)
     → row_said (row_type Pa.First limit t f a k) ≡ asked x
@@ -115,8 +106,8 @@ module _ (limit : ℕ) (t : List ℕ) (f : ℕ) (n : RowNumber) (marked : smalle
   lines = lines_are limit t f NotLent of-text.frames of-text.accepted
 
   -- the text is accepted
-  pub text-read : read_file limit t f NotLent ≡ Accepted (line_count t)
-  text-read = of-text.accepted ∙ ap Accepted lines
+  pub text-read : read_file limit t f NotLent ≡ Ok (line_count t)
+  text-read = of-text.accepted ∙ ap Ok lines
 
   -- the row is refused, or newer
   pub row-marked : part_in n (text_frames t) ≡ Po.Marked
@@ -135,7 +126,7 @@ module _ (limit : ℕ) (t : List ℕ) (f : ℕ) (n : RowNumber) (marked : smalle
   pub marks-of : part_marks limit t f n ≡ marks_of Pa.First (text_frames t) n.0
   unfolding part_marks
   marks-of =
-      ap (over_file (λ (o : Outcome). no_marks)
+      ap (over_file (λ (e : FileError). no_marks)
       (λ (x : List ℕ). if_marked (marks_of Pa.First x n.0) no_marks (part_in n x)) t) text-read
       ∙ ap (if_marked marks no_marks) row-marked
 
@@ -163,7 +154,7 @@ module _ (limit : ℕ) (t : List ℕ) (f : ℕ) (n : RowNumber) (marked : smalle
 
   -- THE LINES OF THE CUT are accepted, with any frame buffer of 16 bytes a frame
   pub cut-accepted : (g : ℕ) → 16 * frame_count (part_file n (text_frames t)) ≤ g
-      → read_file limit (part_text n (text_frames t)) g NotLent ≡ Accepted (frame_count (part_file n (text_frames t)))
+      → read_file limit (part_text n (text_frames t)) g NotLent ≡ Ok (frame_count (part_file n (text_frames t)))
   cut-accepted g room = part-read Pa.First fr file.good file.bytes n.0 there file.few limit g file.within
       room
 

@@ -1,5 +1,6 @@
 -- THE CUT AS LINES: they are read back as the cut's frames, and accepted within every limit that the file is within. No
 -- number of the cut is higher than it was, so each fits its bytes.
+use Rattle.std.specs.Prelude.{Ok}
 use Prim.Native.Nat.{ℕ, ◌+◌, ◌-◌, ◌*◌, ◌≤◌, ◌<◌}
 use native.Mathlib.Decide.{dec_lt}
 use native.Mathlib.Omega.{arith}
@@ -8,7 +9,6 @@ use mathlib.Core.Bool.{Bool}
 use mathlib.Core.List.{List}
 use Rattle.scan.proofs.Laws.{by-test}
 use Rattle.ir.specs.Numbers.{row_kind_of}
-use Rattle.answers.specs.declared.Outcome.TheVariants.{Accepted}
 use Rattle.frames.specs.declared.Frame.{Frame}
 use Rattle.frames.specs.Bytes.{byte, frame_at, frame_count}
 use Rattle.frames.proofs.FieldBack.{Below}
@@ -76,11 +76,11 @@ module _ (pass : Pass) (fr : List ℕ) (good : Good fr) (bytes : Bytes fr) (n : 
     (within : frame_count fr ≤ most_frames limit) (room : 16 * frame_count (cut_file (marks_of pass fr n) fr) ≤ f) where
   pub part-read : read_file limit
       (text_of (cut_file (marks_of pass fr n) fr) (frame_count (cut_file (marks_of pass fr n) fr))) f NotLent
-      ≡ Accepted (frame_count (cut_file (marks_of pass fr n) fr))
+      ≡ Ok (frame_count (cut_file (marks_of pass fr n) fr))
   part-read =
       let l = cut_frames (marks_of pass fr n) fr in
       let c = file-count l in
       let d = part-few pass fr good n there few in
-      subst (λ (k : ℕ). read_file limit (text_of (frames_bytes l) k) f NotLent ≡ Accepted k) (sym c)
+      subst (λ (k : ℕ). read_file limit (text_of (frames_bytes l) k) f NotLent ≡ Ok k) (sym c)
       (written-accepted l (part-good pass fr good n there few) (cut-bytes (marks_of pass fr n) fr good bytes) limit f
       (omega arith) (omega arith))

@@ -3,7 +3,7 @@
 use Rattle.std.specs.Prelude.{ℕ, Bool, cond, List, ◌++◌, ltb, length, drop}
 use Rattle.scan.specs.Lists.{build}
 use Rattle.ir.specs.declared.RowNumber.{RowNumber}
-use Rattle.answers.specs.Numbers.{Refused, outcome_values}
+use Rattle.answers.specs.Numbers.{Refused, error_values}
 use Rattle.text.specs.declared.AnswerRoom.TheVariants.{NotLent}
 use Rattle.text.specs.Room.{short_read}
 use Rattle.rule_file.specs.File.{frames_after}
@@ -23,7 +23,7 @@ by_table table short enough = cond (ltb (length table) max_marks) short enough
 -- the number that is returned, and its frame
 unfoldable pub part_exported : ℕ → List ℕ → ℕ → RowNumber → List ℕ → Refused
 part_exported limit t f n table =
-    by_table table (outcome_values (short_read limit t)) (part_said (smallest_part limit t f n))
+    by_table table (error_values (short_read limit t)) (part_said (smallest_part limit t f n))
 
 -- the frame buffer and the table after it: with any number of the file or the row the table is all 0
 unfoldable pub frames_marked : ℕ → List ℕ → List ℕ → List ℕ → List ℕ

@@ -2,13 +2,11 @@
 -- first, and one that is not accepted gives its number and place; then a row that it does not have is number 6, and a
 -- row that has a type number 48, both with place 0; else the row is refused, 22 too, and its part is marked. With any
 -- number no mark is set. The rules are the first pass's.
-use Rattle.std.specs.Prelude.{ℕ, Bool, cond, List}
+use Rattle.std.specs.Prelude.{ℕ, Bool, cond, List, Option, Some, None}
 use Rattle.ir.specs.declared.RowNumber.{RowNumber}
-use Rattle.answers.specs.declared.Outcome.{Outcome}
-use Rattle.answers.specs.declared.Outcome.TheVariants as O
-use Rattle.answers.specs.declared.Printed.{Printed}
-use Rattle.answers.specs.declared.Printed.TheVariants as Pr
-use Rattle.answers.specs.Numbers.{Refused, at, no_refusal, not_there, outcome_values}
+use Rattle.answers.specs.declared.FileError.{FileError}
+use Rattle.answers.specs.declared.FileError.TheVariants as Fe
+use Rattle.answers.specs.Numbers.{Refused, at, no_refusal, not_there, error_values}
 use Rattle.text.specs.declared.AnswerRoom.TheVariants.{NotLent}
 use Rattle.text.specs.Lines.{text_of}
 use Rattle.frames.specs.Bytes.{frame_count}
@@ -52,7 +50,7 @@ if_marked a b (Po.NotAccepted o) = b
 -- the marks
 unfoldable pub part_marks : ℕ → List ℕ → ℕ → RowNumber → List Bool
 part_marks limit t f n =
-    over_file (λ (o : Outcome). no_marks)
+    over_file (λ (e : FileError). no_marks)
     (λ (fr : List ℕ). if_marked (marks_of Pa.First fr n.0) no_marks (part_in n fr)) t (read_file limit t f NotLent)
 
 -- in the documents' numbers
@@ -60,7 +58,7 @@ abbrev pub part_said : PartOutcome → Refused
 part_said Po.Marked = no_refusal
 part_said Po.Sound = at 48 0
 part_said Po.Index = not_there
-part_said (Po.NotAccepted o) = outcome_values o
+part_said (Po.NotAccepted e) = error_values e
 
 -- CUT_TEXT: the lines of the cut in a lent buffer, all of them, or number 3 with the buffer unchanged
 
@@ -71,9 +69,9 @@ part_file n fr = cut_file (marks_of Pa.First fr n.0) fr
 abbrev pub part_text : RowNumber → List ℕ → List ℕ
 part_text n fr = text_of (part_file n fr) (frame_count (part_file n fr))
 
-abbrev pub as_lines : ℕ → Printed → CutText
-as_lines lines (Pr.Bytes n) = Ct.Lines lines
-as_lines lines Pr.Short = Ct.Short
+abbrev pub as_lines : ℕ → Option ℕ → CutText
+as_lines lines (Some n) = Ct.Lines lines
+as_lines lines None = Ct.Short
 
 abbrev pub or_number : CutText → PartOutcome → CutText
 or_number c Po.Marked = c
@@ -91,13 +89,13 @@ cut_text limit t f n o = over_file Ct.NotAccepted (cut_in n o) t (read_file limi
 -- the buffer after it
 unfoldable pub cut_after : ℕ → List ℕ → ℕ → RowNumber → List ℕ → List ℕ
 cut_after limit t f n out =
-    over_file (λ (o : Outcome). out)
+    over_file (λ (e : FileError). out)
     (λ (fr : List ℕ). if_marked (printed_after (part_text n fr) out) out (part_in n fr)) t (read_file limit t f NotLent)
 
 -- in the documents' numbers: 0 with, as place, how many lines are written (docs/DECISIONS.md)
 abbrev pub cut_said : CutText → Refused
 cut_said (Ct.Lines n) = at 0 n
-cut_said Ct.Short = outcome_values O.Short
+cut_said Ct.Short = error_values Fe.Short
 cut_said Ct.Sound = at 48 0
 cut_said Ct.Index = not_there
-cut_said (Ct.NotAccepted o) = outcome_values o
+cut_said (Ct.NotAccepted e) = error_values e

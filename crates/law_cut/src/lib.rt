@@ -2,7 +2,7 @@
 // laws in proofs/, and here is what asking for it gives.
 #![tactic(auto)]
 
-use answers::Outcome;
+use answers::FileError;
 
 // Whether a part is marked: the row is refused, or newer; it has a type (number 48); the file has no such row (6); or
 // the file's own number.
@@ -11,7 +11,7 @@ pub enum PartOutcome {
     Marked,
     Sound,
     Index,
-    NotAccepted(Outcome),
+    NotAccepted(FileError),
 }
 
 // The outcome, and the marks of the rows that the row's reading follows: none where the outcome is a number.
@@ -29,5 +29,5 @@ pub enum CutText {
     Short,
     Sound,
     Index,
-    NotAccepted(Outcome),
+    NotAccepted(FileError),
 }

@@ -1,5 +1,8 @@
 -- Sameness over a text is an equivalence: the laws of the comparison (rule_types, Laws.antt and Equivalence.antt),
 -- asked of the frames of an accepted text.
+use Rattle.answers.specs.declared.CompareError.TheVariants as Ce
+use Rattle.std.specs.Prelude.{Option as CodeOption, Some, None, Ok, Err}
+use Rattle.ir.specs.declared.TypeInner.{TypeInner}
 use Prim.Native.Nat.{ℕ}
 use mathlib.Core.Path.{◌≡◌, refl, sym, ap, ◌∙◌}
 use mathlib.Core.Bool.{Bool, true, false}
@@ -7,11 +10,7 @@ use mathlib.Core.List.{List, [], ◌∷◌}
 use mathlib.Core.Logic.{◌⊎◌, inl, inr, ◌↔◌}
 use mathlib.Core.Option.{Option, none, some}
 use Rattle.ir.specs.declared.TypeNumber.{TypeNumber}
-use Rattle.ir.specs.declared.TypeForm.{TypeForm}
-use Rattle.ir.specs.declared.TypeForm.TheVariants as Tf
-use Rattle.answers.specs.declared.Outcome.TheVariants.{Accepted}
-use Rattle.answers.specs.declared.Sameness.{Sameness}
-use Rattle.answers.specs.declared.Sameness.TheVariants as Sa
+use Rattle.answers.specs.Asked.{Sameness, sameness_error}
 use Rattle.text.specs.declared.AnswerRoom.TheVariants.{NotLent}
 use Rattle.text.specs.Lines.{decoded}
 use Rattle.frames.specs.declared.Frame.{Frame}
@@ -46,7 +45,7 @@ use Rattle.law_equality.specs.Equality.{Same, Different, Known, Taken, SoundIn}
 use Rattle.law_equality.specs.Equality.{Equivalence, AllKnown, Lawful, TypesKnown}
 
 -- only yes is Same
-same_alike : (o : Result Compared) → sameness_of o ≡ Sa.Same → o ≡ told alike
+same_alike : (o : Result Compared) → sameness_of o ≡ Ok true → o ≡ told alike
 same_alike (told alike) e = refl
 same_alike (told unlike) e = never (cc)
 same_alike (told field) e = never (cc)
@@ -56,7 +55,7 @@ same_alike (newer p) e = never (cc)
 abbrev of : Frame → TypeAnswer
 of a = type_answer_of a
 
-module _ (limit : ℕ) (t : List ℕ) (f n : ℕ) (e : read_file limit t f NotLent ≡ Accepted n) where
+module _ (limit : ℕ) (t : List ℕ) (f n : ℕ) (e : read_file limit t f NotLent ≡ Ok n) where
   abbrev fr : List ℕ
   fr = decoded t n
 
@@ -68,12 +67,12 @@ module _ (limit : ℕ) (t : List ℕ) (f n : ℕ) (e : read_file limit t f NotLe
 
   asked : (a b : Frame) → same_types limit t f a b ≡ sameness_of (compared a b)
   unfolding same_types same_type same_in
-  asked a b = ap (over_file Sa.NotAccepted (λ (x : List ℕ). sameness_of (same_type x a b)) t) e
+  asked a b = ap (over_file sameness_error (λ (x : List ℕ). sameness_of (same_type x a b)) t) e
 
   -- what holds of yes, no and 22 where both are sound, and else of 5 and 6, holds of the outcome
   by-faults : (a b : Frame) (P : Sameness → Type 0)
       → (SoundIn fr a → SoundIn fr b → P (sameness_of (told_of fr s (likeness fr s (of a) (of b)))))
-      → ((SoundIn fr a × SoundIn fr b → ⊥) → P Sa.Field × P Sa.Index) → P (same_types limit t f a b)
+      → ((SoundIn fr a × SoundIn fr b → ⊥) → P (Err Ce.Field) × P (Err Ce.Index)) → P (same_types limit t f a b)
   by-faults a b P sound faulty = rw (asked a b) (go (fault_of s (of a)) (fault_of s (of b)) refl refl)
     where
       go : (v w : Fault) → fault_of s (of a) ≡ v → fault_of s (of b) ≡ w → P (sameness_of (compared a b))
@@ -113,7 +112,7 @@ module _ (limit : ℕ) (t : List ℕ) (f n : ℕ) (e : read_file limit t f NotLe
         to none q h = q
         to (some p) q h = absurd (h (asked a b ∙ ap sameness_of ((claimed p).1 q)))
 
-        from : came ≡ none → (o : Result Compared) → compared a b ≡ o → sameness_of o ≡ Sa.Newer → ⊥
+        from : came ≡ none → (o : Result Compared) → compared a b ≡ o → sameness_of o ≡ Err Ce.Newer → ⊥
         from q (told alike) w z = never (cc)
         from q (told unlike) w z = never (cc)
         from q (told field) w z = never (cc)
@@ -173,13 +172,13 @@ module _ (limit : ℕ) (t : List ℕ) (f n : ℕ) (e : read_file limit t f NotLe
     };
     decided =
         λ a b i j.
-        by-faults a b (λ o. (o ≡ Sa.Newer → ⊥) → (o ≡ Sa.Same) ⊎ (o ≡ Sa.Different))
+        by-faults a b (λ o. (o ≡ Err Ce.Newer → ⊥) → (o ≡ Ok true) ⊎ (o ≡ Ok false))
         (λ p q. told-or (likeness fr s (of a) (of b))) (λ g. absurd (g (all.sound a i, all.sound b j)))
         (all.known a b i j);
   }
     where
-      told-or : (o : Option Bool) → (sameness_of (told_of fr s o) ≡ Sa.Newer → ⊥)
-          → (sameness_of (told_of fr s o) ≡ Sa.Same) ⊎ (sameness_of (told_of fr s o) ≡ Sa.Different)
+      told-or : (o : Option Bool) → (sameness_of (told_of fr s o) ≡ Err Ce.Newer → ⊥)
+          → (sameness_of (told_of fr s o) ≡ Ok true) ⊎ (sameness_of (told_of fr s o) ≡ Ok false)
       told-or (some true) h = inl refl
       told-or (some false) h = inr refl
       told-or none h = absurd (h refl)
@@ -194,9 +193,9 @@ module _ (limit : ℕ) (t : List ℕ) (f n : ℕ) (e : read_file limit t f NotLe
           record { order = q.order; fields = q.fields; index = q.index }
 
       number-shown : (m : TypeNumber) (b : Bool) → is_type s m ≡ b → in_range b ≡ Fa.Sound
-          → (o : TypeForm) → type_in fr s m ≡ o → see_form fr s o ≡ none → ⊥
-      number-shown m true i p (Tf.Known u) q z = never (cc)
-      number-shown m true i p Tf.Unknown q z = all m i q
+          → (o : CodeOption TypeInner) → type_in fr s m ≡ o → see_form fr s o ≡ none → ⊥
+      number-shown m true i p (Some u) q z = never (cc)
+      number-shown m true i p None q z = all m i q
       number-shown m false i p o q z = never (cc)
 
       shown : (x : TypeAnswer) → IsSound fr x → see fr (form x) ≡ none → ⊥

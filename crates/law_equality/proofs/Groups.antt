@@ -1,6 +1,8 @@
 -- Two answers of a list are in one group exactly where they are the same, so neither the order of the list nor its
 -- other members matter. By going along the list, for any comparison whose yes holds either way and carries through a
 -- third; that of an accepted text does.
+use Rattle.answers.specs.declared.CompareError.TheVariants as Ce
+use Rattle.std.specs.Prelude.{Ok, Err}
 use Prim.Native.Nat.{ℕ}
 use mathlib.Core.Path.{◌≡◌, refl, sym, ap, ◌∙◌}
 use mathlib.Core.Bool.{Bool, true, false, cond}
@@ -10,9 +12,7 @@ use mathlib.Core.List.Permᴰ
 use mathlib.Core.List.{Permᴰ}
 use mathlib.Core.Logic.{◌⊎◌, inl, inr, ◌↔◌}
 use mathlib.Core.Option.{Option, none, some}
-use Rattle.answers.specs.declared.Outcome.TheVariants.{Accepted}
-use Rattle.answers.specs.declared.Sameness.{Sameness}
-use Rattle.answers.specs.declared.Sameness.TheVariants as Sa
+use Rattle.answers.specs.Asked.{Sameness}
 use Rattle.text.specs.declared.AnswerRoom.TheVariants.{NotLent}
 use Rattle.text.specs.Lines.{decoded}
 use Rattle.frames.specs.declared.Frame.{Frame}
@@ -43,29 +43,29 @@ moved {a = a} (Permᴰ.swap {a = x} {b = y} {a' = z} {b' = w} {l = l} q p) h = g
 moved (Permᴰ.trans p q) h = moved q (moved p h)
 
 -- only yes counts
-is-yes : (o : Sameness) → is_same o ≡ true → o ≡ Sa.Same
-is-yes Sa.Same e = refl
-is-yes Sa.Different e = never (cc)
-is-yes Sa.Newer e = never (cc)
-is-yes Sa.Field e = never (cc)
-is-yes Sa.Index e = never (cc)
-is-yes (Sa.NotAccepted o) e = never (cc)
+is-yes : (o : Sameness) → is_same o ≡ true → o ≡ Ok true
+is-yes (Ok true) e = refl
+is-yes (Ok false) e = never (cc)
+is-yes (Err Ce.Newer) e = never (cc)
+is-yes (Err Ce.Field) e = never (cc)
+is-yes (Err Ce.Index) e = never (cc)
+is-yes (Err (Ce.NotAccepted o)) e = never (cc)
 
 -- A COMPARISON WHOSE YES HOLDS EITHER WAY, and carries through a third
-module _ (compare : Frame → Frame → Sameness) (order : (a b : Frame) → compare a b ≡ Sa.Same → compare b a ≡ Sa.Same)
-    (third : (a b c : Frame) → compare a b ≡ Sa.Same → compare b c ≡ Sa.Same → compare a c ≡ Sa.Same) where
+module _ (compare : Frame → Frame → Sameness) (order : (a b : Frame) → compare a b ≡ Ok true → compare b a ≡ Ok true)
+    (third : (a b c : Frame) → compare a b ≡ Ok true → compare b c ≡ Ok true → compare a c ≡ Ok true) where
   -- the first that is the same as a is the same as a
-  group-same : (l : List Frame) (a x : Frame) → group compare l a ≡ some x → compare x a ≡ Sa.Same
+  group-same : (l : List Frame) (a x : Frame) → group compare l a ≡ some x → compare x a ≡ Ok true
   group-same [] a x e = never (cc)
   group-same (y ∷ l) a x e = go (is_same (compare y a)) refl e (group-same l a x)
     where
       go : (b : Bool) → is_same (compare y a) ≡ b → cond b (some y) (group compare l a) ≡ some x
-          → (group compare l a ≡ some x → compare x a ≡ Sa.Same) → compare x a ≡ Sa.Same
+          → (group compare l a ≡ some x → compare x a ≡ Ok true) → compare x a ≡ Ok true
       go true q w ih = let h : y ≡ x = cc in rw h at (is-yes (compare y a) q)
       go false q w ih = ih w
 
   -- a member that is the same as itself is in a group
-  grouped : (l : List Frame) (a : Frame) → Memᴰ a l → compare a a ≡ Sa.Same
+  grouped : (l : List Frame) (a : Frame) → Memᴰ a l → compare a a ≡ Ok true
       → (x : Frame) × (group compare l a ≡ some x)
   grouped [] a h e = elim h [ ]
   grouped (y ∷ l) a h e = go (is_same (compare y a)) refl (Memᴰ.cases_cons h) (λ g. grouped l a g e)
@@ -74,11 +74,12 @@ module _ (compare : Frame → Frame → Sameness) (order : (a b : Frame) → com
           → (Memᴰ a l → (x : Frame) × (group compare l a ≡ some x))
           → (x : Frame) × (cond b (some y) (group compare l a) ≡ some x)
       go true q w ih = (y, refl)
-      go false q (inl w) ih = never (let h : compare y a ≡ Sa.Same = ap (λ (z : Frame). compare z a) (sym w) ∙ e in cc)
+      go false q (inl w) ih = never (let h : compare y a ≡ (Ok true) = ap (λ (z : Frame). compare z a) (sym w)
+          ∙ e in cc)
       go false q (inr g) ih = ih g
 
   -- each of a list is the same as a exactly where it is the same as b
-  alike-tests : (a b : Frame) → compare a b ≡ Sa.Same → (x : Frame) → is_same (compare x a) ≡ is_same (compare x b)
+  alike-tests : (a b : Frame) → compare a b ≡ Ok true → (x : Frame) → is_same (compare x a) ≡ is_same (compare x b)
   alike-tests a b e x = go (is_same (compare x a)) (is_same (compare x b)) refl refl
     where
       go : (p q : Bool) → is_same (compare x a) ≡ p → is_same (compare x b) ≡ q → p ≡ q
@@ -86,14 +87,14 @@ module _ (compare : Frame → Frame → Sameness) (order : (a b : Frame) → com
       go false true g h = sym g ∙ ap is_same (third x b a (is-yes (compare x b) h) (order a b e))
       go false false g h = refl
 
-  group-alike : (a b : Frame) → compare a b ≡ Sa.Same → (l : List Frame) → group compare l a ≡ group compare l b
+  group-alike : (a b : Frame) → compare a b ≡ Ok true → (l : List Frame) → group compare l a ≡ group compare l b
   group-alike a b e [] = refl
   group-alike a b e (x ∷ l) =
       ap (λ (p : Bool). cond p (some x) (group compare l a)) (alike-tests a b e x)
       ∙ ap (cond (is_same (compare x b)) (some x)) (group-alike a b e l)
 
   -- TWO ARE IN ONE GROUP exactly where they are the same
-  pub group-when : (l : List Frame) (a b : Frame) → Memᴰ a l → OneGroup compare l a b ↔ (compare a b ≡ Sa.Same)
+  pub group-when : (l : List Frame) (a b : Frame) → Memᴰ a l → OneGroup compare l a b ↔ (compare a b ≡ Ok true)
   group-when l a b h = (
     λ o.
         let x = o.first in
@@ -104,7 +105,7 @@ module _ (compare : Frame → Frame → Sameness) (order : (a b : Frame) → com
   )
 
   -- and their groups have the same members
-  pub members_alike : (a b : Frame) → compare a b ≡ Sa.Same → (l : List Frame)
+  pub members_alike : (a b : Frame) → compare a b ≡ Ok true → (l : List Frame)
       → members compare l a ≡ members compare l b
   members_alike a b e [] = refl
   members_alike a b e (x ∷ l) =
@@ -140,7 +141,7 @@ module _ (compare : Frame → Frame → Sameness) (a : Frame) where
   members-reordered (Permᴰ.trans p q) = Permᴰ.trans (members-reordered p) (members-reordered q)
 
 -- OF AN ACCEPTED TEXT
-module _ (limit : ℕ) (t : List ℕ) (f n : ℕ) (e : read_file limit t f NotLent ≡ Accepted n) where
+module _ (limit : ℕ) (t : List ℕ) (f n : ℕ) (e : read_file limit t f NotLent ≡ Ok n) where
   text-order : (a b : Frame) → Same limit t f a b → Same limit t f b a
   text-order a b h =
       let s = same-sound limit t f n e a b h in

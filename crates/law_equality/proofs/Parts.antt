@@ -1,14 +1,13 @@
 -- Access and AccessIndex in a file: where the first gives a type, the second gives the same, or number 10. For every
 -- base by `parts-agree` (rule_rows); and for two rows of an accepted text, since the base is an earlier row of both,
 -- and has one answer. For each pass.
+use Rattle.std.specs.Prelude.{Ok, None}
 use Prim.Native.Nat.{ℕ, ◌+◌, ◌<◌}
 use mathlib.Core.Path.{◌≡◌, refl, sym, ap, ◌∙◌}
 use mathlib.Core.Bool.{Bool, true, false, cond}
 use mathlib.Core.List.{List}
 use mathlib.Core.Option.{Option, none, some}
 use Rattle.ir.specs.declared.RowNumber.{RowNumber}
-use Rattle.ir.specs.declared.RowForm.TheVariants as Ro
-use Rattle.answers.specs.declared.Outcome.TheVariants.{Accepted}
 use Rattle.answers.specs.declared.Refusal.{Refusal}
 use Rattle.answers.specs.declared.Refusal.TheVariants.{OutOfBoundsIndex}
 use Rattle.text.specs.declared.AnswerRoom.TheVariants.{Lent}
@@ -63,7 +62,7 @@ pub base_agrees : (fr : List ℕ) (a : Frame) (pass : Pass) (here there base : R
 base_agrees fr a pass here there base i x e = parts-agree base i (see fr) (always a) (always a) here there x refl e
 
 -- TWO ROWS OF AN ACCEPTED TEXT
-module _ (pass : Pass) (limit : ℕ) (t : List ℕ) (f a n : ℕ) (e : read_file limit t f (Lent a) ≡ Accepted n) where
+module _ (pass : Pass) (limit : ℕ) (t : List ℕ) (f a n : ℕ) (e : read_file limit t f (Lent a) ≡ Ok n) where
   abbrev fr : List ℕ
   fr = decoded t n
 
@@ -81,7 +80,7 @@ module _ (pass : Pass) (limit : ℕ) (t : List ℕ) (f a n : ℕ) (e : read_file
   shown-there m x q = go (is_row (starts_of fr) m) q
     where
       go : (b : Bool)
-          → see_row fr (starts_of fr) (cond b (row_of (frame_at fr ((starts_of fr).rows + m.0))) Ro.Unknown) ≡ some x
+          → see_row fr (starts_of fr) (cond b (row_of (frame_at fr ((starts_of fr).rows + m.0))) None) ≡ some x
           → b ≡ true
       go true w = refl
       go false w = never (cc)

@@ -1,5 +1,6 @@
 -- Every case of the tables is what the definitions give: both sides compute to the same. The text is read once; then
 -- the comparison over it is that of its frames.
+use Rattle.std.specs.Prelude.{Ok}
 use Prim.Native.Nat.{ℕ}
 use mathlib.Core.Path.{◌≡◌, refl, ap, ◌∙◌, fun_ext}
 use mathlib.Core.List.{List, map, reverse}
@@ -7,9 +8,7 @@ use mathlib.Core.Option.{Option}
 use Rattle.scan.specs.Lowest.{lowest, all_below}
 use Rattle.scan.specs.Lists.{build, sum_below}
 use Rattle.ir.specs.declared.RowNumber.{RowNumber}
-use Rattle.answers.specs.declared.Outcome.TheVariants.{Accepted}
-use Rattle.answers.specs.declared.Sameness.{Sameness}
-use Rattle.answers.specs.declared.Sameness.TheVariants as Sa
+use Rattle.answers.specs.Asked.{Sameness, sameness_error}
 use Rattle.answers.specs.Limit.{max_frames}
 use Rattle.text.specs.declared.AnswerRoom.TheVariants.{NotLent}
 use Rattle.text.specs.Hex.{digit_value, digit_of}
@@ -38,7 +37,7 @@ use Rattle.law_equality.specs.Parts.{over_base}
 use Rattle.law_equality.specs.Cases.{grouped_file, text, Grouped, forward, backward, Pair, pairs, Part, parts}
 
 -- THE TEXT is accepted, and its frames are the file's
-accepted : read_file max_frames text 320 NotLent ≡ Accepted 20
+accepted : read_file max_frames text 320 NotLent ≡ Ok 20
 unfolding lowest all_below build sum_below digit_value line_ok byte_of answer_frames too_short most_frames read_text
     frame_at type_of item_of row_of member_of component_of fields_fit order_ok start starts_of names_ok early_ok
     index_ok check_frames read_file digit_of char_of
@@ -59,7 +58,7 @@ over-frames : compare ≡ compare_in
 unfolding same_types
 over-frames =
     fun_ext (λ a. fun_ext (λ b.
-    ap (over_file Sa.NotAccepted (λ (x : List ℕ). sameness_of (same_type x a b)) text) accepted
+    ap (over_file sameness_error (λ (x : List ℕ). sameness_of (same_type x a b)) text) accepted
     ∙ ap (λ (x : List ℕ). sameness_of (same_type x a b)) frames-are))
 
 -- GROUPS, in both orders

@@ -1,9 +1,9 @@
 -- Worked cases of the law over one small text, written by hand from document 01 ("A row's type", "Same type or not")
 -- and document 02, request 13: answers in groups, in two orders; comparisons; parts of a base.
-use Rattle.std.specs.Prelude.{ℕ, List, [], ◌∷◌, ◌++◌}
+use Rattle.answers.specs.declared.CompareError.TheVariants as Ce
+use Rattle.std.specs.Prelude.{ℕ, List, [], ◌∷◌, ◌++◌, Ok, Err, true, false}
 use Rattle.std.proofs.Math.Option.{Option, none, some}
-use Rattle.answers.specs.declared.Sameness.{Sameness}
-use Rattle.answers.specs.declared.Sameness.TheVariants.{Same, Different, Newer, Field, Index}
+use Rattle.answers.specs.Asked.{Sameness}
 use Rattle.text.specs.Lines.{text_of}
 use Rattle.frames.specs.declared.Frame.{Frame}
 use Rattle.frames.specs.Bytes.{frame_at}
@@ -108,20 +108,22 @@ pair l r o = record { left = l; right = r; outcome = o }
 abbrev pub pairs : List Pair
 pairs =
     -- types 6 and 7 are the same, pointers to them are not; types 0 and 1 are, arrays over them are not
-    pair (type 6) (type 7) Same ∷ pair (type 8) (type 9) Different
-    ∷ pair (type 0) (type 1) Same ∷ pair (type 10) (type 12) Different ∷ pair (type 10) (type 11) Different
+    pair (type 6) (type 7) (Ok true) ∷ pair (type 8) (type 9) (Ok false)
+    ∷ pair (type 0) (type 1) (Ok true) ∷ pair (type 10) (type 12) (Ok false) ∷ pair (type 10) (type 11) (Ok false)
     -- alike structs, and a struct against an unknown kind
-    ∷ pair (type 13) (type 14) Different ∷ pair (type 13) (type 15) Different ∷ pair (type 15) (type 13) Different
+    ∷ pair (type 13) (type 14) (Ok false) ∷ pair (type 13) (type 15) (Ok false) ∷ pair (type 15) (type 13) (Ok false)
     -- two that are the same compare alike with a third: no, 22, 5 and 6
-    ∷ pair (type 3) (value_pointer 0 0) Same ∷ pair (type 3) f32 Different ∷ pair (value_pointer 0 0) f32 Different
-    ∷ pair (type 3) (type 15) Newer ∷ pair (value_pointer 0 0) (type 15) Newer
-    ∷ pair (type 3) refusal Field ∷ pair (value_pointer 0 0) refusal Field
-    ∷ pair (type 3) (type 19) Index ∷ pair (value_pointer 0 0) (type 19) Index
+    ∷ pair (type 3) (value_pointer 0 0) (Ok true) ∷ pair (type 3) f32 (Ok false) ∷ pair (value_pointer 0 0) f32
+    (Ok false)
+    ∷ pair (type 3) (type 15) (Err Ce.Newer) ∷ pair (value_pointer 0 0) (type 15) (Err Ce.Newer)
+    ∷ pair (type 3) refusal (Err Ce.Field) ∷ pair (value_pointer 0 0) refusal (Err Ce.Field)
+    ∷ pair (type 3) (type 19) (Err Ce.Index) ∷ pair (value_pointer 0 0) (type 19) (Err Ce.Index)
     -- where two give 22 they need not: types 15 and 16 against type 15
-    ∷ pair (type 15) (type 16) Newer ∷ pair (type 15) (type 15) Same ∷ pair (type 16) (type 15) Newer
-    ∷ pair (type 17) (type 18) Newer ∷ pair (type 17) (pointer 15) Newer
+    ∷ pair (type 15) (type 16) (Err Ce.Newer) ∷ pair (type 15) (type 15) (Ok true) ∷ pair (type 16) (type 15)
+    (Err Ce.Newer)
+    ∷ pair (type 17) (type 18) (Err Ce.Newer) ∷ pair (type 17) (pointer 15) (Err Ce.Newer)
     -- of two that get 5 and 6 the left one's is given, so there the order does matter
-    ∷ pair refusal (type 19) Field ∷ pair (type 19) refusal Index
+    ∷ pair refusal (type 19) (Err Ce.Field) ∷ pair (type 19) refusal (Err Ce.Index)
     ∷ []
 
 -- PARTS: the base's answer and an index; what Access and AccessIndex give

@@ -1,10 +1,9 @@
 -- Type equality as a law (document 02, request 13), said of the comparison over a text that the contract of `same_type`
 -- cites (`same_types`, rule_file/specs/Types.antt): of a text t, read within a limit, with a frame buffer of f bytes.
-use Rattle.std.specs.Prelude.{ℕ, ◌≡◌, true, List, ◌⊎◌}
+use Rattle.answers.specs.declared.CompareError.TheVariants as Ce
+use Rattle.std.specs.Prelude.{ℕ, ◌≡◌, true, List, ◌⊎◌, None, Ok, Err, false}
 use Rattle.ir.specs.declared.TypeNumber.{TypeNumber}
-use Rattle.ir.specs.declared.TypeForm.TheVariants as Tf
-use Rattle.answers.specs.declared.Sameness.{Sameness}
-use Rattle.answers.specs.declared.Sameness.TheVariants as Sa
+use Rattle.answers.specs.Asked.{Sameness}
 use Rattle.frames.specs.declared.Frame.{Frame}
 use Rattle.archive.specs.Starts.{starts_of}
 use Rattle.archive.specs.Names.{is_type}
@@ -17,20 +16,20 @@ module _ (limit : ℕ) (t : List ℕ) (f : ℕ) where
   -- two answers are the same type: the comparison gives yes. Where it gives 22 it is not known whether they are, and
   -- they are not taken for the same
   abbrev pub Same : Frame → Frame → Type 0
-  Same a b = same_types limit t f a b ≡ Sa.Same
+  Same a b = same_types limit t f a b ≡ Ok true
 
   -- they are not: it gives no
   abbrev pub Different : Frame → Frame → Type 0
-  Different a b = same_types limit t f a b ≡ Sa.Different
+  Different a b = same_types limit t f a b ≡ Ok false
 
   -- every type that the comparison looks into is known: it does not give 22 (`known-when`)
   abbrev pub Known : Frame → Frame → Type 0
-  Known a b = same_types limit t f a b ≡ Sa.Newer → ⊥
+  Known a b = same_types limit t f a b ≡ Err Ce.Newer → ⊥
 
 -- what a comparison gives is neither 5 nor 6
 pub record Taken (o : Sameness) : Type 0 where
-  pub five : o ≡ Sa.Field → ⊥
-  pub six : o ≡ Sa.Index → ⊥
+  pub five : o ≡ Err Ce.Field → ⊥
+  pub six : o ≡ Err Ce.Index → ⊥
 
 -- an answer that a comparison meets with neither 5 nor 6, in a file whose frames these are (`taken-when`)
 abbrev pub SoundIn : List ℕ → Frame → Type 0
@@ -55,4 +54,4 @@ pub record Lawful (limit : ℕ) (t : List ℕ) (f : ℕ) (In : Frame → Type 0)
 
 -- every type of a file is of a known kind
 abbrev pub TypesKnown : List ℕ → Type 0
-TypesKnown fr = (n : TypeNumber) → is_type (starts_of fr) n ≡ true → type_at fr n ≡ Tf.Unknown → ⊥
+TypesKnown fr = (n : TypeNumber) → is_type (starts_of fr) n ≡ true → type_at fr n ≡ None → ⊥

@@ -1,21 +1,21 @@
 -- Answers in groups of one type, as a screen shows them (document 02, request 13): each with the first of a list that
 -- is the same as it. For any comparison of two frames; that over a text, `same_types`, is meant. Only yes is the same:
 -- an answer that gets 5 or 6 is in no group, and one of unknown kind is in one with identical ones alone.
-use Rattle.std.specs.Prelude.{◌≡◌, Bool, true, false, cond, List, [], ◌∷◌}
+use Rattle.answers.specs.declared.CompareError.TheVariants as Ce
+use Rattle.std.specs.Prelude.{◌≡◌, Bool, true, false, cond, List, [], ◌∷◌, Ok, Err}
 use Rattle.std.proofs.Math.Option.{Option, none, some}
-use Rattle.answers.specs.declared.Outcome.{Outcome}
-use Rattle.answers.specs.declared.Sameness.{Sameness}
-use Rattle.answers.specs.declared.Sameness.TheVariants as Sa
+use Rattle.answers.specs.Outcome.{Outcome}
+use Rattle.answers.specs.Asked.{Sameness}
 use Rattle.frames.specs.declared.Frame.{Frame}
 
 -- yes
 abbrev pub is_same : Sameness → Bool
-is_same Sa.Same = true
-is_same Sa.Different = false
-is_same Sa.Newer = false
-is_same Sa.Field = false
-is_same Sa.Index = false
-is_same (Sa.NotAccepted o) = false
+is_same (Ok true) = true
+is_same (Ok false) = false
+is_same (Err Ce.Newer) = false
+is_same (Err Ce.Field) = false
+is_same (Err Ce.Index) = false
+is_same (Err (Ce.NotAccepted o)) = false
 
 -- the group of the answer a in a list: its first member that is the same as a, if there is one
 abbrev pub group : (Frame → Frame → Sameness) → List Frame → Frame → Option Frame

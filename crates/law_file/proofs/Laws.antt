@@ -1,6 +1,8 @@
 -- Reading a file, both ways: accepted exactly when all checks hold, and refused by number k at place p exactly when all
 -- lower checks hold everywhere, check k holds before p and fails at p. From the same laws of checks 1 to 3 and of
 -- checks 4 to 6.
+use Rattle.answers.specs.declared.FileError.{FileError}
+use Rattle.std.specs.Prelude.{Ok, Err}
 use Prim.Native.Nat.{ℕ, ◌*◌, ◌/◌, ◌≤◌, ◌<◌}
 use native.Mathlib.Omega.{arith}
 use mathlib.Core.Path.{◌≡◌, refl, sym, ap, ◌∙◌}
@@ -8,8 +10,8 @@ use mathlib.Core.Bool.{true}
 use mathlib.Core.List.{List, ◌++◌}
 use mathlib.Core.Logic.{◌↔◌}
 use lib.ListN.{length, drop}
-use Rattle.answers.specs.declared.Outcome.{Outcome}
-use Rattle.answers.specs.declared.Outcome.TheVariants.{Accepted, Long, Torn, Short, Order, Field, Index}
+use Rattle.answers.specs.Outcome.{Outcome}
+use Rattle.answers.specs.declared.FileError.TheVariants.{Long, Torn, Short, Order, Field, Index}
 use Rattle.answers.specs.Limit.{max_frames}
 use Rattle.text.specs.declared.AnswerRoom.{AnswerRoom}
 use Rattle.text.specs.declared.AnswerRoom.TheVariants.{NotLent}
@@ -71,11 +73,12 @@ module _ (limit : ℕ) (t : List ℕ) (f : ℕ) (room : AnswerRoom) where
   few r = rw (count-decoded t (line_count t)) (count_small r)
 
   -- the seven outcomes, and what each says
-  pub by-file : (P : Outcome → Type 0) → (33 * most_frames limit < length t → P (Long (most_frames limit)))
-      → ((k : ℕ) → TornAt limit t k → P (Torn k)) → (TooSmall limit t f room → P Short)
-      → ((p : ℕ) → Disordered limit t f room p → P (Order p)) → ((p : ℕ) → Unfit limit t f room p → P (Field p))
-      → ((p : ℕ) → Misplaced limit t f room p → P (Index p))
-      → ((n : ℕ) → Accepts limit t f room n → P (Accepted n)) → P (read_file limit t f room)
+  pub by-file : (P : Outcome → Type 0) → (33 * most_frames limit < length t → P (Err (Long (most_frames limit))))
+      → ((k : ℕ) → TornAt limit t k → P (Err (Torn k))) → (TooSmall limit t f room → P (Err Short))
+      → ((p : ℕ) → Disordered limit t f room p → P (Err (Order p))) → ((p : ℕ) → Unfit limit t f room p
+      → P (Err (Field p)))
+      → ((p : ℕ) → Misplaced limit t f room p → P (Err (Index p)))
+      → ((n : ℕ) → Accepts limit t f room n → P (Ok n)) → P (read_file limit t f room)
   unfolding read_file
   by-file P long torn short order field index accepted =
       by_read limit t f room (λ r. P (then_frames t r)) long torn short
@@ -90,59 +93,61 @@ module _ (limit : ℕ) (t : List ℕ) (f : ℕ) (room : AnswerRoom) where
   unfolding read_file
   then-checked n r = ap (then_frames t) ((T.accepted-when limit t f room n).1 r)
 
-  pub long-when : (read_file limit t f room ≡ Long (most_frames limit)) ↔ (33 * most_frames limit < length t)
+  pub long-when : (read_file limit t f room ≡ Err (Long (most_frames limit))) ↔ (33 * most_frames limit < length t)
   unfolding read_file
   long-when = (
-    by-file (λ r. r ≡ Long (most_frames limit) → 33 * most_frames limit < length t) (λ l e. l) (λ k a e. never (cc))
+    by-file (λ r. r ≡ Err (Long (most_frames limit)) → 33 * most_frames limit < length t) (λ l e. l) (λ k a e. never
+        (cc))
         (λ a e. never (cc)) (λ p a e. never (cc)) (λ p a e. never (cc)) (λ p a e. never (cc)) (λ n a e. never (cc)),
     λ l. ap (then_frames t) ((T.long-when limit t f room).1 l),
   )
 
-  pub torn-when : (k : ℕ) → (read_file limit t f room ≡ Torn k) ↔ TornAt limit t k
+  pub torn-when : (k : ℕ) → (read_file limit t f room ≡ Err (Torn k)) ↔ TornAt limit t k
   unfolding read_file
   torn-when k = (
-    by-file (λ r. r ≡ Torn k → TornAt limit t k) (λ l e. never (cc)) (λ j a e. let q : j ≡ k = cc in rw q at a)
+    by-file (λ r. r ≡ Err (Torn k) → TornAt limit t k) (λ l e. never (cc)) (λ j a e. let q : j ≡ k = cc in rw q at a)
         (λ a e. never (cc)) (λ p a e. never (cc)) (λ p a e. never (cc)) (λ p a e. never (cc)) (λ n a e. never (cc)),
     λ a. ap (then_frames t) ((T.torn-when limit t f room k).1 a),
   )
 
-  pub short-when : (read_file limit t f room ≡ Short) ↔ TooSmall limit t f room
+  pub short-when : (read_file limit t f room ≡ Err Short) ↔ TooSmall limit t f room
   unfolding read_file
   short-when = (
-    by-file (λ r. r ≡ Short → TooSmall limit t f room) (λ l e. never (cc)) (λ k a e. never (cc)) (λ a e. a)
+    by-file (λ r. r ≡ Err Short → TooSmall limit t f room) (λ l e. never (cc)) (λ k a e. never (cc)) (λ a e. a)
         (λ p a e. never (cc)) (λ p a e. never (cc)) (λ p a e. never (cc)) (λ n a e. never (cc)),
     λ a. ap (then_frames t) ((T.short-when limit t f room).1 a),
   )
 
-  pub order-when : (p : ℕ) → (read_file limit t f room ≡ Order p) ↔ Disordered limit t f room p
+  pub order-when : (p : ℕ) → (read_file limit t f room ≡ Err (Order p)) ↔ Disordered limit t f room p
   order-when p = (
-    by-file (λ r. r ≡ Order p → Disordered limit t f room p) (λ l e. never (cc)) (λ k a e. never (cc))
+    by-file (λ r. r ≡ Err (Order p) → Disordered limit t f room p) (λ l e. never (cc)) (λ k a e. never (cc))
         (λ a e. never (cc)) (λ j a e. let q : j ≡ p = cc in rw q at a) (λ j a e. never (cc)) (λ j a e. never (cc))
         (λ n a e. never (cc)),
     λ a. then-checked (line_count t) a.readable
         ∙ (C.order-when (decoded t (line_count t)) (few a.readable) p).1 a.fails,
   )
 
-  pub field-when : (p : ℕ) → (read_file limit t f room ≡ Field p) ↔ Unfit limit t f room p
+  pub field-when : (p : ℕ) → (read_file limit t f room ≡ Err (Field p)) ↔ Unfit limit t f room p
   field-when p = (
-    by-file (λ r. r ≡ Field p → Unfit limit t f room p) (λ l e. never (cc)) (λ k a e. never (cc)) (λ a e. never (cc))
+    by-file (λ r. r ≡ Err (Field p) → Unfit limit t f room p) (λ l e. never (cc)) (λ k a e. never (cc)) (λ a e. never
+        (cc))
         (λ j a e. never (cc)) (λ j a e. let q : j ≡ p = cc in rw q at a) (λ j a e. never (cc)) (λ n a e. never (cc)),
     λ a. then-checked (line_count t) a.readable
         ∙ (C.field-when (decoded t (line_count t)) (few a.readable) p).1 (a.order, a.fails),
   )
 
-  pub index-when : (p : ℕ) → (read_file limit t f room ≡ Index p) ↔ Misplaced limit t f room p
+  pub index-when : (p : ℕ) → (read_file limit t f room ≡ Err (Index p)) ↔ Misplaced limit t f room p
   index-when p = (
-    by-file (λ r. r ≡ Index p → Misplaced limit t f room p) (λ l e. never (cc)) (λ k a e. never (cc))
+    by-file (λ r. r ≡ Err (Index p) → Misplaced limit t f room p) (λ l e. never (cc)) (λ k a e. never (cc))
         (λ a e. never (cc)) (λ j a e. never (cc)) (λ j a e. never (cc)) (λ j a e. let q : j ≡ p = cc in rw q at a)
         (λ n a e. never (cc)),
     λ a. then-checked (line_count t) a.readable
         ∙ (C.index-when (decoded t (line_count t)) (few a.readable) p).1 (a.order, a.fields, a.fails),
   )
 
-  pub accepted-when : (n : ℕ) → (read_file limit t f room ≡ Accepted n) ↔ Accepts limit t f room n
+  pub accepted-when : (n : ℕ) → (read_file limit t f room ≡ Ok n) ↔ Accepts limit t f room n
   accepted-when n = (
-    by-file (λ r. r ≡ Accepted n → Accepts limit t f room n) (λ l e. never (cc)) (λ k a e. never (cc))
+    by-file (λ r. r ≡ Ok n → Accepts limit t f room n) (λ l e. never (cc)) (λ k a e. never (cc))
         (λ a e. never (cc)) (λ j a e. never (cc)) (λ j a e. never (cc)) (λ j a e. never (cc))
         (λ m a e. let q : m ≡ n = cc in rw q at a),
     λ a. then-checked n a.readable

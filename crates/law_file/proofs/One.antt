@@ -14,8 +14,8 @@ use borrow.Author.Tests.{lt-ltb, ltb-true}
 use Rattle.ir.specs.declared.RowNumber.{RowNumber}
 use Rattle.scan.specs.Lists.{build}
 use Rattle.scan.proofs.Fill.{length-build}
-use Rattle.answers.specs.declared.Answer.{Answer}
-use Rattle.answers.specs.declared.Verdict.{Verdict}
+use Rattle.answers.specs.Answer.{Answer}
+use Rattle.answers.specs.Asked.{Verdict}
 use Rattle.frames.specs.declared.Frame.{Frame}
 use Rattle.frames.specs.Bytes.{frame_at}
 use Rattle.archive.specs.declared.Starts.{Starts}

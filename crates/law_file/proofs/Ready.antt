@@ -1,5 +1,6 @@
 -- The frames of an accepted text, and an answer buffer that passed check 3: there is room for all that is handed back.
 -- What each line asks for is what its frame hands back at most.
+use Rattle.std.specs.Prelude.{ℕ, Ok}
 use Prim.Native.Nat.{ℕ, zero, suc, ◌+◌, ◌*◌, ◌-◌, ◌≤◌, ◌<◌}
 use native.Mathlib.Decide.{dec_le}
 use native.Mathlib.Omega.{arith}
@@ -10,8 +11,7 @@ use lib.Dec.{eqb}
 use lib.ListN.{length, take, get_or}
 use borrow.Author.Tests.{lt-ltb}
 use Rattle.scan.specs.Lists.{sum_below}
-use Rattle.answers.specs.declared.Outcome.{Outcome}
-use Rattle.answers.specs.declared.Outcome.TheVariants.{Accepted}
+use Rattle.answers.specs.Outcome.{Outcome}
 use Rattle.answers.specs.Limit.{max_frames}
 use Rattle.text.specs.declared.AnswerRoom.TheVariants.{Lent}
 use Rattle.text.specs.Lines.{line_count, decoded}
@@ -28,10 +28,8 @@ use Rattle.law_rows.proofs.Good.{Good, good-when}
 use Rattle.rule_answers.specs.Outputs.{outputs, output_bytes}
 use Rattle.law_answers.proofs.Bytes.{bytes-length}
 use Rattle.law_answers.proofs.Room.{asked, outputs-asked}
-use Rattle.rule_file.specs.declared.OptionUsize.{OptionUsize}
-use Rattle.rule_file.specs.declared.OptionUsize.TheVariants as Ou
 use Rattle.rule_file.specs.File.{read_file, frames_after}
-use Rattle.rule_file.specs.ForProofs.{frames_in, Ready}
+use Rattle.rule_file.specs.ForProofs.{Ready}
 use Rattle.law_file.proofs.Over.{read, part-is}
 use Rattle.law_file.proofs.Laws.{count-decoded, then-checked, accepted-when}
 
@@ -80,13 +78,13 @@ module _ (limit : ℕ) (t : List ℕ) (f a n : ℕ) (r : Readable limit t f (Len
       )
 
 -- an accepted text is ready to be answered
-pub ready_of : (pass : Pass) (limit : ℕ) (t : List ℕ) (f a n : ℕ) → read_file limit t f (Lent a) ≡ Accepted n
+pub ready_of : (pass : Pass) (limit : ℕ) (t : List ℕ) (f a n : ℕ) → read_file limit t f (Lent a) ≡ Ok n
     → Ready pass (decoded t n) a
 ready_of pass limit t f a n e =
     let acc = (accepted-when limit t f (Lent a) n).0 e in
     let r = acc.readable in
-    let checked : check_frames (decoded t n) ≡ Accepted (frame_count (decoded t n)) =
-    sym (then-checked limit t f (Lent a) n r) ∙ e ∙ ap Accepted (sym (count-decoded t n)) in (
+    let checked : check_frames (decoded t n) ≡ Ok (frame_count (decoded t n)) =
+    sym (then-checked limit t f (Lent a) n r) ∙ e ∙ ap Ok (sym (count-decoded t n)) in (
       checked,
       record {
         few = few limit t f a n r;
@@ -98,8 +96,7 @@ ready_of pass limit t f a n e =
 -- and so is the part of the frame buffer that is lent on, x (`given`, proofs/Over.antt)
 pub ready-part : (pass : Pass) (limit : ℕ) (t fr last : List ℕ) (a : ℕ) (r : Outcome) {S : Type 0}
     → (r ≡ read_file limit t (length fr) (Lent a)) × (S × (last ≡ frames_after limit t fr (Lent a)))
-    → {o : OptionUsize} → o ≡ frames_in r → {n : ℕ} {x : List ℕ} → o ≡ Ou.Some n → x ≡ take (16 * n) last
-    → Ready pass x a
-ready-part pass limit t fr last a r e eo {n} en ex =
-    rw (ex, part-is limit t fr last (Lent a) n r e.0 e.1.1 (sym eo ∙ en))
-    (ready_of pass limit t (length fr) a n (read limit t fr last (Lent a) n r e.0 e.1.1 (sym eo ∙ en)))
+    → {n : ℕ} {x : List ℕ} → r ≡ Ok n → x ≡ take (16 * n) last → Ready pass x a
+ready-part pass limit t fr last a r e {n} en ex =
+    rw (ex, part-is limit t fr last (Lent a) n r e.0 e.1.1 en)
+    (ready_of pass limit t (length fr) a n (read limit t fr last (Lent a) n r e.0 e.1.1 en))

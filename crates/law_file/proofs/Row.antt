@@ -1,5 +1,7 @@
 -- One row of a file that is typed in order: its answer, and its verdict where it is a compose, are written after what
 -- is handed back of the rows before it. From the laws of the answer buffer (crate rule_answers).
+use Rattle.std.specs.Prelude.{Option as CodeOption, Some, Ok, Err}
+use Rattle.ir.specs.declared.Expression.{Expression}
 use Prim.Native.Nat.{ℕ, zero, suc, ◌+◌, ◌*◌, ◌-◌, ◌≤◌, ◌<◌}
 use native.Mathlib.Decide.{dec_le}
 use mathlib.Core.Bool.{true, false}
@@ -14,11 +16,9 @@ use lib.ListN.{length, take, drop, length-append, length-take, length-drop, take
 use lib.Seq.{drop-drop, take_at, drop_at}
 use Rattle.ir.specs.declared.RowNumber.{RowNumber}
 use Rattle.ir.specs.declared.Expression.TheVariants as Ex
-use Rattle.ir.specs.declared.RowForm.{RowForm}
-use Rattle.ir.specs.declared.RowForm.TheVariants as Ro
 use Rattle.ir.specs.Numbers.{row_kind_of}
-use Rattle.answers.specs.declared.Verdict.{Verdict}
-use Rattle.answers.specs.declared.Verdict.TheVariants as Vd
+use Rattle.answers.specs.Asked.{Verdict}
+use Rattle.answers.specs.declared.ComposeError.TheVariants as Co
 use Rattle.answers.specs.Limit.{max_frames}
 use Rattle.frames.specs.declared.Frame.{Frame}
 use Rattle.frames.specs.Bytes.{byte, half, word, frame_at, frame_count, put_frame}
@@ -51,13 +51,13 @@ use Rattle.rule_file.specs.ForProofs.{Room, Ready, Turn, Written}
 
 -- the code's verdicts are written as the definitions have them
 pub verdict-framed : (r : RowNumber) (v : Verdict) → Out.verdict_frame r v ≡ verdict_frame r (to_judged v)
-verdict-framed r Vd.Passes = refl
-verdict-framed r Vd.ComposedType = refl
-verdict-framed r (Vd.ComponentCount e g) = refl
-verdict-framed r (Vd.ComponentType i) = refl
-verdict-framed r (Vd.ComponentRefused i) = refl
-verdict-framed r Vd.NewerComposed = refl
-verdict-framed r (Vd.NewerComponent i) = refl
+verdict-framed r (Ok u) = refl
+verdict-framed r (Err Co.ComposedType) = refl
+verdict-framed r (Err (Co.ComponentCount e g)) = refl
+verdict-framed r (Err (Co.ComponentType i)) = refl
+verdict-framed r (Err (Co.ComponentRefused i)) = refl
+verdict-framed r (Err Co.NewerComposed) = refl
+verdict-framed r (Err (Co.NewerComponent i)) = refl
 
 -- what is handed back grows
 pub grows : (pass : Pass) (sight : Sight) (m n : ℕ) → m ≤ n
@@ -111,7 +111,7 @@ room_for pass fr a room m h =
 
 -- a row of byte 5 is a compose, and no other has a verdict
 compose-row : (f : Frame) → byte f 1 ≡ 5 → row_of f
-    ≡ Ro.Known (Ex.Compose (record { 0 = half f 2 }) (half f 4) (record { 0 = word f 12 }))
+    ≡ Some (Ex.Compose (record { 0 = half f 2 }) (half f 4) (record { 0 = word f 12 }))
 unfolding row_of
 compose-row f e = ap (λ (x : ℕ). row_as (row_kind_of x) f) e
 
@@ -122,7 +122,7 @@ module _ (fr : List ℕ) (m : ℕ) (here : m < row_count (starts_of fr)) where
   pub compose-rule : byte frame 1 ≡ 5
       → verdict_rule (see fr) m ≡ some (compose_rule fr (starts_of fr) frame)
   compose-rule e =
-      ap (λ (x : RowForm). of_shown (see_row fr (starts_of fr) x))
+      ap (λ (x : CodeOption Expression). of_shown (see_row fr (starts_of fr) x))
       (row_is fr (record { 0 = m }) (row-there fr m here) ∙ compose-row frame e)
 
   pub no-rule : (byte frame 1 ≡ 5 → ⊥) → verdict_rule (see fr) m ≡ none
@@ -350,7 +350,3 @@ front pass fr an m at b ea e =
     let n : length (frames_bytes (outputs pass (see fr) m))
     ≡ 16 * at = omega (arith, bytes-length (outputs pass (see fr) m), ea) in
     ap (take (16 * at)) e ∙ take_at (frames_bytes (outputs pass (see fr) m)) b (16 * at) n
-
--- and so long as it was
-pub long-as-was : (l an b : List ℕ) (i : ℕ) → an ≡ l ++ drop i b → length l ≡ i → i ≤ length b → length an ≡ length b
-long-as-was l an b i e n h = ap length e ∙ length-append l (drop i b) ∙ omega (arith, n, length-drop i b, h)

@@ -1,11 +1,12 @@
 -- What is said of one row, or of one compose, in document 01's numbers, follows from what is given: both write an
 -- answer and a verdict as one frame. By cases.
+use Rattle.std.specs.Prelude.{Ok, Err}
+use Rattle.answers.specs.declared.VerdictError.TheVariants as Ve
+use Rattle.answers.specs.declared.QueryError.TheVariants as Qe
 use mathlib.Core.Path.{◌≡◌, refl, ap, ◌∙◌}
 use Rattle.ir.specs.declared.RowNumber.{RowNumber}
-use Rattle.answers.specs.declared.RowType.{RowType}
-use Rattle.answers.specs.declared.RowType.TheVariants as Rt
-use Rattle.answers.specs.declared.ComposeVerdict.{ComposeVerdict}
-use Rattle.answers.specs.declared.ComposeVerdict.TheVariants as Cv
+use Rattle.answers.specs.Asked.{RowType}
+use Rattle.answers.specs.Asked.{ComposeVerdict}
 use Rattle.answers.specs.Numbers.{asked}
 use Rattle.frames.specs.Out.{row_type_said, compose_verdict_said}
 use Rattle.rule_rows.proofs.Written.{answer-framed}
@@ -13,15 +14,15 @@ use Rattle.rule_file.specs.Typing.{RowGiven, to_given, row_said, VerdictGiven, t
 use Rattle.law_file.proofs.Row.{verdict-framed}
 
 pub row-said : (r : RowType) → row_type_said r ≡ row_said (to_given r)
-row-said (Rt.Answered a) = ap asked (answer-framed a)
-row-said Rt.Index = refl
-row-said (Rt.NotAccepted o) = refl
+row-said (Ok a) = ap asked (answer-framed a)
+row-said (Err Qe.Index) = refl
+row-said (Err (Qe.NotAccepted o)) = refl
 
 pub verdict-said : (n : RowNumber) (r : ComposeVerdict) → compose_verdict_said n r ≡ verdict_said n (to_verdict r)
-verdict-said n (Cv.Judged v) = ap asked (verdict-framed n v)
-verdict-said n Cv.NotCompose = refl
-verdict-said n Cv.Index = refl
-verdict-said n (Cv.NotAccepted o) = refl
+verdict-said n (Ok v) = ap asked (verdict-framed n v)
+verdict-said n (Err Ve.NotCompose) = refl
+verdict-said n (Err Ve.Index) = refl
+verdict-said n (Err (Ve.NotAccepted o)) = refl
 
 pub with_row : {B : Type 0} (r : RowType) {g : RowGiven} → to_given r ≡ g → B → (to_given r ≡ g)
     × ((row_type_said r ≡ row_said g) × B)

@@ -1,5 +1,10 @@
 -- What `type_size` and `size_range` give of a text, both ways, in the words of requests 5 and 6. From the laws of
 -- reading, of sizes and of ranges.
+use Rattle.answers.specs.declared.FileError.{FileError}
+use Rattle.rule_sizes.specs.TypeSize.{size_error}
+use Rattle.rule_ranges.specs.declared.RangeError.TheVariants as Ge
+use Rattle.answers.specs.declared.QueryError.TheVariants as Qe
+use Rattle.std.specs.Prelude.{Ok, Err}
 use Prim.Native.Nat.{ℕ}
 use mathlib.Core.Path.{◌≡◌, refl}
 use mathlib.Core.Bool.{Bool, true, false, cond}
@@ -7,8 +12,7 @@ use mathlib.Core.List.{List}
 use mathlib.Core.Logic.{◌↔◌}
 use Rattle.scan.proofs.Laws.{LowestAt}
 use Rattle.ir.specs.declared.TypeNumber.{TypeNumber}
-use Rattle.answers.specs.declared.Outcome.{Outcome}
-use Rattle.answers.specs.declared.Outcome.TheVariants.{Accepted, Long, Torn, Short, Order, Field, Index}
+use Rattle.answers.specs.Outcome.{Outcome}
 use Rattle.text.specs.declared.AnswerRoom.TheVariants.{NotLent}
 use Rattle.text.specs.Lines.{decoded}
 use Rattle.text.specs.Room.{short_read}
@@ -19,14 +23,12 @@ use Rattle.rule_sizes.specs.declared.Alignment.{Alignment}
 use Rattle.rule_sizes.specs.declared.SizeFault.{SizeFault}
 use Rattle.rule_sizes.specs.declared.Measure.{Measure}
 use Rattle.rule_sizes.specs.declared.Measure.TheVariants as Me
-use Rattle.rule_sizes.specs.declared.TypeSize.TheVariants as Ts
 use Rattle.rule_sizes.specs.Sizes.{measure_in, type_size_in}
 use Rattle.rule_sizes.specs.Meaning.{Has, LowestFault}
 use Rattle.law_sizes.proofs.Folded.{never}
 use Rattle.law_sizes.proofs.Laws.{fills-when, fault-when}
 use Rattle.rule_ranges.specs.declared.Range.TheVariants as Ra
-use Rattle.rule_ranges.specs.declared.TypeRange.{TypeRange}
-use Rattle.rule_ranges.specs.declared.TypeRange.TheVariants as Tr
+use Rattle.rule_ranges.specs.TypeRange.{TypeRange, range_error}
 use Rattle.rule_ranges.specs.Counts.{Counts}
 use Rattle.rule_ranges.specs.Ranges.{counts_of, type_range_in, span_ok}
 use Rattle.rule_ranges.specs.Meaning.{AtMost, AllSpan}
@@ -54,7 +56,7 @@ module _ (limit : ℕ) (t : List ℕ) (f : ℕ) (n : TypeNumber) where
 
   -- what is measured is the measure in the text's frames
   measured-when : (m : Measure)
-      → (type_size limit t f n ≡ Ts.Measured m) ↔ Of limit t f n (λ fr. measure_in fr (starts_of fr) n ≡ m)
+      → (type_size limit t f n ≡ Ok m) ↔ Of limit t f n (λ fr. measure_in fr (starts_of fr) n ≡ m)
   unfolding type_size type_size_in
   measured-when m = (
     λ e. go (read_file limit t f NotLent) refl e,
@@ -64,27 +66,22 @@ module _ (limit : ℕ) (t : List ℕ) (f : ℕ) (n : TypeNumber) where
       Wanted : Type 0
       Wanted = Of limit t f n (λ fr. measure_in fr (starts_of fr) n ≡ m)
 
-      there-or-not : (k : ℕ) → read_file limit t f NotLent ≡ Accepted k → (b : Bool)
+      there-or-not : (k : ℕ) → read_file limit t f NotLent ≡ Ok k → (b : Bool)
           → is_type (starts_of (decoded t k)) n ≡ b
-          → cond b (Ts.Measured (measure_in (decoded t k) (starts_of (decoded t k)) n)) Ts.Index ≡ Ts.Measured m
+          → cond b (Ok (measure_in (decoded t k) (starts_of (decoded t k)) n)) (Err Qe.Index) ≡ Ok m
           → Wanted
       there-or-not k e true i h =
           record { frames = k; accepted = (accepted-when limit t f NotLent k).0 e; there = i; holds = cc }
       there-or-not k e false i h = never (cc)
 
       go : (o : Outcome) → read_file limit t f NotLent ≡ o
-          → over_file Ts.NotAccepted (λ (fr : List ℕ). type_size_in fr (starts_of fr) n) t o ≡ Ts.Measured m → Wanted
-      go (Accepted k) e h = there-or-not k e (is_type (starts_of (decoded t k)) n) refl h
-      go (Long k) e h = never (cc)
-      go (Torn k) e h = never (cc)
-      go Short e h = never (cc)
-      go (Order k) e h = never (cc)
-      go (Field k) e h = never (cc)
-      go (Index k) e h = never (cc)
+          → over_file size_error (λ (fr : List ℕ). type_size_in fr (starts_of fr) n) t o ≡ Ok m → Wanted
+      go (Ok k) e h = there-or-not k e (is_type (starts_of (decoded t k)) n) refl h
+      go (Err x) e h = never (cc)
 
   -- alignment and size exactly where the type has them
   pub size-means : (a : Alignment) (z : ℕ)
-      → (type_size limit t f n ≡ Ts.Measured (Me.Fills a z)) ↔ Of limit t f n (λ fr. Has fr n a z)
+      → (type_size limit t f n ≡ Ok (Me.Fills a z)) ↔ Of limit t f n (λ fr. Has fr n a z)
   size-means a z = (
     λ e. of-frames (λ fr g. (fills-when fr g n a z).0) ((measured-when (Me.Fills a z)).0 e),
     λ o. (measured-when (Me.Fills a z)).1 (of-frames (λ fr g. (fills-when fr g n a z).1) o),
@@ -92,7 +89,7 @@ module _ (limit : ℕ) (t : List ℕ) (f : ℕ) (n : TypeNumber) where
 
   -- a number at a type exactly where that is the lowest faulty one
   pub fault-means : (k : SizeFault) (m : TypeNumber)
-      → (type_size limit t f n ≡ Ts.Measured (Me.Faulty k m)) ↔ Of limit t f n (λ fr. LowestFault fr n m k)
+      → (type_size limit t f n ≡ Ok (Me.Faulty k m)) ↔ Of limit t f n (λ fr. LowestFault fr n m k)
   fault-means k m = (
     λ e. of-frames (λ fr g. (fault-when fr g n m k).0) ((measured-when (Me.Faulty k m)).0 e),
     λ o. (measured-when (Me.Faulty k m)).1 (of-frames (λ fr g. (fault-when fr g n m k).1) o),
@@ -104,7 +101,7 @@ module _ (fr : List ℕ) (good : Good fr) (least greatest : Counts) (n : TypeNum
   most h o l = (h o l).1
 
   ranges-when : (a : Alignment) (y z : ℕ)
-      → (type_range_in fr (starts_of fr) least greatest n ≡ Tr.Ranged (Ra.Spans a y z))
+      → (type_range_in fr (starts_of fr) least greatest n ≡ Ok (Ra.Spans a y z))
       ↔ Ranges least greatest n a y z fr
   ranges-when a y z = (
     λ e.
@@ -126,7 +123,7 @@ module _ (fr : List ℕ) (good : Good fr) (least greatest : Counts) (n : TypeNum
   )
 
   refuses-when : (k : SizeFault) (m : TypeNumber)
-      → (type_range_in fr (starts_of fr) least greatest n ≡ Tr.Ranged (Ra.Faulty k m)) ↔ Refuses least greatest n k m fr
+      → (type_range_in fr (starts_of fr) least greatest n ≡ Ok (Ra.Faulty k m)) ↔ Refuses least greatest n k m fr
   refuses-when k m = (
     λ e.
         let q = (asked-when fr least greatest n (Ra.Faulty k m)).0 e in
@@ -156,7 +153,7 @@ module _ (limit : ℕ) (t : List ℕ) (f : ℕ) (least greatest : List ℕ) (n :
   in-frames fr = type_range_in fr (starts_of fr) (counts_of least) (counts_of greatest) n
 
   -- what is said is what is said in the text's frames, but for the file's own numbers
-  pub said-when : (r : TypeRange) → ((o : Outcome) → (Tr.NotAccepted o ≡ r) → ⊥)
+  pub said-when : (r : TypeRange) → ((e : FileError) → (Err (Ge.NotAccepted e) ≡ r) → ⊥)
       → (size_range limit t f least greatest n ≡ r) ↔ Read limit t f least greatest (λ fr. in-frames fr ≡ r)
   unfolding size_range
   said-when r given = (
@@ -168,48 +165,43 @@ module _ (limit : ℕ) (t : List ℕ) (f : ℕ) (least greatest : List ℕ) (n :
       Wanted = Read limit t f least greatest (λ fr. in-frames fr ≡ r)
 
       go : tables_short least greatest ≡ false → (o : Outcome) → read_file limit t f NotLent ≡ o
-          → over_file Tr.NotAccepted in-frames t o ≡ r → Wanted
-      go q (Accepted k) e h =
+          → over_file range_error in-frames t o ≡ r → Wanted
+      go q (Ok k) e h =
           record { tables = q; frames = k; accepted = (accepted-when limit t f NotLent k).0 e; holds = h }
-      go q (Long k) e h = absurd (given (Long k) h)
-      go q (Torn k) e h = absurd (given (Torn k) h)
-      go q Short e h = absurd (given Short h)
-      go q (Order k) e h = absurd (given (Order k) h)
-      go q (Field k) e h = absurd (given (Field k) h)
-      go q (Index k) e h = absurd (given (Index k) h)
+      go q (Err x) e h = absurd (given x h)
 
       long : (b : Bool) → tables_short least greatest ≡ b
-          → cond b (Tr.NotAccepted (short_read limit t))
-          (over_file Tr.NotAccepted in-frames t (read_file limit t f NotLent)) ≡ r → Wanted
+          → cond b (Err (Ge.NotAccepted (short_read limit t)))
+          (over_file range_error in-frames t (read_file limit t f NotLent)) ≡ r → Wanted
       long true q h = absurd (given (short_read limit t) h)
       long false q h = go q (read_file limit t f NotLent) refl h
 
   -- a range exactly where the type has these sizes at the least and at the greatest counts
-  pub range-means : (a : Alignment) (y z : ℕ) → (size_range limit t f least greatest n ≡ Tr.Ranged (Ra.Spans a y z))
+  pub range-means : (a : Alignment) (y z : ℕ) → (size_range limit t f least greatest n ≡ Ok (Ra.Spans a y z))
       ↔ Read limit t f least greatest (Ranges (counts_of least) (counts_of greatest) n a y z)
   range-means a y z =
-      let s = said-when (Tr.Ranged (Ra.Spans a y z)) (λ o q. never (cc)) in (
+      let s = said-when (Ok (Ra.Spans a y z)) (λ o q. never (cc)) in (
         λ e. read-frames (λ fr g. (ranges-when fr g (counts_of least) (counts_of greatest) n a y z).0) (s.0 e),
         λ o. s.1 (read-frames (λ fr g. (ranges-when fr g (counts_of least) (counts_of greatest) n a y z).1) o),
       )
 
   -- a number at a type exactly where that is the lowest faulty one at the greatest counts
   pub refusal-means : (k : SizeFault) (m : TypeNumber)
-      → (size_range limit t f least greatest n ≡ Tr.Ranged (Ra.Faulty k m))
+      → (size_range limit t f least greatest n ≡ Ok (Ra.Faulty k m))
       ↔ Read limit t f least greatest (Refuses (counts_of least) (counts_of greatest) n k m)
   refusal-means k m =
-      let s = said-when (Tr.Ranged (Ra.Faulty k m)) (λ o q. never (cc)) in (
+      let s = said-when (Ok (Ra.Faulty k m)) (λ o q. never (cc)) in (
         λ e. read-frames (λ fr g. (refuses-when fr g (counts_of least) (counts_of greatest) n k m).0) (s.0 e),
         λ o. s.1 (read-frames (λ fr g. (refuses-when fr g (counts_of least) (counts_of greatest) n k m).1) o),
       )
 
   -- 45 at an override exactly where that is the lowest one without a good span
-  pub span-means : (o : ℕ) → (size_range limit t f least greatest n ≡ Tr.Span o)
+  pub span-means : (o : ℕ) → (size_range limit t f least greatest n ≡ Err (Ge.Span o))
       ↔ Read limit t f least greatest (λ fr. (is_type (starts_of fr) n ≡ true)
       × LowestAt (λ (k : ℕ). span_ok (counts_of least) (counts_of greatest) (record { 0 = k }))
       (override_count (starts_of fr)) o)
   span-means o =
-      let s = said-when (Tr.Span o) (λ o q. never (cc)) in (
+      let s = said-when (Err (Ge.Span o)) (λ o q. never (cc)) in (
         λ e. read-frames (λ fr g. (span-when fr (counts_of least) (counts_of greatest) n o).0) (s.0 e),
         λ q. s.1 (read-frames (λ fr g. (span-when fr (counts_of least) (counts_of greatest) n o).1) q),
       )

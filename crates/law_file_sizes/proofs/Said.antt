@@ -1,13 +1,15 @@
 -- What is said of a type's size, or of its range, in the document's numbers is what is said of the outcome. By cases.
+use Rattle.rule_ranges.specs.TypeRange.{range_error}
+use Rattle.rule_sizes.specs.TypeSize.{size_error}
+use Rattle.rule_ranges.specs.declared.RangeError.TheVariants as Ge
+use Rattle.answers.specs.declared.QueryError.TheVariants as Qe
+use Rattle.std.specs.Prelude.{ℕ, Option, Some, None, Ok, Err}
 use Prim.Native.Nat.{ℕ}
 use mathlib.Core.Path.{◌≡◌, refl, ap, ◌∙◌}
 use mathlib.Core.Bool.{Bool, true, false, cond}
 use mathlib.Core.List.{List}
-use Rattle.scan.specs.declared.Found.{Found}
-use Rattle.scan.specs.declared.Found.TheVariants.{At, Nothing}
 use Rattle.ir.specs.declared.TypeNumber.{TypeNumber}
-use Rattle.answers.specs.declared.Outcome.{Outcome}
-use Rattle.answers.specs.declared.Outcome.TheVariants.{Accepted, Long, Torn, Short, Order, Field, Index}
+use Rattle.answers.specs.Outcome.{Outcome}
 use Rattle.answers.specs.Numbers.{instead, not_there}
 use Rattle.text.specs.declared.AnswerRoom.TheVariants.{NotLent}
 use Rattle.text.specs.Lines.{decoded}
@@ -15,10 +17,8 @@ use Rattle.text.specs.Room.{short_read}
 use Rattle.archive.specs.Starts.{starts_of}
 use Rattle.archive.specs.Names.{is_type}
 use Rattle.rule_sizes.specs.declared.Measure.{Measure}
-use Rattle.rule_sizes.specs.declared.TypeSize.TheVariants as Ts
 use Rattle.rule_sizes.specs.Sizes.{measure_in, type_size_in, measure_said, size_said}
 use Rattle.rule_ranges.specs.declared.Range.{Range}
-use Rattle.rule_ranges.specs.declared.TypeRange.TheVariants as Tr
 use Rattle.rule_ranges.specs.Ranges.{counts_of, range_in, faulty_span, unless_span, type_range_in, range_said}
 use Rattle.rule_ranges.specs.Ranges.{type_range_said}
 use Rattle.rule_file.specs.File.{over_file, read_file}
@@ -30,49 +30,39 @@ pub size-said : (limit : ℕ) (t : List ℕ) (f : ℕ) (n : TypeNumber)
 unfolding type_size type_size_in type_size_said
 size-said limit t f n = go (read_file limit t f NotLent)
   where
-    there : (b : Bool) (m : Measure) → size_said (cond b (Ts.Measured m) Ts.Index)
+    there : (b : Bool) (m : Measure) → size_said (cond b (Ok m) (Err Qe.Index))
         ≡ cond b (measure_said m) (instead not_there)
     there true m = refl
     there false m = refl
 
-    go : (o : Outcome) → size_said (over_file Ts.NotAccepted (λ (fr : List ℕ). type_size_in fr (starts_of fr) n) t o)
+    go : (o : Outcome) → size_said (over_file size_error (λ (fr : List ℕ). type_size_in fr (starts_of fr) n) t o)
         ≡ over_file file_instead (size_values n) t o
-    go (Accepted k) = there (is_type (starts_of (decoded t k)) n) (measure_in (decoded t k) (starts_of (decoded t k)) n)
-    go (Long k) = refl
-    go (Torn k) = refl
-    go Short = refl
-    go (Order k) = refl
-    go (Field k) = refl
-    go (Index k) = refl
+    go (Ok k) = there (is_type (starts_of (decoded t k)) n) (measure_in (decoded t k) (starts_of (decoded t k)) n)
+    go (Err x) = refl
 
 pub range-said : (limit : ℕ) (t : List ℕ) (f : ℕ) (least greatest : List ℕ) (n : TypeNumber)
     → type_range_said (size_range limit t f least greatest n) ≡ size_range_said limit t f least greatest n
 unfolding size_range type_range_in size_range_said
 range-said limit t f least greatest n = long (tables_short least greatest)
   where
-    there : (b : Bool) (s : Found) (r : Range) → type_range_said (cond b (unless_span s r) Tr.Index)
+    there : (b : Bool) (s : Option ℕ) (r : Range) → type_range_said (cond b (unless_span s r) (Err Ge.Index))
         ≡ cond b (span_first s (range_said r)) (instead not_there)
-    there true (At o) r = refl
-    there true Nothing r = refl
+    there true (Some o) r = refl
+    there true None r = refl
     there false s r = refl
 
     go : (o : Outcome) → type_range_said
-        (over_file Tr.NotAccepted
+        (over_file range_error
         (λ (fr : List ℕ). type_range_in fr (starts_of fr) (counts_of least) (counts_of greatest) n) t o)
         ≡ over_file file_instead (range_values (counts_of least) (counts_of greatest) n) t o
-    go (Accepted k) =
+    go (Ok k) =
         let fr = decoded t k in
         there (is_type (starts_of fr) n) (faulty_span (starts_of fr) (counts_of least) (counts_of greatest))
         (range_in fr (starts_of fr) (counts_of least) (counts_of greatest) n)
-    go (Long k) = refl
-    go (Torn k) = refl
-    go Short = refl
-    go (Order k) = refl
-    go (Field k) = refl
-    go (Index k) = refl
+    go (Err x) = refl
 
-    long : (b : Bool) → type_range_said (cond b (Tr.NotAccepted (short_read limit t))
-        (over_file Tr.NotAccepted
+    long : (b : Bool) → type_range_said (cond b (Err (Ge.NotAccepted (short_read limit t)))
+        (over_file range_error
         (λ (fr : List ℕ). type_range_in fr (starts_of fr) (counts_of least) (counts_of greatest) n) t
         (read_file limit t f NotLent)))
         ≡ cond b (file_instead (short_read limit t))

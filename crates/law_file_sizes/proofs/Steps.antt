@@ -1,5 +1,7 @@
 -- One entry of the least or of the greatest table raised by one, in what `size_range` gives of a text. From the same
 -- laws of the text's frames: an accepted text has at most 1,024 overrides, so the entry is in the table.
+use Rattle.rule_ranges.specs.declared.RangeError.TheVariants as Ge
+use Rattle.std.specs.Prelude.{Some, Ok, Err}
 use Prim.Native.Nat.{ℕ, suc, ◌+◌, ◌≤◌, ◌<◌}
 use native.Mathlib.Omega.{arith}
 use mathlib.Core.Path.{◌≡◌, refl, ap, ◌∙◌}
@@ -14,7 +16,6 @@ use Rattle.ir.specs.declared.ItemNumber.{ItemNumber}
 use Rattle.ir.specs.declared.MemberNumber.{MemberNumber}
 use Rattle.ir.specs.declared.ArraySize.TheVariants as As
 use Rattle.ir.specs.declared.TypeInner.TheVariants as Ti
-use Rattle.ir.specs.declared.TypeForm.TheVariants as Tf
 use Rattle.text.specs.declared.AnswerRoom.TheVariants.{NotLent}
 use Rattle.text.specs.Lines.{line_count}
 use Rattle.text.proofs.Laws.{count_small}
@@ -27,8 +28,7 @@ use Rattle.rule_sizes.specs.Wgsl.{round_up}
 use Rattle.rule_sizes.specs.Meaning.{struct_member}
 use Rattle.law_sizes.proofs.Folded.{never}
 use Rattle.rule_ranges.specs.declared.Range.TheVariants.{Spans}
-use Rattle.rule_ranges.specs.declared.TypeRange.{TypeRange}
-use Rattle.rule_ranges.specs.declared.TypeRange.TheVariants as Tr
+use Rattle.rule_ranges.specs.TypeRange.{TypeRange}
 use Rattle.rule_ranges.specs.Ranges.{counts_of, type_range_in}
 use Rattle.rule_ranges.specs.Meaning.{Over, Raised, Beside, sum, spans_or_huge, GreatestSteps, LeastSteps}
 use Rattle.law_ranges.proofs.Free.{over-there}
@@ -59,7 +59,7 @@ overrides-few limit t f a =
     omega (arith, (begins (text_frames t) 771).within, count-decoded t (line_count t), count_small a.readable)
 
 module _ (limit : ℕ) (t : List ℕ) (f : ℕ) (least greatest : List ℕ) (n : TypeNumber) (a : Alignment) (y z : ℕ)
-    (e : size_range limit t f least greatest n ≡ Tr.Ranged (Spans a y z)) where
+    (e : size_range limit t f least greatest n ≡ Ok (Spans a y z)) where
   abbrev fr : List ℕ
   fr = text_frames t
 
@@ -67,8 +67,8 @@ module _ (limit : ℕ) (t : List ℕ) (f : ℕ) (least greatest : List ℕ) (n :
   at low high = type_range_in fr (starts_of fr) (counts_of low) (counts_of high) n
 
   read : Read limit t f least greatest
-      (λ x. type_range_in x (starts_of x) (counts_of least) (counts_of greatest) n ≡ Tr.Ranged (Spans a y z))
-  read = (said-when limit t f least greatest n (Tr.Ranged (Spans a y z)) (λ o q. never (cc))).0 e
+      (λ x. type_range_in x (starts_of x) (counts_of least) (counts_of greatest) n ≡ Ok (Spans a y z))
+  read = (said-when limit t f least greatest n (Ok (Spans a y z)) (λ o q. never (cc))).0 e
 
   lines : read.frames ≡ line_count t
   lines = read.accepted.readable.count
@@ -79,7 +79,7 @@ module _ (limit : ℕ) (t : List ℕ) (f : ℕ) (least greatest : List ℕ) (n :
   good : Good fr
   good = good-text limit t f (line_count t) accepted
 
-  is : at least greatest ≡ Tr.Ranged (Spans a y z)
+  is : at least greatest ≡ Ok (Spans a y z)
   is = rw lines at read.holds
 
   long : (1024 ≤ length least) × (1024 ≤ length greatest)
@@ -106,19 +106,19 @@ module _ (limit : ℕ) (t : List ℕ) (f : ℕ) (least greatest : List ℕ) (n :
   -- AN ARRAY over override o: its greatest size moves by exactly the stride, or it is 44 itself; its least size moves
   -- by exactly the stride, or the least count is above the greatest now, 45
   module _ (o : ItemNumber) (b : TypeNumber) (stride : ℕ)
-      (g : type_at (text_frames t) n ≡ Tf.Known (Ti.Array b (As.Pending o) stride)) where
+      (g : type_at (text_frames t) n ≡ Some (Ti.Array b (As.Pending o) stride)) where
     inside : o.0 < override_count (starts_of fr)
     inside = over-there fr good o n (Over.pending o n b stride g)
 
     pub greatest-array-steps : size_range limit t f least (raised_at o greatest) n
-        ≡ Tr.Ranged (spans_or_huge n a y (z + stride))
+        ≡ Ok (spans_or_huge n a y (z + stride))
     greatest-array-steps =
         again least (raised_at o greatest) refl (length-set greatest o.0 _)
         ∙ R.greatest-array fr good o (counts_of least) (counts_of greatest) n a y z is _ (high-raised o inside) b stride
         g
 
     pub least-array-steps : size_range limit t f (raised_at o least) greatest n
-        ≡ cond (ltb (counts_of least o) (counts_of greatest o)) (Tr.Ranged (Spans a (y + stride) z)) (Tr.Span o.0)
+        ≡ cond (ltb (counts_of least o) (counts_of greatest o)) (Ok (Spans a (y + stride) z)) (Err (Ge.Span o.0))
     least-array-steps =
         again (raised_at o least) greatest (length-set least o.0 _) refl
         ∙ R.least-array fr good o (counts_of least) (counts_of greatest) n a y z is _ (low-raised o inside) b stride g
@@ -128,7 +128,7 @@ module _ (limit : ℕ) (t : List ℕ) (f : ℕ) (least greatest : List ℕ) (n :
   -- its least, or there is 45
   module _ (o : ItemNumber) (l : o.0 < override_count (starts_of (text_frames t))) (first : MemberNumber)
       (count span : ℕ)
-      (g : type_at (text_frames t) n ≡ Tf.Known (Ti.Struct first count span)) (strides : ℕ → ℕ)
+      (g : type_at (text_frames t) n ≡ Some (Ti.Struct first count span)) (strides : ℕ → ℕ)
       (each : (i : ℕ) → i < count
       → Beside (text_frames t) o (struct_member (text_frames t) first i).ty (strides i)) where
     pub greatest-struct-steps : GreatestSteps a y z (sum (λ i. round_up a (strides i)) count)

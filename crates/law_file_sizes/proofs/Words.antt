@@ -1,4 +1,5 @@
 -- Sentences of requests 5 and 6, each by itself: the relations hold them by their cases.
+use Rattle.std.specs.Prelude.{Some}
 use Prim.Native.Nat.{ℕ}
 use native.Mathlib.Omega.{arith}
 use mathlib.Core.Path.{◌≡◌, refl, sym, ◌∙◌, subst}
@@ -6,7 +7,6 @@ use mathlib.Core.List.{List}
 use Rattle.ir.specs.declared.TypeNumber.{TypeNumber}
 use Rattle.ir.specs.declared.MemberNumber.{MemberNumber}
 use Rattle.ir.specs.declared.TypeInner.TheVariants as Ti
-use Rattle.ir.specs.declared.TypeForm.TheVariants as Tf
 use Rattle.archive.specs.Access.{type_at}
 use Rattle.rule_sizes.specs.declared.SizeFault.TheVariants.{Misplaced}
 use Rattle.rule_sizes.specs.Meaning.{Listed, RestsOn}
@@ -25,7 +25,7 @@ module _ (fr : List ℕ) where
 
   -- a struct that holds a pending array can't give 43
   pub never-misplaced : (c : Counts) (n : TypeNumber) (first : MemberNumber) (count span : ℕ)
-      → type_at fr n ≡ Tf.Known (Ti.Struct first count span) → Holds fr n → FaultAt fr c n Misplaced → ⊥
+      → type_at fr n ≡ Some (Ti.Struct first count span) → Holds fr n → FaultAt fr c n Misplaced → ⊥
   never-misplaced c n first count span e h f = go f.cause
     where
       go : BreaksAt fr c n → ⊥

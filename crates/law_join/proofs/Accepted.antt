@@ -1,10 +1,10 @@
 -- THE JOIN IS ACCEPTED: its frames pass checks 4 to 6. Each part holds frames of one rank, and parts stand in order; a
 -- frame keeps its family, kind and values; and what it names is there and earlier, for both files.
+use Rattle.std.specs.Prelude.{Ok}
 use Prim.Native.Nat.{ℕ, ◌+◌, ◌≤◌}
 use native.Mathlib.Omega.{arith}
 use mathlib.Core.Path.{◌≡◌, ap, ◌∙◌}
 use mathlib.Core.List.{List}
-use Rattle.answers.specs.declared.Outcome.TheVariants.{Accepted}
 use Rattle.answers.specs.Limit.{max_frames}
 use Rattle.frames.specs.Bytes.{frame_count}
 use Rattle.archive.specs.Checks.{index_ok, check_frames}
@@ -36,8 +36,8 @@ module _ (fr gr : List ℕ) (good : Good fr) (also : Good gr) (jf : Joinable fr)
 
   -- and the join is accepted where it has no more frames than a file may have
   pub join-accepted : frame_count fr + frame_count gr ≤ max_frames → check_frames (join_file fr gr)
-      ≡ Accepted (frame_count fr + frame_count gr)
+      ≡ Ok (frame_count fr + frame_count gr)
   join-accepted l =
       let a = join-count fr gr in let b = end_is fr in let c = end_is gr in
       let e : frame_count J ≡ frame_count fr + frame_count gr = omega arith in
-      (good-when J (omega arith)).1 join-good ∙ ap Accepted e
+      (good-when J (omega arith)).1 join-good ∙ ap Ok e

@@ -1,6 +1,8 @@
 -- A JOIN MAY BE JOINED AGAIN (document 02, request 14): it holds no unknown kind, no Math row and no special type item,
 -- and none of its rows is answered 19 or 20. For a type or a row of the join is one of the two files', and reads and
 -- answers as it did there.
+use Rattle.std.specs.Prelude.{Option as CodeOption, Some, None}
+use Rattle.ir.specs.declared.TypeInner.{TypeInner}
 use Prim.Native.Nat.{ℕ, ◌+◌, ◌-◌, ◌<◌}
 use native.Mathlib.Decide.{dec_lt}
 use native.Mathlib.Omega.{arith}
@@ -11,8 +13,6 @@ use mathlib.Core.Option.{Option, none, some}
 use borrow.Author.Tests.{ltb-true, lt-ltb}
 use Rattle.ir.specs.declared.TypeNumber.{TypeNumber}
 use Rattle.ir.specs.declared.RowNumber.{RowNumber}
-use Rattle.ir.specs.declared.TypeForm.{TypeForm}
-use Rattle.ir.specs.declared.TypeForm.TheVariants as Tf
 use Rattle.answers.specs.declared.Refusal.{Refusal}
 use Rattle.answers.specs.declared.Refusal.TheVariants as R
 use Rattle.archive.specs.Starts.{starts_of, type_count, row_count}
@@ -38,9 +38,9 @@ never z = absurd (omega arith)
 
 -- WHAT IS MOVED is of an unknown kind, shows nothing, or is 19 or 20, only where it was
 module _ (m : Moves) where
-  form-back : (x : TypeForm) → type_form_to m x ≡ Tf.Unknown → x ≡ Tf.Unknown
-  form-back (Tf.Known t) e = never (cc)
-  form-back Tf.Unknown e = refl
+  form-back : (x : CodeOption TypeInner) → type_form_to m x ≡ None → x ≡ None
+  form-back (Some t) e = never (cc)
+  form-back None e = refl
 
   shows-back : (c : Thing) (x : Option (Seen c)) → shows_to m c x ≡ none → x ≡ none
   shows-back c none e = refl
@@ -133,7 +133,7 @@ module _ (fr gr : List ℕ) (good : Good fr) (also : Good gr) (jf : Joinable fr)
   pub join-joinable : Joinable (join_file fr gr)
   join-joinable =
       record {
-        types = by-type (λ n. type_at J n ≡ Tf.Unknown → ⊥)
+        types = by-type (λ n. type_at J n ≡ None → ⊥)
             (λ n here e. jf.types n here (form-back first_moves (type_at fr n)
             (sym (type-carried first_moves (λ n. Unit {0}) fr J good (first-carried fr gr good also jf jg) n here)
             ∙ e)))

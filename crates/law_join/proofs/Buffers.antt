@@ -1,6 +1,8 @@
 -- THE LENT BUFFERS (document 02, request 14): a join's lines stand at the front of the buffer for them and its other
 -- bytes stay; with any number it is as it was. The second's frame buffer is as reading leaves it where the first text
 -- was accepted, else as it was. By the same tests that the outcome goes by.
+use Rattle.answers.specs.declared.FileError.{FileError}
+use Rattle.std.specs.Prelude.{Ok}
 use Prim.Native.Nat.{ℕ, ◌+◌, ◌*◌, ◌≤◌}
 use native.Mathlib.Omega.{arith}
 use mathlib.Core.Path.{◌≡◌, refl, ap, ◌∙◌}
@@ -10,8 +12,7 @@ use lib.Dec.{ltb, leb}
 use lib.ListN.{length, take, drop}
 use lib.Seq.{take_at}
 use borrow.Author.Tests.{ltb-false, leb-true, le-ltb, le-leb}
-use Rattle.answers.specs.declared.Outcome.{Outcome}
-use Rattle.answers.specs.declared.Outcome.TheVariants.{Accepted}
+use Rattle.answers.specs.Outcome.{Outcome}
 use Rattle.text.specs.declared.AnswerRoom.TheVariants.{NotLent}
 use Rattle.text.specs.Lines.{line_count}
 use Rattle.text.specs.Reading.{most_frames}
@@ -52,12 +53,12 @@ module _ (limit : ℕ) (t u : List ℕ) (f g : ℕ) (out : List ℕ) where
     written =
         let a = is.within in let b = frames-lines t in let c = frames-lines u in let d = is.room in
         let l = long in let e = is.frames in
-        over-accepted limit t f NotLent (λ (x : Outcome). out)
-        (λ (x : List ℕ). over_file (λ (x : Outcome). out)
+        over-accepted limit t f NotLent (λ (x : FileError). out)
+        (λ (x : List ℕ). over_file (λ (x : FileError). out)
         (λ (y : List ℕ). by_tests limit x y out out (printed_after (join_text x y) out)) u
         (read_file limit u g NotLent))
         is.able.both.first
-        ∙ over-accepted limit u g NotLent (λ (x : Outcome). out)
+        ∙ over-accepted limit u g NotLent (λ (x : FileError). out)
         (λ (y : List ℕ). by_tests limit fr y out out (printed_after (join_text fr y) out)) is.able.both.second
         ∙ rw (
           passes limit t u f g is.able,
@@ -71,7 +72,7 @@ module _ (limit : ℕ) (t u : List ℕ) (f g : ℕ) (out : List ℕ) where
 
     -- what stands there is accepted within the same limit, with any frame buffer of 16 bytes a frame
     pub written-accepted : (b : ℕ) → 16 * k ≤ b
-        → read_file limit (take (33 * k) (joined_after limit t u f g out)) b NotLent ≡ Accepted k
+        → read_file limit (take (33 * k) (joined_after limit t u f g out)) b NotLent ≡ Ok k
     written-accepted b room = rw written-front (join-accepted limit t u f g (length out) k joins b room)
 
   -- WITH ANY NUMBER IT IS AS IT WAS
@@ -98,27 +99,27 @@ module _ (limit : ℕ) (t u : List ℕ) (f g : ℕ) (out : List ℕ) where
     pub unwritten : joined_after limit t u f g out ≡ out
     unfolding joined_after
     unwritten =
-        by-text limit t f NotLent (λ (x : Outcome). out)
-        (λ (x : List ℕ). over_file (λ (x : Outcome). out)
+        by-text limit t f NotLent (λ (x : FileError). out)
+        (λ (x : List ℕ). over_file (λ (x : FileError). out)
         (λ (y : List ℕ). by_tests limit x y out out (printed_after (join_text x y) out)) u
         (read_file limit u g NotLent))
         (λ s. s ≡ out) (λ x r. refl)
-        (λ e. by-text limit u g NotLent (λ (x : Outcome). out)
+        (λ e. by-text limit u g NotLent (λ (x : FileError). out)
         (λ (y : List ℕ). by_tests limit fr y out out (printed_after (join_text fr y) out)) (λ s. s ≡ out) (λ x r. refl)
         (λ d. both-kept (record { first = e; second = d })))
 
 -- THE SECOND'S FRAME BUFFER
 module _ (limit : ℕ) (t u : List ℕ) (f g o : ℕ) (buffer : List ℕ) where
   -- with the first text's own number it is as it was
-  pub second-kept : (x : Outcome) → join_files limit t u f g o ≡ Jf.First x → second_after limit t u f buffer ≡ buffer
+  pub second-kept : (x : FileError) → join_files limit t u f g o ≡ Jf.First x → second_after limit t u f buffer ≡ buffer
   unfolding second_after
   second-kept x e =
-      over-refused limit t f NotLent (λ (x : Outcome). buffer) (λ (x : List ℕ). frames_after limit u buffer NotLent) x
+      over-refused limit t f NotLent (λ (x : FileError). buffer) (λ (x : List ℕ). frames_after limit u buffer NotLent) x
       ((first-when limit t u f g o x).0 e)
 
   -- where the first is accepted it is as reading the second alone leaves it
-  pub second-after : read_file limit t f NotLent ≡ Accepted (line_count t)
+  pub second-after : read_file limit t f NotLent ≡ Ok (line_count t)
       → second_after limit t u f buffer ≡ frames_after limit u buffer NotLent
   unfolding second_after
-  second-after e = over-accepted limit t f NotLent (λ (x : Outcome). buffer)
+  second-after e = over-accepted limit t f NotLent (λ (x : FileError). buffer)
       (λ (x : List ℕ). frames_after limit u buffer NotLent) e

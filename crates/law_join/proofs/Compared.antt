@@ -1,6 +1,7 @@
 -- TWO FRAMES HANDED IN compare in the join as they did in their file (document 02, request 14: "sameness within one
 -- kernel"), where the comparison meets them with neither 5 nor 6: those of the first as they are, those of the second
 -- with their numbers moved. For a type's number and a value, moved, stand for the answer moved.
+use Rattle.std.specs.Prelude.{Option as CodeOption, Some, None}
 use Prim.Native.Nat.{ℕ}
 use native.Mathlib.Omega.{arith}
 use mathlib.Core.Path.{◌≡◌, refl, sym, ap, ◌∙◌}
@@ -11,8 +12,6 @@ use lib.Dec.{eqb}
 use borrow.Author.Tests.{eqb-true}
 use Rattle.scan.proofs.Laws.{and_first, and_second}
 use Rattle.ir.specs.declared.TypeInner.{TypeInner}
-use Rattle.ir.specs.declared.TypeForm.{TypeForm}
-use Rattle.ir.specs.declared.TypeForm.TheVariants as Tf
 use Rattle.ir.specs.Numbers.{type_kind_of}
 use Rattle.frames.specs.declared.Frame.{Frame}
 use Rattle.frames.specs.Bytes.{byte, half}
@@ -58,12 +57,12 @@ module _ (m : Moves) (f : Frame) where
       ap type_answer_of e ∙ rw (h, half_back (m.types (half f 2)))
 
   -- a value, moved
-  value-form : (g : Frame) (t : TypeForm) → (t ≡ Tf.Unknown → ⊥)
+  value-form : (g : Frame) (t : CodeOption TypeInner) → (t ≡ None → ⊥)
       → valued g (type_form_to m t) ≡ answer_to m (valued f t)
-  value-form g (Tf.Known t) h = refl
-  value-form g Tf.Unknown h = absurd (h refl)
+  value-form g (Some t) h = refl
+  value-form g None h = absurd (h refl)
 
-  value_out : is_number f ≡ false → is_value f ≡ true → (type_of f ≡ Tf.Unknown → ⊥)
+  value_out : is_number f ≡ false → is_value f ≡ true → (type_of f ≡ None → ⊥)
       → type_answer_of (moved_out m f) ≡ answer_to m (type_answer_of f)
   unfolding moved_out moved_type
   value_out n h known =
@@ -99,7 +98,8 @@ module _ (m : Moves) (f : Frame) where
           → type_answer_of (moved_out m f) ≡ answer_to m (type_answer_of f)
       go true v a b h = number-out a
       go false true a b h = value_out a b
-          (λ e. let z : Fa.Field ≡ Fa.Sound = ap (λ (t : TypeForm). fault_of s (valued f t)) (sym e) ∙ h in never (cc))
+          (λ e. let z : Fa.Field ≡ Fa.Sound = ap (λ (t : CodeOption TypeInner). fault_of s (valued f t)) (sym e)
+          ∙ h in never (cc))
       go false false a b h = never (cc)
 
 -- A COMPARISON'S 22 NAMES NO PLACE, so nothing of its outcome is moved: each of its steps is at no place, and it reads

@@ -1,5 +1,6 @@
 -- WHAT ROWS FIND in a joinable file: an argument that a row names is there, since else the row would be answered 19; a
 -- special type never is.
+use Rattle.std.specs.Prelude.{Some, None}
 use Prim.Native.Nat.{ℕ, ◌-◌, ◌≤◌, ◌<◌}
 use native.Mathlib.Omega.{arith}
 use mathlib.Core.Path.{◌≡◌, refl, ap, ◌∙◌}
@@ -9,7 +10,6 @@ use mathlib.Core.Option.{none, some}
 use lib.Dec.{ltb}
 use borrow.Author.Tests.{ltb-true, le-ltb}
 use Rattle.ir.specs.declared.Expression.TheVariants as Ex
-use Rattle.ir.specs.declared.RowForm.TheVariants as Ro
 use Rattle.archive.specs.Starts.{starts_of, row_count}
 use Rattle.archive.specs.Access.{row_in}
 use Rattle.rule.specs.Things.{maybe_item, kind, see, see_row}
@@ -26,7 +26,7 @@ no_item x first last l = let a : ltb 0 (last - first) ≡ false = le-ltb 0 (last
 
 -- a row that names an argument finds it, where no row is answered 19
 pub argued : (x : List ℕ) → Joinable x → (n i : ℕ) → n < row_count (starts_of x)
-    → row_in x (starts_of x) (record { 0 = n }) ≡ Ro.Known (Ex.FunctionArgument i)
+    → row_in x (starts_of x) (record { 0 = n }) ≡ Some (Ex.FunctionArgument i)
     → i < (starts_of x).locals - (starts_of x).arguments
 argued x j n i l e = cases (ltb i ((starts_of x).locals - (starts_of x).arguments))
     (λ h. ltb-true i ((starts_of x).locals - (starts_of x).arguments) h)
@@ -38,10 +38,10 @@ argued x j n i l e = cases (ltb i ((starts_of x).locals - (starts_of x).argument
     shows h = ap (see_row x (starts_of x)) e ∙ rw h refl
 
 -- a row that is known is there
-pub known-there : (x : List ℕ) (n i : ℕ) → row_in x (starts_of x) (record { 0 = n }) ≡ Ro.Known (Ex.FunctionArgument i)
+pub known-there : (x : List ℕ) (n i : ℕ) → row_in x (starts_of x) (record { 0 = n }) ≡ Some (Ex.FunctionArgument i)
     → n < row_count (starts_of x)
 unfolding row_in
 known-there x n i e =
     cases (ltb n (row_count (starts_of x))) (λ h. ltb-true n (row_count (starts_of x)) h)
-    (λ h. let z : Ro.Unknown ≡ Ro.Known (Ex.FunctionArgument i) = rw h at e in let y : ◌≡◌ {A = ℕ} 0 1 = cc in
+    (λ h. let z : None ≡ Some (Ex.FunctionArgument i) = rw h at e in let y : ◌≡◌ {A = ℕ} 0 1 = cc in
     absurd (omega arith))

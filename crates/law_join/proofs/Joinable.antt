@@ -1,6 +1,7 @@
 -- THE TEST OF 49 IS ITS MEANING (document 02, request 14): an accepted file passes the test exactly where it holds no
 -- unknown kind, no Math row, no special type item and no row answered 19 or 20. A frame of a kind that shows something
 -- shows it; and 19 and 20 come from a row that lacks its own argument or special type.
+use Rattle.std.specs.Prelude.{None}
 use Prim.Native.Nat.{ℕ, ◌+◌, ◌-◌, ◌<◌, ◌≤◌}
 use native.Mathlib.Decide.{dec_lt}
 use native.Mathlib.Omega.{arith}
@@ -16,7 +17,6 @@ use Rattle.ir.specs.declared.TypeNumber.{TypeNumber}
 use Rattle.ir.specs.declared.RowNumber.{RowNumber}
 use Rattle.ir.specs.declared.RowKind.{RowKind}
 use Rattle.ir.specs.declared.RowKind.TheVariants as Rk
-use Rattle.ir.specs.declared.TypeForm.TheVariants as Tf
 use Rattle.ir.specs.Numbers.{type_kind_of, item_kind_of, row_kind_of}
 use Rattle.answers.specs.declared.Refusal.TheVariants as R
 use Rattle.frames.specs.declared.Frame.{Frame}
@@ -57,7 +57,7 @@ module _ (fr : List ℕ) (good : Good fr) where
     of-family family k is = ap (λ (b : ℕ). joins_by b (starts_of fr) (frame_at fr k)) (sym is.family-is)
         ∙ at-frame k is.within
 
-    known-types : (n : TypeNumber) → is_type (starts_of fr) n ≡ true → type_at fr n ≡ Tf.Unknown → ⊥
+    known-types : (n : TypeNumber) → is_type (starts_of fr) n ≡ true → type_at fr n ≡ None → ⊥
     unfolding type_in type_of starts_of
     known-types n here e =
         let f = frame_at fr n.0 in

@@ -1,6 +1,8 @@
 -- WHICH OUTCOME joining two texts has, both ways (document 02, request 14): the first text's own number exactly where
 -- it is refused, then the second's, then 49 exactly where one of the two is not `Joinable`, then 1 and 3; else the
 -- number of frames. By the tests in their order, and since the test of 49 is its meaning (Joinable.antt).
+use Rattle.answers.specs.declared.FileError.{FileError}
+use Rattle.std.specs.Prelude.{Ok}
 use Prim.Native.Nat.{ℕ, ◌+◌, ◌*◌, ◌≤◌, ◌<◌}
 use native.Mathlib.Decide.{dec_lt}
 use native.Mathlib.Omega.{arith}
@@ -12,8 +14,7 @@ use lib.Dec.{ltb}
 use lib.ListN.{length}
 use borrow.Author.Tests.{lt-ltb, le-ltb, le-leb, lt-leb}
 use Rattle.scan.proofs.Laws.{and_first, and_second}
-use Rattle.answers.specs.declared.Outcome.{Outcome}
-use Rattle.answers.specs.declared.Outcome.TheVariants.{Accepted}
+use Rattle.answers.specs.Outcome.{Outcome}
 use Rattle.text.specs.declared.AnswerRoom.TheVariants.{NotLent}
 use Rattle.text.specs.Lines.{line_count}
 use Rattle.text.specs.Reading.{most_frames}
@@ -41,8 +42,8 @@ never z = absurd (omega arith)
 
 -- both texts are accepted, each on its own frame buffer, within the one limit
 pub record Both (limit : ℕ) (t u : List ℕ) (f g : ℕ) : Type 0 where
-  pub first : read_file limit t f NotLent ≡ Accepted (line_count t)
-  pub second : read_file limit u g NotLent ≡ Accepted (line_count u)
+  pub first : read_file limit t f NotLent ≡ Ok (line_count t)
+  pub second : read_file limit u g NotLent ≡ Ok (line_count u)
 
 -- and each may be joined
 pub record Able (limit : ℕ) (t u : List ℕ) (f g : ℕ) : Type 0 where
@@ -153,8 +154,8 @@ module _ (limit : ℕ) (t u : List ℕ) (f g : ℕ) where
           of-within ∙ rw (le-leb (length (join_text fr gr)) o (omega arith)) (ap Jf.Frames counted)
 
     -- THE SIX OUTCOMES, and what each says
-    by-join : (P : JoinedFile → Type 0) → ((x : Outcome) → Refused limit t f NotLent x → P (Jf.First x))
-        → ((x : Outcome) → read_file limit t f NotLent ≡ Accepted (line_count t) → Refused limit u g NotLent x
+    by-join : (P : JoinedFile → Type 0) → ((x : FileError) → Refused limit t f NotLent x → P (Jf.First x))
+        → ((x : FileError) → read_file limit t f NotLent ≡ Ok (line_count t) → Refused limit u g NotLent x
         → P (Jf.Second x))
         → (Both limit t u f g → (Joinable fr → Joinable gr → ⊥) → P Jf.NotJoinable)
         → (Able limit t u f g → most_frames limit < lines → P (Jf.Long (most_frames limit)))
@@ -176,8 +177,8 @@ module _ (limit : ℕ) (t u : List ℕ) (f g : ℕ) where
                 subst P (sym (is-joined a (omega arith) (omega arith)))
                 (frames-are (record { able = a; within = omega arith; room = omega arith; frames = refl }))
 
-        both_read : read_file limit t f NotLent ≡ Accepted (line_count t)
-            → read_file limit u g NotLent ≡ Accepted (line_count u) → P (join_in limit o fr gr)
+        both_read : read_file limit t f NotLent ≡ Ok (line_count t)
+            → read_file limit u g NotLent ≡ Ok (line_count u) → P (join_in limit o fr gr)
         both_read e d = subst P (of-both b) (go (joinable fr && joinable gr) refl)
           where
             b : Both limit t u f g
@@ -193,7 +194,7 @@ module _ (limit : ℕ) (t u : List ℕ) (f g : ℕ) where
     -- BOTH WAYS
 
     -- the first text's own number
-    pub first-when : (x : Outcome) → (join_files limit t u f g o ≡ Jf.First x) ↔ Refused limit t f NotLent x
+    pub first-when : (x : FileError) → (join_files limit t u f g o ≡ Jf.First x) ↔ Refused limit t f NotLent x
     unfolding join_files
     first-when x = (
       by-join (λ r. r ≡ Jf.First x → Refused limit t f NotLent x) (λ y r e. let q : y ≡ x = cc in rw q at r)
@@ -204,12 +205,12 @@ module _ (limit : ℕ) (t u : List ℕ) (f g : ℕ) where
     )
 
     -- the second text's own number, where the first is accepted
-    pub second-when : (x : Outcome) → (join_files limit t u f g o ≡ Jf.Second x)
-        ↔ ((read_file limit t f NotLent ≡ Accepted (line_count t)) × Refused limit u g NotLent x)
+    pub second-when : (x : FileError) → (join_files limit t u f g o ≡ Jf.Second x)
+        ↔ ((read_file limit t f NotLent ≡ Ok (line_count t)) × Refused limit u g NotLent x)
     unfolding join_files
     second-when x = (
       by-join (λ r. r ≡ Jf.Second x
-          → (read_file limit t f NotLent ≡ Accepted (line_count t)) × Refused limit u g NotLent x)
+          → (read_file limit t f NotLent ≡ Ok (line_count t)) × Refused limit u g NotLent x)
           (λ y r e. never (cc)) (λ y d r e. let q : y ≡ x = cc in (d, (rw q at r))) (λ b h e. never (cc))
           (λ a l e. never (cc)) (λ a l d e. never (cc)) (λ j e. never (cc)),
       λ h. over-accepted limit t f NotLent Jf.First

@@ -3,6 +3,7 @@
 -- `second-alone` below). But each comes from a row that lacks its own argument or special type, the row itself or an
 -- earlier one, and such a row is answered so in both. So a file has a 19 of some index, or a 20, in one pass exactly
 -- if it has it in the other, and 49 may go by either.
+use Rattle.std.specs.Prelude.{Ok}
 use Prim.Native.Nat.{ℕ, ◌<◌, ◌≤◌}
 use native.Mathlib.Omega.{arith}
 use mathlib.Core.Path.{◌≡◌, refl, ap, ◌∙◌, subst}
@@ -12,7 +13,6 @@ use Rattle.scan.specs.Lowest.{lowest, all_below}
 use Rattle.scan.specs.Lists.{build, sum_below}
 use Rattle.answers.specs.declared.Refusal.{Refusal}
 use Rattle.answers.specs.declared.Refusal.TheVariants as R
-use Rattle.answers.specs.declared.Outcome.TheVariants.{Accepted}
 use Rattle.frames.specs.Bytes.{frame_at}
 use Rattle.frames.specs.Forms.{type_of, item_of, row_of, member_of, component_of, fields_fit}
 use Rattle.frames.specs.Written.{marked, indexed, binary}
@@ -103,7 +103,7 @@ abbrev pub parted : List ℕ
 parted = indexed 10 0 0 ++ marked 1 0 1 ++ marked 1 0 6 ++ binary 0 1 0 ++ binary 0 1 2 ++ binary 2 4 0
 
 -- it is accepted
-pub parted-accepted : check_frames parted ≡ Accepted 6
+pub parted-accepted : check_frames parted ≡ Ok 6
 unfolding lowest all_below build sum_below frame_at type_of item_of row_of member_of component_of fields_fit order_ok
     start starts_of names_ok early_ok index_ok check_frames
 parted-accepted = refl

@@ -2,13 +2,14 @@
 -- 14), its lines stand in the lent buffer and are accepted within the same limit, and `type_rows` answers every row as
 -- it was answered alone, in both passes: the first text's as they were, the second's with its numbers moved past the
 -- first's. A join is made of accepted texts that may be joined (Outcomes.antt), so the laws of frames hold.
+use Rattle.answers.specs.declared.FileError.{FileError}
+use Rattle.std.specs.Prelude.{Ok}
 use Prim.Native.Nat.{ℕ, ◌+◌, ◌*◌, ◌≤◌}
 use native.Mathlib.Omega.{arith}
 use mathlib.Core.Path.{◌≡◌, sym, ap, ◌∙◌}
 use mathlib.Core.List.{List, ◌++◌}
 use lib.ListN.{length, drop, length-append, length-map}
-use Rattle.answers.specs.declared.Outcome.{Outcome}
-use Rattle.answers.specs.declared.Outcome.TheVariants.{Accepted}
+use Rattle.answers.specs.Outcome.{Outcome}
 use Rattle.answers.specs.Limit.{max_frame_bytes, max_answer_bytes}
 use Rattle.text.specs.declared.AnswerRoom.TheVariants.{NotLent, Lent}
 use Rattle.text.specs.Lines.{line_count, decoded, text_of}
@@ -21,7 +22,7 @@ use Rattle.rule.specs.Things.{see}
 use Rattle.rule_rows.specs.declared.Pass.{Pass}
 use Rattle.rule_answers.specs.Outputs.{outputs, frames_bytes, output_bytes}
 use Rattle.rule_file.specs.File.{over_file, read_file}
-use Rattle.rule_file.specs.Typing.{answers_written, answers_after, output_count, outcome_text, output_text, typed_text}
+use Rattle.rule_file.specs.Typing.{answers_written, answers_after, output_count, error_text, output_text, typed_text}
 use Rattle.law_answers.proofs.Bytes.{bytes-length, bytes-append}
 use Rattle.law_moved.specs.Out.{moved_out}
 use Rattle.law_moved.specs.Texts.{text_frames}
@@ -66,7 +67,7 @@ module _ (limit : ℕ) (t u : List ℕ) (f g o k : ℕ) (joins : join_files limi
 
   -- THE JOIN'S LINES ARE ACCEPTED within the same limit, with any frame buffer of 16 bytes a frame
   pub join-accepted : (b : ℕ) → 16 * k ≤ b → read_file limit (join_text (text_frames t) (text_frames u)) b NotLent ≡
-      Accepted k
+      Ok k
   join-accepted b room =
       let s = most-small limit in let w = within in
       let c = frames-lines t in let d = frames-lines u in let e = is-joined.frames in
@@ -74,7 +75,7 @@ module _ (limit : ℕ) (t u : List ℕ) (f g o k : ℕ) (joins : join_files limi
       let q : frame_count fr + frame_count gr ≡ k = omega arith in
       ap (λ (i : ℕ). read_file limit (text_of (join_file fr gr) i) b NotLent) n
       ∙ T.join-read fr gr first_read.good second-read.good is-joined.able.first is-joined.able.second
-      (omega arith) (omega arith) first_read.bytes second-read.bytes limit b w (omega arith) ∙ ap Accepted q
+      (omega arith) (omega arith) first_read.bytes second-read.bytes limit b w (omega arith) ∙ ap Ok q
 
   -- and read back as the join
   pub join-lines : line_count (join_text (text_frames t) (text_frames u)) ≡ k
@@ -93,13 +94,13 @@ module _ (limit : ℕ) (t u : List ℕ) (f g o k : ℕ) (joins : join_files limi
 
   -- what is asked of the join's lines is asked of its frames: without an answer buffer, and with one of 32 bytes a
   -- frame
-  module _ {A : Type 0} (refused : Outcome → A) (given : List ℕ → A) (b : ℕ) (frames : 16 * k ≤ b) where
+  module _ {A : Type 0} (refused : FileError → A) (given : List ℕ → A) (b : ℕ) (frames : 16 * k ≤ b) where
     pub asked-join : over_file refused given (join_text (text_frames t) (text_frames u))
         (read_file limit (join_text (text_frames t) (text_frames u)) b NotLent)
         ≡ given (join_file (text_frames t) (text_frames u))
     asked-join =
         over-accepted limit (join_text fr gr) b NotLent refused given
-        (join-accepted b frames ∙ ap Accepted (sym join-lines)) ∙ ap given join-decoded
+        (join-accepted b frames ∙ ap Ok (sym join-lines)) ∙ ap given join-decoded
 
     pub answered-join : (a : ℕ) → 32 * k ≤ a
         → over_file refused given (join_text (text_frames t) (text_frames u))
@@ -107,7 +108,7 @@ module _ (limit : ℕ) (t u : List ℕ) (f g o k : ℕ) (joins : join_files limi
         ≡ given (join_file (text_frames t) (text_frames u))
     answered-join a answers =
         over-accepted limit (join_text fr gr) b (Lent a) refused given
-        (with-answers limit (join_text fr gr) b k a (join-accepted b frames) answers ∙ ap Accepted (sym join-lines))
+        (with-answers limit (join_text fr gr) b k a (join-accepted b frames) answers ∙ ap Ok (sym join-lines))
         ∙ ap given join-decoded
 
   -- TYPE_ROWS, in both passes: first the frames that the first text hands back, then those of the second, each with
@@ -123,7 +124,7 @@ module _ (limit : ℕ) (t u : List ℕ) (f g o k : ℕ) (joins : join_files limi
         ++ drop (length (join_outputs pass (text_frames t) (text_frames u))) an
     unfolding answers_after
     join-answers b frames an answers =
-        answered-join (λ (x : Outcome). an) (λ (x : List ℕ). answers_written pass an x) b frames (length an) answers
+        answered-join (λ (x : FileError). an) (λ (x : List ℕ). answers_written pass an x) b frames (length an) answers
         ∙ ap (λ (x : List ℕ). x ++ drop (length x) an) handed-back
 
     -- as many frames as the two texts hand back
@@ -136,7 +137,7 @@ module _ (limit : ℕ) (t u : List ℕ) (f g o k : ℕ) (joins : join_files limi
         let other = outputs pass (see gr) (row_count (starts_of gr)) in
         let c = file-count one in let d = file-count other in
         let e = length-map other (moved_out (join_moves (starts_of fr))) in
-        answered-join (λ (x : Outcome). 0) (λ (x : List ℕ). frame_count (output_bytes pass x)) b frames a answers
+        answered-join (λ (x : FileError). 0) (λ (x : List ℕ). frame_count (output_bytes pass x)) b frames a answers
         ∙ ap frame_count (handed-back ∙ sym (bytes-append one (second_outputs pass fr gr)))
         ∙ file-count (one ++ second_outputs pass fr gr) ∙ length-append one (second_outputs pass fr gr) ∙ omega arith
 
@@ -150,15 +151,15 @@ module _ (limit : ℕ) (t u : List ℕ) (f g o k : ℕ) (joins : join_files limi
         let one = outputs pass (see fr) (row_count (starts_of fr)) in
         let other = second_outputs pass fr gr in
         let s = most-small limit in let w = is-joined.within in let e = is-joined.frames in
-        let alone : read_file limit t max_frame_bytes (Lent max_answer_bytes) ≡ Accepted (line_count t) =
+        let alone : read_file limit t max_frame_bytes (Lent max_answer_bytes) ≡ Ok (line_count t) =
         with-buffers limit t f (line_count t) max_frame_bytes max_answer_bytes is-joined.able.both.first (omega arith)
         (omega arith) in
-        let first : over_file outcome_text (output_text pass) t
+        let first : over_file error_text (output_text pass) t
         (read_file limit t max_frame_bytes (Lent max_answer_bytes))
         ≡ text_of (frames_bytes one) (length one) =
-        over-accepted limit t max_frame_bytes (Lent max_answer_bytes) outcome_text (output_text pass) alone
+        over-accepted limit t max_frame_bytes (Lent max_answer_bytes) error_text (output_text pass) alone
         ∙ ap (text_of (frames_bytes one)) (file-count one) in
-        answered-join outcome_text (output_text pass) max_frame_bytes (omega arith) max_answer_bytes (omega arith)
+        answered-join error_text (output_text pass) max_frame_bytes (omega arith) max_answer_bytes (omega arith)
         ∙ ap (λ (x : List ℕ). text_of x (frame_count x)) (handed-back ∙ sym (bytes-append one other))
         ∙ ap (text_of (frames_bytes (one ++ other))) (file-count (one ++ other) ∙ length-append one other)
         ∙ lines-append one other ∙ ap (λ (x : List ℕ). x ++ text_of (frames_bytes other) (length other)) (sym first)

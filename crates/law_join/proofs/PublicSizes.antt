@@ -1,6 +1,8 @@
 -- THE BYTES THAT A TYPE FILLS, over texts (document 02, requests 5 and 14): where `type_size` measures a type of one of
 -- the two texts alone, it measures the type alike over the join's lines: of the first as it was; of the second, which
 -- is the type past the first's types, the same alignment and size, or the same number 42 to 44 with its place moved.
+use Rattle.rule_sizes.specs.TypeSize.{size_error}
+use Rattle.std.specs.Prelude.{Ok}
 use Prim.Native.Nat.{ℕ, ◌+◌, ◌*◌, ◌≤◌}
 use native.Mathlib.Omega.{arith}
 use mathlib.Core.Path.{◌≡◌, refl, ap, ◌∙◌}
@@ -14,7 +16,6 @@ use Rattle.archive.specs.Starts.{starts_of, type_count}
 use Rattle.archive.specs.Names.{is_type}
 use Rattle.rule_sizes.specs.declared.Measure.{Measure}
 use Rattle.rule_sizes.specs.declared.Measure.TheVariants.{Fills, Faulty}
-use Rattle.rule_sizes.specs.declared.TypeSize.TheVariants as Ts
 use Rattle.rule_sizes.specs.Sizes.{measure_in, type_size_in}
 use Rattle.rule_file_sizes.specs.Sizes.{type_size}
 use Rattle.law_rows.proofs.Good.{Good}
@@ -52,16 +53,16 @@ record Measured (t : List ℕ) (n : TypeNumber) (x : Measure) : Type 0 where
   here : is_type (starts_of (text_frames t)) n ≡ true
   is : measure_in (text_frames t) (starts_of (text_frames t)) n ≡ x
 
-alone : (limit : ℕ) (t : List ℕ) (f : ℕ) (n : TypeNumber) (x : Measure) → type_size limit t f n ≡ Ts.Measured x
+alone : (limit : ℕ) (t : List ℕ) (f : ℕ) (n : TypeNumber) (x : Measure) → type_size limit t f n ≡ Ok x
     → Measured t n x
 unfolding type_size type_size_in
 alone limit t f n x =
-    by-text limit t f NotLent Ts.NotAccepted (λ (fr : List ℕ). type_size_in fr (starts_of fr) n)
-    (λ s. s ≡ Ts.Measured x → Measured t n x) (λ o r e. never (cc))
+    by-text limit t f NotLent size_error (λ (fr : List ℕ). type_size_in fr (starts_of fr) n)
+    (λ s. s ≡ Ok x → Measured t n x) (λ o r e. never (cc))
     (λ d. go (is_type (starts_of (text_frames t)) n) refl)
   where
     go : (b : Bool) → is_type (starts_of (text_frames t)) n ≡ b
-        → type_size_in (text_frames t) (starts_of (text_frames t)) n ≡ Ts.Measured x → Measured t n x
+        → type_size_in (text_frames t) (starts_of (text_frames t)) n ≡ Ok x → Measured t n x
     go true q e = record { here = q; is = cc (rw q at e) }
     go false q e = never (cc (rw q at e))
 
@@ -91,32 +92,32 @@ module _ (limit : ℕ) (t u : List ℕ) (f g o k : ℕ) (joins : join_files limi
 
   -- of a type that the join has
   join-size : (p : TypeNumber) → is_type (starts_of J) p ≡ true
-      → type_size limit (join_text fr gr) b p ≡ Ts.Measured (measure_in J (starts_of J) p)
+      → type_size limit (join_text fr gr) b p ≡ Ok (measure_in J (starts_of J) p)
   unfolding type_size type_size_in
   join-size p here =
-      asked-join limit t u f g o k joins Ts.NotAccepted (λ (x : List ℕ). type_size_in x (starts_of x) p) b frames
+      asked-join limit t u f g o k joins size_error (λ (x : List ℕ). type_size_in x (starts_of x) p) b frames
       ∙ rw here
 
   -- a type of the first
-  pub first-size : type_size limit t whole n ≡ Ts.Measured x
-      → type_size limit (join_text (text_frames t) (text_frames u)) b n ≡ Ts.Measured x
+  pub first-size : type_size limit t whole n ≡ Ok x
+      → type_size limit (join_text (text_frames t) (text_frames u)) b n ≡ Ok x
   first-size e =
       let a = alone limit t whole n x e in
       join-size n (lt-ltb _ _ ((first-carried fr gr good also jf jg).type-in n.0 (ltb-true _ _ a.here)))
-      ∙ ap Ts.Measured (measure-carried first_moves (λ p q. refl) (λ n. Unit {0}) fr J good
+      ∙ ap Ok (measure-carried first_moves (λ p q. refl) (λ n. Unit {0}) fr J good
       (join-good fr gr good also jf jg) (first-carried fr gr good also jf jg) n a.here
       ∙ measure-stays (measure_in fr (starts_of fr) n) ∙ a.is)
 
   -- a type of the second, and its place, moved
-  pub second-size : type_size limit u whole n ≡ Ts.Measured x
+  pub second-size : type_size limit u whole n ≡ Ok x
       → type_size limit (join_text (text_frames t) (text_frames u)) b
       (type_to (join_moves (starts_of (text_frames t))) n)
-      ≡ Ts.Measured (measure_to (join_moves (starts_of (text_frames t))) x)
+      ≡ Ok (measure_to (join_moves (starts_of (text_frames t))) x)
   second-size e =
       let a = alone limit u whole n x e in
       let m = join_moves (starts_of fr) in
       join-size (type_to m n)
       (lt-ltb _ _ ((second-carried fr gr good also jf jg).type-in n.0 (ltb-true _ _ a.here)))
-      ∙ ap Ts.Measured (measure-carried m (raised (type_count (starts_of fr))) (λ n. Unit {0}) gr J also
+      ∙ ap Ok (measure-carried m (raised (type_count (starts_of fr))) (λ n. Unit {0}) gr J also
       (join-good fr gr good also jf jg) (second-carried fr gr good also jf jg) n a.here
       ∙ ap (measure_to m) a.is)

@@ -1,11 +1,11 @@
 -- THREE TEXTS, over any limit and buffers (document 02, request 14): t joined with u, and that joined with v, is made
 -- exactly where u joined with v, and t joined with that, is made, with buffers that suffice; and the lines are the
 -- same. A join is accepted and may be joined again (Again.antt), and the frames are the same (Three.antt).
+use Rattle.std.specs.Prelude.{Ok}
 use Prim.Native.Nat.{ℕ, ◌+◌, ◌*◌, ◌≤◌}
 use native.Mathlib.Omega.{arith}
 use mathlib.Core.Path.{◌≡◌, refl, sym, ap, ◌∙◌, subst}
 use mathlib.Core.List.{List}
-use Rattle.answers.specs.declared.Outcome.TheVariants.{Accepted}
 use Rattle.text.specs.declared.AnswerRoom.TheVariants.{NotLent}
 use Rattle.text.specs.Lines.{line_count, text_of}
 use Rattle.frames.specs.Bytes.{frame_count}
@@ -26,9 +26,9 @@ join_of t u = join_text (text_frames t) (text_frames u)
 -- A JOIN THAT IS MADE is accepted, with any frame buffer of 16 bytes a frame, and may be joined
 module _ (limit : ℕ) (t u : List ℕ) (f g o k : ℕ) (joins : join_files limit t u f g o ≡ Jf.Frames k) where
   pub joined-accepted : (b : ℕ) → 16 * k ≤ b
-      → read_file limit (join_of t u) b NotLent ≡ Accepted (line_count (join_of t u))
+      → read_file limit (join_of t u) b NotLent ≡ Ok (line_count (join_of t u))
   joined-accepted b room =
-      join-accepted limit t u f g o k joins b room ∙ ap Accepted (sym (join-lines limit t u f g o k joins))
+      join-accepted limit t u f g o k joins b room ∙ ap Ok (sym (join-lines limit t u f g o k joins))
 
   pub joined-joinable : Joinable (text_frames (join_of t u))
   joined-joinable =

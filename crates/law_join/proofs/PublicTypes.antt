@@ -1,12 +1,13 @@
 -- SAMENESS WITHIN ONE KERNEL, over texts (document 02, request 14): two frames handed in that `same_type` compares over
 -- one of the two texts alone, with neither 5 nor 6, it compares alike over the join's lines: of the first as they are,
 -- of the second with both frames moved. 5 and 6 are tested before anything else, so such a pair was met with neither.
+use Rattle.std.specs.Prelude.{true, false, Ok, Err}
+use Rattle.answers.specs.declared.CompareError.TheVariants as Ce
 use Prim.Native.Nat.{ℕ, ◌*◌, ◌≤◌}
 use native.Mathlib.Omega.{arith}
 use mathlib.Core.Path.{◌≡◌, refl, sym, ap, ◌∙◌, subst}
 use mathlib.Core.List.{List}
-use Rattle.answers.specs.declared.Sameness.{Sameness}
-use Rattle.answers.specs.declared.Sameness.TheVariants as Sa
+use Rattle.answers.specs.Asked.{Sameness, sameness_error}
 use Rattle.text.specs.declared.AnswerRoom.TheVariants.{NotLent}
 use Rattle.frames.specs.declared.Frame.{Frame}
 use Rattle.archive.specs.Starts.{starts_of}
@@ -31,12 +32,12 @@ never z = absurd (omega arith)
 
 -- yes, no or 22: neither 5 nor 6 of a frame, nor the file's own number
 abbrev pub Compares : Sameness → Type 0
-Compares Sa.Same = Unit {0}
-Compares Sa.Different = Unit {0}
-Compares Sa.Newer = Unit {0}
-Compares Sa.Field = ⊥
-Compares Sa.Index = ⊥
-Compares (Sa.NotAccepted o) = ⊥
+Compares (Ok true) = Unit {0}
+Compares (Ok false) = Unit {0}
+Compares (Err Ce.Newer) = Unit {0}
+Compares (Err Ce.Field) = ⊥
+Compares (Err Ce.Index) = ⊥
+Compares (Err (Ce.NotAccepted o)) = ⊥
 
 module _ (fr : List ℕ) (l r : Frame) where
   -- two frames that are compared are met with neither 5 nor 6
@@ -65,7 +66,7 @@ alone : (limit : ℕ) (t : List ℕ) (f : ℕ) (l r : Frame) (x : Sameness) → 
     → Alone t l r x
 unfolding same_types
 alone limit t f l r x c =
-    by-text limit t f NotLent Sa.NotAccepted (λ (fr : List ℕ). sameness_of (same_type fr l r))
+    by-text limit t f NotLent sameness_error (λ (fr : List ℕ). sameness_of (same_type fr l r))
     (λ s. s ≡ x → Alone t l r x)
     (λ o w e. absurd (subst Compares (sym e) c))
     (λ d e. record { sound = met (text_frames t) l r (subst Compares (sym e) c); is = e })
@@ -82,7 +83,7 @@ module _ (limit : ℕ) (t u : List ℕ) (f g o k : ℕ) (joins : join_files limi
   join-same : (y z : Frame) → same_types limit (join_text fr gr) b y z ≡ sameness_of (same_type (join_file fr gr) y z)
   unfolding same_types
   join-same y z =
-      asked-join limit t u f g o k joins Sa.NotAccepted (λ (fr : List ℕ). sameness_of (same_type fr y z)) b frames
+      asked-join limit t u f g o k joins sameness_error (λ (fr : List ℕ). sameness_of (same_type fr y z)) b frames
 
   -- two frames of the first
   pub first-types : same_types limit t whole l r ≡ x

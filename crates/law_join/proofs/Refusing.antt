@@ -1,5 +1,9 @@
 -- WHICH REFUSALS RULES MAKE: but for the rules of an argument and of the special types none answers with 19 or 20,
 -- whatever it is given. By the forms that answers are made from.
+use Rattle.std.specs.Prelude.{Option as CodeOption, Some, None}
+use Rattle.ir.specs.declared.Width.{Width}
+use Rattle.ir.specs.declared.TypeResolution.{TypeResolution}
+use Rattle.ir.specs.declared.VectorSize.{VectorSize}
 use Prim.Native.Nat.{ℕ}
 use mathlib.Core.Bool.{Bool, true, false, cond}
 use mathlib.Core.List.{List}
@@ -9,21 +13,12 @@ use lib.ListN.{get_elem?}
 use Rattle.scan.proofs.Laws.{by-test}
 use Rattle.ir.specs.declared.TypeNumber.{TypeNumber}
 use Rattle.ir.specs.declared.RowNumber.{RowNumber}
-use Rattle.ir.specs.declared.OptionVectorSize.{OptionVectorSize}
-use Rattle.ir.specs.declared.OptionVectorSize.TheVariants as Ov
 use Rattle.ir.specs.declared.CooperativeSize.{CooperativeSize}
 use Rattle.ir.specs.declared.CooperativeRole.{CooperativeRole}
 use Rattle.ir.specs.declared.Scalar.{Scalar}
 use Rattle.ir.specs.declared.AddressSpace.{AddressSpace}
 use Rattle.ir.specs.declared.AddressSpace.TheVariants as Sp
-use Rattle.ir.specs.declared.FunctionResult.{FunctionResult}
-use Rattle.ir.specs.declared.FunctionResult.TheVariants as Fr
 use Rattle.ir.specs.declared.ScalarKind.{ScalarKind}
-use Rattle.ir.specs.declared.OptionBytes.{OptionBytes}
-use Rattle.ir.specs.declared.OptionScalar.{OptionScalar}
-use Rattle.ir.specs.declared.OptionScalar.TheVariants as Os
-use Rattle.ir.specs.declared.OptionTypeResolution.{OptionTypeResolution}
-use Rattle.ir.specs.declared.OptionTypeResolution.TheVariants as Ot
 use Rattle.ir.specs.declared.TypeInner.{TypeInner}
 use Rattle.ir.specs.declared.TypeInner.TheVariants as Ti
 use Rattle.ir.specs.Scalars.{BOOL, equal_scalars}
@@ -73,15 +68,15 @@ pub pointer-apart : (base : RowNumber) (i : ℕ) (p : AddressSpace) (o : Option 
 pointer-apart base i p (some t) = tt
 pointer-apart base i p none = tt
 
-pub component-apart : (base : RowNumber) (k : Scalar) (p : AddressSpace) (z : OptionVectorSize)
+pub component-apart : (base : RowNumber) (k : Scalar) (p : AddressSpace) (z : CodeOption VectorSize)
     → Apart (access_component base k p z)
-component-apart base k p (Ov.Some z) = tt
-component-apart base k p Ov.None = tt
+component-apart base k p (Some z) = tt
+component-apart base k p None = tt
 
-pub index-component : (base : RowNumber) (i : ℕ) (k : Scalar) (p : AddressSpace) (z : OptionVectorSize)
+pub index-component : (base : RowNumber) (i : ℕ) (k : Scalar) (p : AddressSpace) (z : CodeOption VectorSize)
     → Apart (index_component base i k p z)
-index-component base i k p (Ov.Some z) = bounded-apart base i _ _
-index-component base i k p Ov.None = tt
+index-component base i k p (Some z) = bounded-apart base i _ _
+index-component base i k p None = tt
 
 pub access-into : (base : RowNumber) (t : TypeInner) → Apart (access_into base t)
 access-into base t =
@@ -110,14 +105,14 @@ index-through base i b p l t =
     (by-matrix Apart t (λ c r k. bounded-apart base i _ _)
     (by-struct Apart t (pointer-apart base i p (get_elem? l i)) (any-binding Apart t (λ b. tt) tt))))
 
-pub loaded-apart : (n : RowNumber) (o : OptionTypeResolution) → Apart (loaded n o)
-loaded-apart n (Ot.Some r) = tt
-loaded-apart n Ot.None = tt
+pub loaded-apart : (n : RowNumber) (o : CodeOption TypeResolution) → Apart (loaded n o)
+loaded-apart n (Some r) = tt
+loaded-apart n None = tt
 
-pub cooperative-apart : (c r : CooperativeSize) (o : CooperativeRole) (n : RowNumber) (k : OptionScalar)
+pub cooperative-apart : (c r : CooperativeSize) (o : CooperativeRole) (n : RowNumber) (k : CodeOption Scalar)
     → Apart (cooperative_of c r o n k)
-cooperative-apart c r o n (Os.Some k) = tt
-cooperative-apart c r o n Os.None = tt
+cooperative-apart c r o n (Some k) = tt
+cooperative-apart c r o n None = tt
 
 pub variable-apart : (t : TypeNumber) (p : AddressSpace) → Apart (variable t p)
 variable-apart t Sp.Handle = tt
@@ -131,9 +126,9 @@ variable-apart t Sp.TaskPayload = tt
 variable-apart t Sp.RayPayload = tt
 variable-apart t Sp.IncomingRayPayload = tt
 
-pub result-apart : (r : FunctionResult) → Apart (result_of r)
-result-apart (Fr.Some t) = tt
-result-apart Fr.None = tt
+pub result-apart : (r : CodeOption TypeNumber) → Apart (result_of r)
+result-apart (Some t) = tt
+result-apart None = tt
 
 pub times-apart : (a : TypeAnswer) (y : TypeInner) → Apart (times_scalar a y)
 times-apart a y = by_scalar Apart y (λ j. tt) tt
@@ -162,6 +157,6 @@ equal-apart false = tt
 pub logical-apart : (t : TypeInner) → Apart (logical_of t)
 logical-apart t = by_scalar Apart t (λ k. equal-apart (equal_scalars k BOOL)) tt
 
-pub cast-apart : (to : ScalarKind) (w : OptionBytes) (t : TypeInner) → Apart (cast_of to w t)
+pub cast-apart : (to : ScalarKind) (w : CodeOption Width) (t : TypeInner) → Apart (cast_of to w t)
 cast-apart to w t = by_scalar Apart t (λ k. tt)
     (by-vector Apart t (λ z k. tt) (by-matrix Apart t (λ c r k. tt) tt))

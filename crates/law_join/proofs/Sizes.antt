@@ -1,6 +1,9 @@
 -- WHAT A TYPE FILLS, of a file that is carried into another (document 02, requests 5 and 14): the same alignment and
 -- size, or the same number 42 to 44 at the lowest faulty type, moved. Type by type: a type's form is moved, what its
 -- parts fill is what they did, and moves that keep the order of types keep the lowest.
+use Rattle.std.specs.Prelude.{Option, Some, None}
+use Rattle.rule_sizes.specs.declared.Alignment.{Alignment}
+use Rattle.ir.specs.declared.TypeInner.{TypeInner}
 use Prim.Native.Nat.{ℕ, zero, suc, ◌+◌, ◌*◌, ◌≤◌, ◌<◌}
 use native.Mathlib.Omega.{arith}
 use mathlib.Core.Path.{◌≡◌, refl, sym, ap, ◌∙◌}
@@ -15,16 +18,12 @@ use Rattle.ir.specs.declared.VectorSize.{VectorSize}
 use Rattle.ir.specs.declared.ArraySize.{ArraySize}
 use Rattle.ir.specs.declared.ArraySize.TheVariants as As
 use Rattle.ir.specs.declared.TypeInner.TheVariants as Ti
-use Rattle.ir.specs.declared.TypeForm.{TypeForm}
-use Rattle.ir.specs.declared.TypeForm.TheVariants as Tf
 use Rattle.frames.specs.Bytes.{frame_at}
 use Rattle.frames.specs.Forms.{member_of}
 use Rattle.archive.specs.declared.Starts.{Starts}
 use Rattle.archive.specs.Starts.{starts_of, type_count, member_count}
 use Rattle.archive.specs.Names.{is_type, type_form_names}
 use Rattle.archive.specs.Access.{type_at, member_in}
-use Rattle.rule_sizes.specs.declared.OptionAlignment.{OptionAlignment}
-use Rattle.rule_sizes.specs.declared.OptionAlignment.TheVariants as Oa
 use Rattle.rule_sizes.specs.declared.Measure.{Measure}
 use Rattle.rule_sizes.specs.declared.Measure.TheVariants.{Fills, Faulty}
 use Rattle.rule_sizes.specs.Wgsl.{is_multiple, integer_align, float_align, number_align}
@@ -48,19 +47,19 @@ parts_to m (Sz.Laid a e ok) = Sz.Laid a e ok
 parts_to m (Sz.Broken k p) = Sz.Broken k (type_to m p)
 
 module _ (m : Moves) (n : TypeNumber) where
-  scalar-to : (o : OptionAlignment) → scalar_measure (type_to m n) o ≡ measure_to m (scalar_measure n o)
-  scalar-to (Oa.Some a) = refl
-  scalar-to Oa.None = refl
+  scalar-to : (o : Option Alignment) → scalar_measure (type_to m n) o ≡ measure_to m (scalar_measure n o)
+  scalar-to (Some a) = refl
+  scalar-to None = refl
 
-  vector-to : (z : VectorSize) (o : OptionAlignment) → vector_measure (type_to m n) z o
+  vector-to : (z : VectorSize) (o : Option Alignment) → vector_measure (type_to m n) z o
       ≡ measure_to m (vector_measure n z o)
-  vector-to z (Oa.Some a) = refl
-  vector-to z Oa.None = refl
+  vector-to z (Some a) = refl
+  vector-to z None = refl
 
-  matrix-to : (c r : VectorSize) (o : OptionAlignment) → matrix_measure (type_to m n) c r o
+  matrix-to : (c r : VectorSize) (o : Option Alignment) → matrix_measure (type_to m n) c r o
       ≡ measure_to m (matrix_measure n c r o)
-  matrix-to c r (Oa.Some a) = refl
-  matrix-to c r Oa.None = refl
+  matrix-to c r (Some a) = refl
+  matrix-to c r None = refl
 
   array-to : (x : Measure) (count stride : ℕ) → array_of (type_to m n) (measure_to m x) count stride
       ≡ measure_to m (array_of n x count stride)
@@ -153,28 +152,28 @@ module _ (m : Moves) (ordered : (p q : ℕ) → leb (m.types p) (m.types q) ≡ 
       sized-to n b (As.Pending o) stride h = refl
       sized-to n b As.Dynamic stride h = refl
 
-      form-to : (n : TypeNumber) (x : TypeForm) → type_form_names s n x ≡ true
+      form-to : (n : TypeNumber) (x : Option TypeInner) → type_form_names s n x ≡ true
           → ((b : TypeNumber) → PartOf fr x b → g (type_to m b) ≡ measure_to m (f b))
           → of_form gr t g (type_to m n) (type_form_to m x) ≡ measure_to m (of_form fr s f n x)
-      form-to n (Tf.Known (Ti.Scalar k)) w h = scalar-to m n (number_align k)
-      form-to n (Tf.Known (Ti.Vector z k)) w h = vector-to m n z (number_align k)
-      form-to n (Tf.Known (Ti.Matrix c r k)) w h = matrix-to m n c r (float_align k)
-      form-to n (Tf.Known (Ti.CooperativeMatrix c r k o)) w h = refl
-      form-to n (Tf.Known (Ti.Atomic k)) w h = scalar-to m n (integer_align k)
-      form-to n (Tf.Known (Ti.Pointer b p)) w h = refl
-      form-to n (Tf.Known (Ti.ValuePointer z k p)) w h = refl
-      form-to n (Tf.Known (Ti.Array b z stride)) w h = sized-to n b z stride (h b (PartOf.element b z stride))
-      form-to n (Tf.Known (Ti.Struct first count span)) w h =
+      form-to n (Some (Ti.Scalar k)) w h = scalar-to m n (number_align k)
+      form-to n (Some (Ti.Vector z k)) w h = vector-to m n z (number_align k)
+      form-to n (Some (Ti.Matrix c r k)) w h = matrix-to m n c r (float_align k)
+      form-to n (Some (Ti.CooperativeMatrix c r k o)) w h = refl
+      form-to n (Some (Ti.Atomic k)) w h = scalar-to m n (integer_align k)
+      form-to n (Some (Ti.Pointer b p)) w h = refl
+      form-to n (Some (Ti.ValuePointer z k p)) w h = refl
+      form-to n (Some (Ti.Array b z stride)) w h = sized-to n b z stride (h b (PartOf.element b z stride))
+      form-to n (Some (Ti.Struct first count span)) w h =
           let l : first.0 + count ≤ member_count s = leb-true (first.0 + count) (member_count s) w in
           ap (λ (p : Parts). struct_of (type_to m n) p count span)
           (parts-to first count l (λ i d. h _ (PartOf.part first count span i d)))
           ∙ struct-to m n (parts_of fr s f first count) count span
-      form-to n (Tf.Known (Ti.Image d a c)) w h = refl
-      form-to n (Tf.Known (Ti.Sampler q)) w h = refl
-      form-to n (Tf.Known (Ti.AccelerationStructure q)) w h = refl
-      form-to n (Tf.Known (Ti.RayQuery q)) w h = refl
-      form-to n (Tf.Known (Ti.BindingArray b z)) w h = refl
-      form-to n Tf.Unknown w h = refl
+      form-to n (Some (Ti.Image d a c)) w h = refl
+      form-to n (Some (Ti.Sampler q)) w h = refl
+      form-to n (Some (Ti.AccelerationStructure q)) w h = refl
+      form-to n (Some (Ti.RayQuery q)) w h = refl
+      form-to n (Some (Ti.BindingArray b z)) w h = refl
+      form-to n None w h = refl
 
     below : (k : ℕ) (n : TypeNumber) → n.0 < k → n.0 < type_count s
         → measure_in gr t (type_to m n) ≡ measure_to m (measure_in fr s n)

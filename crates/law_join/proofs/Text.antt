@@ -1,5 +1,6 @@
 -- THE JOIN AS LINES: they are read back as the join's frames, and accepted within every limit that the join is within.
 -- A moved number is one of the join, so it fits its bytes; an argument index, which is free, was found.
+use Rattle.std.specs.Prelude.{Ok, Some}
 use Prim.Native.Nat.{ℕ, zero, suc, ◌+◌, ◌-◌, ◌*◌, ◌≤◌, ◌<◌}
 use native.Mathlib.Omega.{arith}
 use mathlib.Core.Path.{◌≡◌, refl, ap, subst}
@@ -12,9 +13,7 @@ use Rattle.scan.proofs.Laws.{and_first}
 use Rattle.ir.specs.declared.RowKind.{RowKind}
 use Rattle.ir.specs.declared.RowKind.TheVariants as Rk
 use Rattle.ir.specs.declared.Expression.TheVariants as Ex
-use Rattle.ir.specs.declared.RowForm.TheVariants as Ro
 use Rattle.ir.specs.Numbers.{type_kind_of, item_kind_of, row_kind_of}
-use Rattle.answers.specs.declared.Outcome.TheVariants.{Accepted}
 use Rattle.frames.specs.declared.Frame.{Frame}
 use Rattle.frames.specs.Bytes.{byte, half, word, frame_at, frame_count}
 use Rattle.frames.specs.Forms.{row_as, type_of, item_of, row_of, member_of, component_of}
@@ -72,7 +71,7 @@ module _ (x : List ℕ) (good : Good x) where
   named k l = and_first (names_of (starts_of x) k (frame_at x k)) (early_ok x k) (good.index k l)
 
   argument-reads : (f : Frame) → row_kind_of (byte f 1) ≡ Rk.FunctionArgument → row_of f
-      ≡ Ro.Known (Ex.FunctionArgument (word f 12))
+      ≡ Some (Ex.FunctionArgument (word f 12))
   unfolding row_of
   argument-reads f e = ap (λ (k : RowKind). row_as k f) e
 
@@ -144,12 +143,12 @@ module _ (fr gr : List ℕ) (good : Good fr) (also : Good gr) (jf : Joinable fr)
   pub join-read : (limit f : ℕ) → frame_count fr + frame_count gr ≤ most_frames limit
       → 16 * (frame_count fr + frame_count gr) ≤ f
       → read_file limit (text_of (join_file fr gr) (frame_count fr + frame_count gr)) f NotLent
-      ≡ Accepted (frame_count fr + frame_count gr)
+      ≡ Ok (frame_count fr + frame_count gr)
   join-read limit f w room =
       let c = file-count (join_frames fr gr) in
       let d = join-count fr gr in
       let e1 = end_is fr in let e2 = end_is gr in
       let e : length (join_frames fr gr) ≡ frame_count fr + frame_count gr = omega arith in
-      subst (λ (k : ℕ). read_file limit (text_of J k) f NotLent ≡ Accepted k) e
+      subst (λ (k : ℕ). read_file limit (text_of J k) f NotLent ≡ Ok k) e
       (written-accepted (join_frames fr gr) (join-good fr gr good also jf jg) join-bytes limit f (omega arith)
       (omega arith))

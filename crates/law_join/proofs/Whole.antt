@@ -1,5 +1,6 @@
 -- WHAT THE TEST OF 49 SEES IN ONE FRAME: a type of a known kind is known, and a row of a kind that passes shows
 -- something and lacks nothing. Kind by kind.
+use Rattle.std.specs.Prelude.{None}
 use Prim.Native.Nat.{ℕ, ◌+◌}
 use native.Mathlib.Omega.{arith}
 use mathlib.Core.Path.{◌≡◌, refl, subst}
@@ -12,7 +13,6 @@ use Rattle.ir.specs.declared.TypeKind.{TypeKind}
 use Rattle.ir.specs.declared.TypeKind.TheVariants as Tk
 use Rattle.ir.specs.declared.RowKind.{RowKind}
 use Rattle.ir.specs.declared.RowKind.TheVariants as Rk
-use Rattle.ir.specs.declared.TypeForm.TheVariants as Tf
 use Rattle.ir.specs.Numbers.{row_kind_of}
 use Rattle.frames.specs.declared.Frame.{Frame}
 use Rattle.frames.specs.Bytes.{byte, frame_at}
@@ -30,7 +30,7 @@ never z = absurd (omega arith)
 
 -- TYPES: a kind that is known is of a type that is
 
-pub type-known : (k : TypeKind) (f : Frame) → type_joins k ≡ true → type_as k f ≡ Tf.Unknown → ⊥
+pub type-known : (k : TypeKind) (f : Frame) → type_joins k ≡ true → type_as k f ≡ None → ⊥
 type-known Tk.Unknown f h e = never (cc)
 type-known Tk.Scalar f h e = never (cc)
 type-known Tk.Vector f h e = never (cc)
@@ -47,7 +47,7 @@ type-known Tk.AccelerationStructure f h e = never (cc)
 type-known Tk.RayQuery f h e = never (cc)
 type-known Tk.BindingArray f h e = never (cc)
 
-pub type-joins : (k : TypeKind) (f : Frame) → (type_as k f ≡ Tf.Unknown → ⊥) → type_joins k ≡ true
+pub type-joins : (k : TypeKind) (f : Frame) → (type_as k f ≡ None → ⊥) → type_joins k ≡ true
 type-joins Tk.Unknown f h = absurd (h refl)
 type-joins Tk.Scalar f h = refl
 type-joins Tk.Vector f h = refl

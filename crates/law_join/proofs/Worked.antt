@@ -6,7 +6,7 @@ use mathlib.Core.List.{List, [], ◌∷◌, ◌++◌, map}
 use lib.ListN.{replicate}
 use Rattle.scan.specs.Lowest.{lowest, all_below}
 use Rattle.scan.specs.Lists.{build, sum_below}
-use Rattle.answers.specs.declared.Outcome.TheVariants as O
+use Rattle.answers.specs.declared.FileError.TheVariants as Fe
 use Rattle.text.specs.Hex.{digit_value, digit_of}
 use Rattle.text.specs.Lines.{line_ok, byte_of, char_of, text_of}
 use Rattle.text.specs.Reading.{answer_frames, too_short, most_frames, read_text}
@@ -107,7 +107,7 @@ not-joinable = refl
 -- the first's own number comes first, then the second's, before 49
 pub own-numbers : join_files 1024 (text_of (short 1 1 0 0 9 4 0 0) 1) (0 ∷ []) 16 16 0 ∷ join_files 1024
     (text_of (plain_row 22 0) 1) (0 ∷ []) 16 16 0 ∷ []
-    ≡ Jf.First (O.Field 0) ∷ Jf.Second (O.Torn 0) ∷ []
+    ≡ Jf.First (Fe.Field 0) ∷ Jf.Second (Fe.Torn 0) ∷ []
 unfolding lowest all_below build sum_below digit_value digit_of line_ok byte_of char_of too_short most_frames
     read_text frame_at type_of item_of row_of member_of component_of fields_fit order_ok start starts_of names_ok
     early_ok index_ok check_frames read_file listed frames_bytes moved_frame regrouped joinable printed join_files

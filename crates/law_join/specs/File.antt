@@ -1,12 +1,10 @@
 -- What joining two files gives, over their texts (document 02, request 14). The first is checked, then the second, each
 -- on its own buffers alone; then each must be joinable, else 49; then the join is within the limit, else 1; then its
 -- lines have room, else 3. One limit serves the two and the join.
-use Rattle.std.specs.Prelude.{ℕ, ◌+◌, cond, ◌&&◌, List, ◌++◌, map, ltb}
-use Rattle.answers.specs.declared.Outcome.{Outcome}
-use Rattle.answers.specs.declared.Outcome.TheVariants as O
-use Rattle.answers.specs.declared.Printed.{Printed}
-use Rattle.answers.specs.declared.Printed.TheVariants as Pr
-use Rattle.answers.specs.Numbers.{Refused, at, outcome_values}
+use Rattle.std.specs.Prelude.{ℕ, ◌+◌, cond, ◌&&◌, List, ◌++◌, map, ltb, Option, Some, None}
+use Rattle.answers.specs.declared.FileError.{FileError}
+use Rattle.answers.specs.declared.FileError.TheVariants as Fe
+use Rattle.answers.specs.Numbers.{Refused, at, error_values}
 use Rattle.text.specs.declared.AnswerRoom.TheVariants.{NotLent}
 use Rattle.text.specs.Lines.{text_of}
 use Rattle.text.specs.Reading.{most_frames}
@@ -34,9 +32,9 @@ by_tests limit fr gr unjoinable long lines =
     cond (joinable fr && joinable gr) (cond (ltb (most_frames limit) (frame_count fr + frame_count gr)) long lines)
     unjoinable
 
-abbrev pub as_frames : ℕ → Printed → JoinedFile
-as_frames frames (Pr.Bytes n) = Jf.Frames frames
-as_frames frames Pr.Short = Jf.Short
+abbrev pub as_frames : ℕ → Option ℕ → JoinedFile
+as_frames frames (Some n) = Jf.Frames frames
+as_frames frames None = Jf.Short
 
 -- with a buffer of o bytes for the lines
 abbrev pub join_in : ℕ → ℕ → List ℕ → List ℕ → JoinedFile
@@ -54,14 +52,14 @@ join_files limit t u f g o =
 -- accepted: else it is as it was
 unfoldable pub second_after : ℕ → List ℕ → List ℕ → ℕ → List ℕ → List ℕ
 second_after limit t u f buffer =
-    over_file (λ (o : Outcome). buffer) (λ (fr : List ℕ). frames_after limit u buffer NotLent) t
+    over_file (λ (e : FileError). buffer) (λ (fr : List ℕ). frames_after limit u buffer NotLent) t
     (read_file limit t f NotLent)
 
 -- the buffer for the join: its lines at the front, where it is made, else as it was
 unfoldable pub joined_after : ℕ → List ℕ → List ℕ → ℕ → ℕ → List ℕ → List ℕ
 joined_after limit t u f g buffer =
-    over_file (λ (o : Outcome). buffer)
-    (λ (fr : List ℕ). over_file (λ (o : Outcome). buffer)
+    over_file (λ (e : FileError). buffer)
+    (λ (fr : List ℕ). over_file (λ (e : FileError). buffer)
     (λ (gr : List ℕ). by_tests limit fr gr buffer buffer (printed_after (join_text fr gr) buffer)) u
     (read_file limit u g NotLent)) t (read_file limit t f NotLent)
 
@@ -72,11 +70,11 @@ whose i r = record { number = r.number; place = r.place; index = i; indexed = r.
 
 abbrev pub joined_said : JoinedFile → Refused
 joined_said (Jf.Frames n) = at 0 n
-joined_said (Jf.First o) = whose 0 (outcome_values o)
-joined_said (Jf.Second o) = whose 1 (outcome_values o)
+joined_said (Jf.First e) = whose 0 (error_values e)
+joined_said (Jf.Second e) = whose 1 (error_values e)
 joined_said Jf.NotJoinable = whose 2 (at 49 0)
-joined_said (Jf.Long m) = whose 2 (outcome_values (O.Long m))
-joined_said Jf.Short = whose 2 (outcome_values O.Short)
+joined_said (Jf.Long m) = whose 2 (error_values (Fe.Long m))
+joined_said Jf.Short = whose 2 (error_values Fe.Short)
 
 -- what typing the rows of a join hands back, as bytes: the frames of the first, then those of the second, each with
 -- its numbers moved (the law: proofs/Public.antt)

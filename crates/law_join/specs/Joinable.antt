@@ -2,7 +2,7 @@
 -- special type item, no row answered 19 or 20. What that means of the answers, and a test that looks at each frame
 -- once. In an accepted file types and rows alone have unknown kinds: an item's is number 4, a member's and a
 -- component's number 5 (proofs/Known.antt). The two are one: proofs/Joinable.antt.
-use Rattle.std.specs.Prelude.{ℕ, ◌-◌, ◌≡◌, Bool, true, false, List, [], ◌∷◌, ltb, get_or}
+use Rattle.std.specs.Prelude.{ℕ, ◌-◌, ◌≡◌, Bool, true, false, List, [], ◌∷◌, ltb, get_or, None}
 use Rattle.std.proofs.Math.Option.{none}
 use Rattle.scan.specs.Lowest.{all_below}
 use Rattle.ir.specs.declared.TypeNumber.{TypeNumber}
@@ -13,7 +13,6 @@ use Rattle.ir.specs.declared.ItemKind.{ItemKind}
 use Rattle.ir.specs.declared.ItemKind.TheVariants as Ik
 use Rattle.ir.specs.declared.RowKind.{RowKind}
 use Rattle.ir.specs.declared.RowKind.TheVariants as Rk
-use Rattle.ir.specs.declared.TypeForm.TheVariants as Tf
 use Rattle.ir.specs.Numbers.{type_kind_of, item_kind_of, row_kind_of}
 use Rattle.answers.specs.declared.Refusal.TheVariants as R
 use Rattle.frames.specs.declared.Frame.{Frame}
@@ -31,7 +30,7 @@ use Rattle.rule_answers.specs.Outputs.{row_answer}
 -- pass exactly if it has one in the other, though not always on the same rows (proofs/Passes.antt)
 pub record Joinable (fr : List ℕ) : Type 0 where
   -- no type of unknown kind, used or not
-  pub types : (n : TypeNumber) → is_type (starts_of fr) n ≡ true → type_at fr n ≡ Tf.Unknown → ⊥
+  pub types : (n : TypeNumber) → is_type (starts_of fr) n ≡ true → type_at fr n ≡ None → ⊥
   -- no row that shows nothing: one of unknown kind, or Math
   pub rows : (n : RowNumber) → is_row (starts_of fr) n ≡ true → see fr (kind n) ≡ none → ⊥
   -- no item of kind 7 or 8: they stand between these two

@@ -1,6 +1,7 @@
 -- The claim of our readers, from the claim for any rules (rule/proofs/Later.antt): the bytes of an outcome are 22
 -- exactly where the outcome is newer, since our answers and verdicts are in range (law_rows, law_verdicts); and
 -- what is handed back of an accepted text, in the answer buffer or for one row, are the bytes of these outcomes.
+use Rattle.std.specs.Prelude.{Ok}
 use Prim.Native.Nat.{ℕ, suc, ◌+◌, ◌*◌, ◌≤◌, ◌<◌}
 use native.Mathlib.Omega.{arith}
 use mathlib.Core.Path.{◌≡◌, refl, sym, ap, ◌∙◌}
@@ -9,7 +10,6 @@ use mathlib.Core.Option.{Option, none, some}
 use lib.ListN.{length, drop, length-append, length-replicate}
 use lib.Seq.{get_or-append_seam}
 use Rattle.answers.specs.Numbers.{sameness_said}
-use Rattle.answers.specs.declared.Outcome.TheVariants.{Accepted}
 use Rattle.text.specs.declared.AnswerRoom.{AnswerRoom}
 use Rattle.text.specs.declared.AnswerRoom.TheVariants.{NotLent, Lent}
 use Rattle.text.specs.Lines.{line_count, decoded}
@@ -217,7 +217,7 @@ module _ (pass : Pass) (limit : ℕ) (t : List ℕ) (n f : ℕ) (an : List ℕ) 
   accepts : Accepts limit t (16 * line_count t) (Lent (answer_bytes t)) n
   accepts = (accepted-when limit t (16 * line_count t) (Lent (answer_bytes t)) n).0 accepted
 
-  read-with : (room : AnswerRoom) → RoomFor room (answer_bytes t) → read_file limit t f room ≡ Accepted n
+  read-with : (room : AnswerRoom) → RoomFor room (answer_bytes t) → read_file limit t f room ≡ Ok n
   read-with room w =
       let k = accepts in
       let r = k.readable in
@@ -229,7 +229,7 @@ module _ (pass : Pass) (limit : ℕ) (t : List ℕ) (n f : ℕ) (an : List ℕ) 
         index = k.index;
       })
 
-  read-lent : read_file limit t f (Lent (length an)) ≡ Accepted n
+  read-lent : read_file limit t f (Lent (length an)) ≡ Ok n
   read-lent = read-with (Lent (length an)) for-answers
 
   good-text : Good fr

@@ -6,9 +6,8 @@
 -- (`Pass`, rule_rows/src/lib.rt): a reader and the later readers that it is held against type by the same pass. A limit
 -- is the most frames that a file may have, 1 to 1,024, any other number counting as 1,024 (`most_frames`,
 -- text/specs/Reading.antt): it says which texts are accepted, and nothing else here.
-use Rattle.std.specs.Prelude.{ℕ, ◌*◌, ◌<◌, ◌≡◌, List, [], ◌∷◌, ◌↔◌, get_or}
+use Rattle.std.specs.Prelude.{ℕ, ◌*◌, ◌<◌, ◌≡◌, List, [], ◌∷◌, ◌↔◌, get_or, Ok}
 use Rattle.std.proofs.Math.Option.{Option, none, some}
-use Rattle.answers.specs.declared.Outcome.TheVariants.{Accepted}
 use Rattle.answers.specs.Numbers.{Said, alike, different, numbered, sameness_said}
 use Rattle.text.specs.declared.AnswerRoom.TheVariants.{Lent}
 use Rattle.text.specs.Lines.{line_count, decoded}
@@ -105,7 +104,7 @@ pub record Keeps (pass : Pass) (r : Reader) (t fr : List ℕ) (choice : Choice) 
 
 -- a text is accepted within a limit, with n frames, where the lent buffers are as large as it asks for
 abbrev pub IsAccepted : (limit : ℕ) → List ℕ → ℕ → Type 0
-IsAccepted limit t n = read_file limit t (16 * line_count t) (Lent (answer_bytes t)) ≡ Accepted n
+IsAccepted limit t n = read_file limit t (16 * line_count t) (Lent (answer_bytes t)) ≡ Ok n
 
 -- THE CLAIM of a reader, by the rules of a pass and within a limit: for every accepted text and every choice
 abbrev pub Claim : (pass : Pass) (limit : ℕ) → Reader → Type 0

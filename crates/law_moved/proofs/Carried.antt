@@ -1,5 +1,6 @@
 -- A ROW, AND EACH THING THAT A READING COMES TO, of a file that is carried into another shows there what it shows, with
 -- its numbers moved: by the items that a row names, then expression by expression.
+use Rattle.std.specs.Prelude.{Option as CodeOption, Some, None}
 use Prim.Native.Nat.{ℕ, ◌+◌, ◌-◌, ◌≤◌, ◌<◌}
 use native.Mathlib.Omega.{arith}
 use mathlib.Core.Path.{◌≡◌, refl, ap, ◌∙◌}
@@ -10,11 +11,8 @@ use borrow.Author.Tests.{ltb-true, lt-ltb, leb-true}
 use Rattle.scan.proofs.Laws.{and_second}
 use Rattle.ir.specs.declared.TypeNumber.{TypeNumber}
 use Rattle.ir.specs.declared.RowNumber.{RowNumber}
-use Rattle.ir.specs.declared.FunctionResult.{FunctionResult}
 use Rattle.ir.specs.declared.Expression.{Expression}
 use Rattle.ir.specs.declared.Expression.TheVariants as Ex
-use Rattle.ir.specs.declared.RowForm.{RowForm}
-use Rattle.ir.specs.declared.RowForm.TheVariants as Ro
 use Rattle.frames.specs.declared.Frame.{Frame}
 use Rattle.frames.specs.Bytes.{byte, frame_at}
 use Rattle.frames.specs.Forms.{item_of}
@@ -116,7 +114,7 @@ module _ (m : Moves) (kept : ℕ → Type 0) (fr gr : List ℕ) (good : Good fr)
     abbrev Alike-shown : Expression → Type 0
     Alike-shown e = shown gr t (expression_to m e) ≡ shows_to m (kind n) (shown fr s e)
 
-    expression-carried : (e : Expression) → row_in fr s n ≡ Ro.Known e → row_names s n e ≡ true → Alike-shown e
+    expression-carried : (e : Expression) → row_in fr s n ≡ Some e → row_names s n e ≡ true → Alike-shown e
     expression-carried (Ex.Literal l) q h = refl
     expression-carried (Ex.Constant i) q h = ap (λ (x : TypeNumber). some (Row.constant x))
         (constant-type i.0 (ltb-true _ _ h))
@@ -147,7 +145,7 @@ module _ (m : Moves) (kept : ℕ → Type 0) (fr gr : List ℕ) (good : Good fr)
     expression-carried (Ex.Relational f r) q h = refl
     expression-carried Ex.Math q h = refl
     expression-carried (Ex.As r k w) q h = refl
-    expression-carried (Ex.CallResult i) q h = ap (λ (x : FunctionResult). some (Row.call_result x))
+    expression-carried (Ex.CallResult i) q h = ap (λ (x : CodeOption TypeNumber). some (Row.call_result x))
         (function-result i.0 (ltb-true _ _ h))
     expression-carried (Ex.AtomicResult x) q h = refl
     expression-carried (Ex.WorkGroupUniformLoadResult x) q h = refl
@@ -162,10 +160,11 @@ module _ (m : Moves) (kept : ℕ → Type 0) (fr gr : List ℕ) (good : Good fr)
     expression-carried (Ex.CooperativeLoad c r o k) q h = refl
     expression-carried (Ex.CooperativeMultiplyAdd r) q h = refl
 
-    row-form-carried : (r : RowForm) → row_in fr s n ≡ r → row_form_names s n r ≡ true → see_row gr t (row_form_to m r)
+    row-form-carried : (r : CodeOption Expression) → row_in fr s n ≡ r → row_form_names s n r ≡ true
+        → see_row gr t (row_form_to m r)
         ≡ shows_to m (kind n) (see_row fr s r)
-    row-form-carried (Ro.Known e) q h = expression-carried e q h
-    row-form-carried Ro.Unknown q h = refl
+    row-form-carried (Some e) q h = expression-carried e q h
+    row-form-carried None q h = refl
 
     row_carried : is_row s n ≡ true → row_in gr t (row_to m n) ≡ row_form_to m (row_in fr s n)
     unfolding row_in

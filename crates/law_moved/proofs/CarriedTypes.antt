@@ -1,5 +1,6 @@
 -- A TYPE of a file that is carried into another shows there what it shows, with its numbers moved: a type of the
 -- file, or a value that a comparison gives neither 5 nor 6. Its members stay together.
+use Rattle.std.specs.Prelude.{Option, Some, None}
 use Prim.Native.Nat.{ℕ, ◌+◌, ◌≤◌}
 use native.Mathlib.Omega.{arith}
 use mathlib.Core.Path.{◌≡◌, refl, sym, ap, ◌∙◌}
@@ -12,8 +13,6 @@ use Rattle.ir.specs.declared.ArraySize.{ArraySize}
 use Rattle.ir.specs.declared.ArraySize.TheVariants as As
 use Rattle.ir.specs.declared.TypeInner.{TypeInner}
 use Rattle.ir.specs.declared.TypeInner.TheVariants as Ti
-use Rattle.ir.specs.declared.TypeForm.{TypeForm}
-use Rattle.ir.specs.declared.TypeForm.TheVariants as Tf
 use Rattle.ir.specs.declared.StructMember.{StructMember}
 use Rattle.frames.specs.Bytes.{frame_at}
 use Rattle.frames.specs.Forms.{member_of}
@@ -113,11 +112,12 @@ module _ (m : Moves) (kept : ℕ → Type 0) (fr gr : List ℕ) (good : Good fr)
   members-carried n (Ti.RayQuery q) h = refl
   members-carried n (Ti.BindingArray b z) h = refl
 
-  form-carried : (n : TypeNumber) (x : TypeForm) → type_form_names s n x ≡ true → see_form gr t (type_form_to m x)
+  form-carried : (n : TypeNumber) (x : Option TypeInner) → type_form_names s n x ≡ true
+      → see_form gr t (type_form_to m x)
       ≡ shows_to m (form (number n)) (see_form fr s x)
-  form-carried n (Tf.Known x) h = ap (λ (l : List TypeNumber). some (record { inner = inner_to m x; members = l }))
+  form-carried n (Some x) h = ap (λ (l : List TypeNumber). some (record { inner = inner_to m x; members = l }))
       (members-carried n x h)
-  form-carried n Tf.Unknown h = refl
+  form-carried n None h = refl
 
   no-members : (x : TypeInner) → value_fault s x ≡ Fa.Sound → member_types gr t (inner_to m x)
       ≡ map (type_to m) (member_types fr s x)
@@ -156,7 +156,8 @@ module _ (m : Moves) (kept : ℕ → Type 0) (fr gr : List ℕ) (good : Good fr)
   pub struct-shows : (a : TypeAnswer) → fault_of s a ≡ Fa.Sound → Shows m (see fr) (see gr) (struct_number a)
   struct-shows (number n) e =
       let h = range-sound (is_type s n) e in
-      ap (λ (x : TypeForm). some (is_struct_form x)) (type-carried n h) ∙ ap some (struct-form-to m (type_in fr s n))
+      ap (λ (x : Option TypeInner). some (is_struct_form x)) (type-carried n h)
+      ∙ ap some (struct-form-to m (type_in fr s n))
   struct-shows (value x) e = refl
   struct-shows (malformed f) e = never (cc)
 

@@ -1,6 +1,7 @@
 -- A FILE CARRIED INTO ANOTHER: where each frame of the first stands in the second, and reads there with its numbers
 -- moved. Asked of the types, members and items, and of the rows that are kept; so of a cut, and of both files of a
 -- join. And what moving keeps of an item, of a type and of the tests on it.
+use Rattle.std.specs.Prelude.{Option, Some, None}
 use Prim.Native.Nat.{ℕ, zero, suc, ◌+◌, ◌≤◌, ◌<◌}
 use native.Mathlib.Omega.{arith}
 use mathlib.Core.Path.{◌≡◌, refl, sym, ap, ◌∙◌}
@@ -10,12 +11,9 @@ use Rattle.ir.specs.declared.ArraySize.{ArraySize}
 use Rattle.ir.specs.declared.ArraySize.TheVariants as As
 use Rattle.ir.specs.declared.TypeInner.{TypeInner}
 use Rattle.ir.specs.declared.TypeInner.TheVariants as Ti
-use Rattle.ir.specs.declared.TypeForm.{TypeForm}
-use Rattle.ir.specs.declared.TypeForm.TheVariants as Tf
 use Rattle.ir.specs.declared.Item.{Item}
 use Rattle.ir.specs.declared.Item.TheVariants as It
 use Rattle.ir.specs.declared.Expression.TheVariants as Ex
-use Rattle.ir.specs.declared.RowForm.TheVariants as Ro
 use Rattle.frames.specs.declared.Frame.{Frame}
 use Rattle.frames.specs.Bytes.{frame_at}
 use Rattle.frames.specs.Forms.{type_of, item_of, row_of, member_of, component_of}
@@ -59,7 +57,7 @@ pub record Carries (m : Moves) (kept : ℕ → Type 0) (fr gr : List ℕ) : Type
       → row_of (frame_at gr ((starts_of gr).rows + m.rows n))
       ≡ row_form_to m (row_of (frame_at fr ((starts_of fr).rows + n)))
   -- the argument that a kept row names, or that there is none
-  pub arguments : (n i : ℕ) → kept n → row_in fr (starts_of fr) (record { 0 = n }) ≡ Ro.Known (Ex.FunctionArgument i)
+  pub arguments : (n i : ℕ) → kept n → row_in fr (starts_of fr) (record { 0 = n }) ≡ Some (Ex.FunctionArgument i)
       → maybe_item gr (starts_of gr).arguments (starts_of gr).locals (record { 0 = m.arguments i })
       ≡ maybe_to m (maybe_item fr (starts_of fr).arguments (starts_of fr).locals (record { 0 = i }))
   -- the special types
@@ -166,9 +164,9 @@ module _ (m : Moves) where
   struct-to (Ti.RayQuery q) = refl
   struct-to (Ti.BindingArray b z) = refl
 
-  pub struct-form-to : (t : TypeForm) → is_struct_form (type_form_to m t) ≡ is_struct_form t
-  struct-form-to (Tf.Known t) = struct-to t
-  struct-form-to Tf.Unknown = refl
+  pub struct-form-to : (t : Option TypeInner) → is_struct_form (type_form_to m t) ≡ is_struct_form t
+  struct-form-to (Some t) = struct-to t
+  struct-form-to None = refl
 
   pub count-to : (z : ArraySize) → is_count (size_to m z) ≡ is_count z
   count-to (As.Constant n) = refl

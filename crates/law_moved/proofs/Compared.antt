@@ -1,5 +1,6 @@
 -- Comparisons take the same steps with their numbers moved, where moves can be undone: then equal types and identical
 -- answers stay so.
+use Rattle.std.specs.Prelude.{Ok}
 use Prim.Native.Nat.{ℕ}
 use mathlib.Core.Path.{◌≡◌, refl, sym, ap, ◌∙◌, subst}
 use mathlib.Core.Bool.{Bool, true, false, ◌||◌}
@@ -10,7 +11,6 @@ use Rattle.ir.specs.declared.ArraySize.TheVariants as As
 use Rattle.ir.specs.declared.TypeInner.{TypeInner}
 use Rattle.ir.specs.declared.TypeInner.TheVariants as Ti
 use Rattle.ir.specs.declared.TypeResolution.TheVariants as Tr
-use Rattle.answers.specs.declared.Answer.TheVariants as An
 use Rattle.frames.specs.ForProofs.{answer_of}
 use Rattle.frames.proofs.ReadBack.{answer_back}
 use Rattle.rule.specs.declared.Fault.{Fault}
@@ -69,20 +69,20 @@ module _ (m i : Moves) (u : Undone m i) where
 
   plain-is : (a b : TypeAnswer) → PlainType a → PlainType b → identical a b ≡ true → a ≡ b
   plain-is (number x) (number y) p q e =
-      let h : An.Resolved (Tr.Handle x) ≡ An.Resolved (Tr.Handle y) = sym (answer_back (An.Resolved (Tr.Handle x)))
-      ∙ ap answer_of ((identical-frames (number x) (number y)).0 e) ∙ answer_back (An.Resolved (Tr.Handle y)) in
+      let h : Ok (Tr.Handle x) ≡ Ok (Tr.Handle y) = sym (answer_back (Ok (Tr.Handle x)))
+      ∙ ap answer_of ((identical-frames (number x) (number y)).0 e) ∙ answer_back (Ok (Tr.Handle y)) in
       cc
   plain-is (number x) (value y) p q e =
-      let h : An.Resolved (Tr.Handle x) ≡ An.Resolved (Tr.Value y) = sym (answer_back (An.Resolved (Tr.Handle x)))
-      ∙ ap answer_of ((identical-frames (number x) (value y)).0 e) ∙ answer_back (An.Resolved (Tr.Value y)) in
+      let h : Ok (Tr.Handle x) ≡ Ok (Tr.Value y) = sym (answer_back (Ok (Tr.Handle x)))
+      ∙ ap answer_of ((identical-frames (number x) (value y)).0 e) ∙ answer_back (Ok (Tr.Value y)) in
       cc
   plain-is (value x) (number y) p q e =
-      let h : An.Resolved (Tr.Value x) ≡ An.Resolved (Tr.Handle y) = sym (answer_back (An.Resolved (Tr.Value x)))
-      ∙ ap answer_of ((identical-frames (value x) (number y)).0 e) ∙ answer_back (An.Resolved (Tr.Handle y)) in
+      let h : Ok (Tr.Value x) ≡ Ok (Tr.Handle y) = sym (answer_back (Ok (Tr.Value x)))
+      ∙ ap answer_of ((identical-frames (value x) (number y)).0 e) ∙ answer_back (Ok (Tr.Handle y)) in
       cc
   plain-is (value x) (value y) p q e =
-      let h : An.Resolved (Tr.Value x) ≡ An.Resolved (Tr.Value y) = sym (answer_back (An.Resolved (Tr.Value x)))
-      ∙ ap answer_of ((identical-frames (value x) (value y)).0 e) ∙ answer_back (An.Resolved (Tr.Value y)) in
+      let h : Ok (Tr.Value x) ≡ Ok (Tr.Value y) = sym (answer_back (Ok (Tr.Value x)))
+      ∙ ap answer_of ((identical-frames (value x) (value y)).0 e) ∙ answer_back (Ok (Tr.Value y)) in
       cc
   plain-is (malformed f) b p q e = absurd p
   plain-is (number x) (malformed f) p q e = absurd q

@@ -1,5 +1,6 @@
 -- NUMBER 6, of a moved frame: where each number that was in range is so when moved, and earlier ones stay earlier, a
 -- frame that named what is there does so with its numbers moved.
+use Rattle.std.specs.Prelude.{Option, Some, None}
 use Prim.Native.Nat.{ℕ, ◌+◌, ◌≤◌, ◌<◌}
 use mathlib.Core.Path.{◌≡◌, refl}
 use mathlib.Core.Bool.{true, ◌&&◌}
@@ -10,12 +11,8 @@ use Rattle.ir.specs.declared.TypeNumber.{TypeNumber}
 use Rattle.ir.specs.declared.RowNumber.{RowNumber}
 use Rattle.ir.specs.declared.ArraySize.{ArraySize}
 use Rattle.ir.specs.declared.ArraySize.TheVariants as As
-use Rattle.ir.specs.declared.FunctionResult.{FunctionResult}
-use Rattle.ir.specs.declared.FunctionResult.TheVariants as Fr
 use Rattle.ir.specs.declared.TypeInner.{TypeInner}
 use Rattle.ir.specs.declared.TypeInner.TheVariants as Ti
-use Rattle.ir.specs.declared.TypeForm.{TypeForm}
-use Rattle.ir.specs.declared.TypeForm.TheVariants as Tf
 use Rattle.ir.specs.declared.Item.{Item}
 use Rattle.ir.specs.declared.Item.TheVariants as It
 use Rattle.ir.specs.declared.ImageQuery.{ImageQuery}
@@ -24,8 +21,6 @@ use Rattle.ir.specs.declared.RelationalFunction.{RelationalFunction}
 use Rattle.ir.specs.declared.RelationalFunction.TheVariants as Rl
 use Rattle.ir.specs.declared.Expression.{Expression}
 use Rattle.ir.specs.declared.Expression.TheVariants as Ex
-use Rattle.ir.specs.declared.RowForm.{RowForm}
-use Rattle.ir.specs.declared.RowForm.TheVariants as Ro
 use Rattle.archive.specs.declared.Starts.{Starts}
 use Rattle.archive.specs.Starts.{type_count, member_count, constant_count, override_count, global_count, local_count}
 use Rattle.archive.specs.Starts.{function_count, component_count}
@@ -95,9 +90,9 @@ NamesRow (Ex.SubgroupOperationResult t) = ⊥
 NamesRow (Ex.CooperativeLoad c r o n) = Unit {0}
 NamesRow (Ex.CooperativeMultiplyAdd r) = Unit {0}
 
-abbrev pub FormNamesRow : RowForm → Type 0
-FormNamesRow (Ro.Known e) = NamesRow e
-FormNamesRow Ro.Unknown = ⊥
+abbrev pub FormNamesRow : Option Expression → Type 0
+FormNamesRow (Some e) = NamesRow e
+FormNamesRow None = ⊥
 
 module _ (m : Moves) (s t : Starts) (to : InPlace m s t) where
   -- an earlier type and a type, in the second
@@ -137,15 +132,15 @@ module _ (m : Moves) (s t : Starts) (to : InPlace m s t) where
     inner-named (Ti.RayQuery q) h = refl
     inner-named (Ti.BindingArray b z) h = array-named b z h
 
-    pub type-names-moved : (x : TypeForm) → type_form_names s n x ≡ true
+    pub type-names-moved : (x : Option TypeInner) → type_form_names s n x ≡ true
         → type_form_names t (type_to m n) (type_form_to m x)
         ≡ true
-    type-names-moved (Tf.Known x) h = inner-named x h
-    type-names-moved Tf.Unknown h = refl
+    type-names-moved (Some x) h = inner-named x h
+    type-names-moved None h = refl
 
-  result-named : (r : FunctionResult) → result_names s r ≡ true → result_names t (function_to m r) ≡ true
-  result-named (Fr.Some b) h = type-named b h
-  result-named Fr.None h = refl
+  result-named : (r : Option TypeNumber) → result_names s r ≡ true → result_names t (function_to m r) ≡ true
+  result-named (Some b) h = type-named b h
+  result-named None h = refl
 
   pub item-names-moved : (x : Item) → item_names s x ≡ true → item_names t (item_to m x) ≡ true
   item-names-moved (It.Constant b) h = type-named b h
@@ -223,7 +218,7 @@ module _ (m : Moves) (s t : Starts) (to : InPlace m s t) where
     expression-named (Ex.CooperativeLoad c r o k) e h = early (e tt) k h
     expression-named (Ex.CooperativeMultiplyAdd r) e h = early (e tt) r h
 
-    pub row-names-moved : (x : RowForm) → (FormNamesRow x → Earlier) → row_form_names s n x ≡ true
+    pub row-names-moved : (x : Option Expression) → (FormNamesRow x → Earlier) → row_form_names s n x ≡ true
         → row_form_names t (row_to m n) (row_form_to m x) ≡ true
-    row-names-moved (Ro.Known x) e h = expression-named x e h
-    row-names-moved Ro.Unknown e h = refl
+    row-names-moved (Some x) e h = expression-named x e h
+    row-names-moved None e h = refl

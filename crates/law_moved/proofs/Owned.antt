@@ -1,5 +1,8 @@
 -- NUMBER 6, parts and owners, of a moved struct or compose: where its members or components stand together in the
 -- second file, each is earlier than it there too.
+use Rattle.ir.specs.declared.Expression.{Expression}
+use Rattle.std.specs.Prelude.{Option, Some}
+use Rattle.ir.specs.declared.TypeInner.{TypeInner}
 use Prim.Native.Nat.{ℕ, ◌+◌, ◌-◌, ◌≤◌, ◌<◌, min}
 use native.Mathlib.Decide.{dec_lt}
 use native.Mathlib.Omega.{arith}
@@ -12,11 +15,7 @@ use borrow.Author.Tests.{lt-ltb, leb-true, eqb-true}
 use Rattle.scan.proofs.Laws.{and_second}
 use Rattle.ir.specs.declared.RowNumber.{RowNumber}
 use Rattle.ir.specs.declared.StructMember.{StructMember}
-use Rattle.ir.specs.declared.TypeForm.{TypeForm}
-use Rattle.ir.specs.declared.TypeForm.TheVariants as Tf
 use Rattle.ir.specs.declared.TypeInner.TheVariants as Ti
-use Rattle.ir.specs.declared.RowForm.{RowForm}
-use Rattle.ir.specs.declared.RowForm.TheVariants as Ro
 use Rattle.ir.specs.declared.Expression.TheVariants as Ex
 use Rattle.frames.specs.declared.Frame.{Frame}
 use Rattle.frames.specs.Bytes.{byte, half, word, frame_at}
@@ -41,12 +40,12 @@ cases false f g = g refl
 
 -- what a struct's and a compose's frame read as
 struct-reads : (f : Frame) → byte f 1 ≡ 9 → type_of f
-    ≡ Tf.Known (Ti.Struct (record { 0 = half f 2 }) (half f 4) (word f 12))
+    ≡ Some (Ti.Struct (record { 0 = half f 2 }) (half f 4) (word f 12))
 unfolding type_of
 struct-reads f e = rw e
 
 compose-reads : (f : Frame) → byte f 1 ≡ 5 → row_of f
-    ≡ Ro.Known (Ex.Compose (record { 0 = half f 2 }) (half f 4) (record { 0 = word f 12 }))
+    ≡ Some (Ex.Compose (record { 0 = half f 2 }) (half f 4) (record { 0 = word f 12 }))
 unfolding row_of
 compose-reads f e = rw e
 
@@ -71,9 +70,10 @@ module _ (fr : List ℕ) (good : Good fr) where
   member-early n l e y w =
       let h : is_type s (record { 0 = n }) ≡ true = lt-ltb n (type_count s) l in
       let q : type_in fr s (record { 0 = n })
-      ≡ Tf.Known (Ti.Struct (record { 0 = half (frame_at fr n) 2 }) (half (frame_at fr n) 4) (word (frame_at fr n) 12))
+      ≡ Some (Ti.Struct (record { 0 = half (frame_at fr n) 2 }) (half (frame_at fr n) 4) (word (frame_at fr n) 12))
       = rw h (struct-reads (frame_at fr n) e) in
-      ((subst (λ (x : TypeForm). TypeThere fr (record { 0 = n }) x) q (type-named fr good (record { 0 = n }) h)) y
+      ((subst (λ (x : Option TypeInner). TypeThere fr (record { 0 = n }) x) q (type-named fr good
+      (record { 0 = n }) h)) y
       w).early
 
   compose-names : (n : ℕ) → n < row_count s → byte (frame_at fr (s.rows + n)) 1 ≡ 5
@@ -94,9 +94,10 @@ module _ (fr : List ℕ) (good : Good fr) where
       let f = frame_at fr (s.rows + n) in
       let h : is_row s (record { 0 = n }) ≡ true = row-there fr n l in
       let q : row_in fr s (record { 0 = n })
-      ≡ Ro.Known (Ex.Compose (record { 0 = half f 2 }) (half f 4) (record { 0 = word f 12 })) = rw h
+      ≡ Some (Ex.Compose (record { 0 = half f 2 }) (half f 4) (record { 0 = word f 12 })) = rw h
       (compose-reads f e) in
-      ((subst (λ (x : RowForm). RowThere fr (record { 0 = n }) x) q (row-named fr good (record { 0 = n }) h)).1 y
+      ((subst (λ (x : Option Expression). RowThere fr (record { 0 = n }) x) q (row-named fr good
+      (record { 0 = n }) h)).1 y
       w).early
 
   module _ (m : Moves) (gr : List ℕ) where

@@ -1,5 +1,8 @@
 -- The parts of the rules of rows: what each gives by the form of a type is the same with its numbers moved. By cases on
 -- the form, or by the selectors.
+use Rattle.std.specs.Prelude.{Option as CodeOption, Some, None}
+use Rattle.ir.specs.declared.Width.{Width}
+use Rattle.ir.specs.declared.VectorSize.{VectorSize}
 use Prim.Native.Nat.{ℕ, zero, suc}
 use mathlib.Core.Path.{◌≡◌, refl, ap, ◌∙◌}
 use mathlib.Core.Bool.{Bool, true, false, cond}
@@ -9,8 +12,6 @@ use lib.Dec.{ltb}
 use lib.ListN.{get_elem?}
 use Rattle.ir.specs.declared.TypeNumber.{TypeNumber}
 use Rattle.ir.specs.declared.RowNumber.{RowNumber}
-use Rattle.ir.specs.declared.OptionVectorSize.{OptionVectorSize}
-use Rattle.ir.specs.declared.OptionVectorSize.TheVariants as Ov
 use Rattle.ir.specs.declared.CooperativeSize.{CooperativeSize}
 use Rattle.ir.specs.declared.CooperativeRole.{CooperativeRole}
 use Rattle.ir.specs.declared.Scalar.{Scalar}
@@ -20,12 +21,7 @@ use Rattle.ir.specs.declared.ImageDimension.{ImageDimension}
 use Rattle.ir.specs.declared.ImageDimension.TheVariants as Id
 use Rattle.ir.specs.declared.ImageClass.{ImageClass}
 use Rattle.ir.specs.declared.ImageClass.TheVariants as Ic
-use Rattle.ir.specs.declared.FunctionResult.{FunctionResult}
-use Rattle.ir.specs.declared.FunctionResult.TheVariants as Fr
 use Rattle.ir.specs.declared.ScalarKind.{ScalarKind}
-use Rattle.ir.specs.declared.OptionBytes.{OptionBytes}
-use Rattle.ir.specs.declared.OptionScalar.{OptionScalar}
-use Rattle.ir.specs.declared.OptionScalar.TheVariants as Os
 use Rattle.ir.specs.declared.TypeInner.{TypeInner}
 use Rattle.ir.specs.declared.TypeInner.TheVariants as Ti
 use Rattle.ir.specs.TypeMethods.{scalar_in, pointer_base}
@@ -72,16 +68,16 @@ module _ (m : Moves) where
   pointer-same base i p (some t) = refl
   pointer-same base i p none = refl
 
-  component-same : (base : RowNumber) (k : Scalar) (p : AddressSpace) (z : OptionVectorSize)
+  component-same : (base : RowNumber) (k : Scalar) (p : AddressSpace) (z : CodeOption VectorSize)
       → Same m (access_component base k p z) (access_component (row_to m base) k p z)
-  component-same base k p (Ov.Some z) = refl
-  component-same base k p Ov.None = refl
+  component-same base k p (Some z) = refl
+  component-same base k p None = refl
 
-  index-component : (base : RowNumber) (i : ℕ) (k : Scalar) (p : AddressSpace) (z : OptionVectorSize)
+  index-component : (base : RowNumber) (i : ℕ) (k : Scalar) (p : AddressSpace) (z : CodeOption VectorSize)
       → Same m (index_component base i k p z) (index_component (row_to m base) i k p z)
-  index-component base i k p (Ov.Some z) = bounded-same base i (vector_size_number z)
-      (value (Ti.ValuePointer Ov.None k p))
-  index-component base i k p Ov.None = refl
+  index-component base i k p (Some z) = bounded-same base i (vector_size_number z)
+      (value (Ti.ValuePointer None k p))
+  index-component base i k p None = refl
 
   pub access-into : (base : RowNumber) (t : TypeInner)
       → Same m (access_into base t) (access_into (row_to m base) (inner_to m t))
@@ -113,9 +109,9 @@ module _ (m : Moves) where
       (index_through (row_to m base) i (type_to m ty) p (map (type_to m) l) (inner_to m t))
   index-through base i ty p l t =
       to-array m (Same m) t _ (λ b. refl)
-      (to_vector m (Same m) t (λ z k. bounded-same base i (vector_size_number z) (value (Ti.ValuePointer Ov.None k p)))
+      (to_vector m (Same m) t (λ z k. bounded-same base i (vector_size_number z) (value (Ti.ValuePointer None k p)))
       (to-matrix m (Same m) t
-      (λ c r k. bounded-same base i (vector_size_number c) (value (Ti.ValuePointer (Ov.Some r) k p)))
+      (λ c r k. bounded-same base i (vector_size_number c) (value (Ti.ValuePointer (Some r) k p)))
       (to-struct m (Same m) t
       (ap (member_pointer (row_to m base) i p) (get-map l i) ∙ pointer-same base i p (get_elem? l i))
       (to-binding-array m (Same m) t _ (λ b. refl) refl))))
@@ -136,9 +132,9 @@ module _ (m : Moves) where
   argument-same i (some t) = refl
   argument-same i none = refl
 
-  pub result-same : (r : FunctionResult) → Same m (result_of r) (result_of (function_to m r))
-  result-same (Fr.Some t) = refl
-  result-same Fr.None = refl
+  pub result-same : (r : CodeOption TypeNumber) → Same m (result_of r) (result_of (function_to m r))
+  result-same (Some t) = refl
+  result-same None = refl
 
   pub special-same : (o : Option TypeNumber) → Same m (special o) (special (maybe_to m o))
   special-same (some t) = refl
@@ -151,8 +147,8 @@ module _ (m : Moves) where
   load-into n (Ti.CooperativeMatrix c j k o) = refl
   load-into n (Ti.Atomic k) = refl
   load-into n (Ti.Pointer b p) = refl
-  load-into n (Ti.ValuePointer Ov.None k p) = refl
-  load-into n (Ti.ValuePointer (Ov.Some z) k p) = refl
+  load-into n (Ti.ValuePointer None k p) = refl
+  load-into n (Ti.ValuePointer (Some z) k p) = refl
   load-into n (Ti.Array b z t) = refl
   load-into n (Ti.Struct f i t) = refl
   load-into n (Ti.Image d a c) = refl
@@ -161,10 +157,10 @@ module _ (m : Moves) where
   load-into n (Ti.RayQuery q) = refl
   load-into n (Ti.BindingArray b z) = refl
 
-  pub cooperative-same : (c r : CooperativeSize) (o : CooperativeRole) (n : RowNumber) (k : OptionScalar)
+  pub cooperative-same : (c r : CooperativeSize) (o : CooperativeRole) (n : RowNumber) (k : CodeOption Scalar)
       → Same m (cooperative_of c r o n k) (cooperative_of c r o (row_to m n) k)
-  cooperative-same c r o n (Os.Some k) = refl
-  cooperative-same c r o n Os.None = refl
+  cooperative-same c r o n (Some k) = refl
+  cooperative-same c r o n None = refl
 
   pub scalar-moved : (t : TypeInner) → scalar_in (inner_to m t) ≡ scalar_in t
   scalar-moved (Ti.Scalar k) = refl
@@ -237,7 +233,7 @@ module _ (m : Moves) where
   pub logical-same : (t : TypeInner) → Same m (logical_of t) (logical_of (inner_to m t))
   logical-same t = to-scalar m (Same m) t (λ k. equal-same (equal_scalars k BOOL)) refl
 
-  pub cast_same : (to : ScalarKind) (w : OptionBytes) (t : TypeInner)
+  pub cast_same : (to : ScalarKind) (w : CodeOption Width) (t : TypeInner)
       → Same m (cast_of to w t) (cast_of to w (inner_to m t))
   cast_same to w t = to-scalar m (Same m) t (λ k. refl)
       (to_vector m (Same m) t (λ z k. refl) (to-matrix m (Same m) t (λ c r k. refl) refl))

@@ -1,8 +1,8 @@
 -- SELECTORS: what holds of the cases of two types, of which the second is the first with its numbers moved, and of
 -- their rests, holds of what they select. Moving a type keeps its kind.
+use Rattle.std.specs.Prelude.{Option}
 use Rattle.ir.specs.declared.TypeNumber.{TypeNumber}
 use Rattle.ir.specs.declared.VectorSize.{VectorSize}
-use Rattle.ir.specs.declared.OptionVectorSize.{OptionVectorSize}
 use Rattle.ir.specs.declared.CooperativeSize.{CooperativeSize}
 use Rattle.ir.specs.declared.CooperativeRole.{CooperativeRole}
 use Rattle.ir.specs.declared.Scalar.{Scalar}
@@ -109,9 +109,9 @@ module _ (m : Moves) {X Y : Type 0} (S : X → Y → Type 0) where
   to-atomic (Ti.RayQuery q) h r = r
   to-atomic (Ti.BindingArray b z) h r = r
 
-  pub to-value-pointer : (t : TypeInner) {f : OptionVectorSize → Scalar → AddressSpace → X} {rest : X}
-      {g : OptionVectorSize → Scalar → AddressSpace → Y} {last : Y}
-      → ((z : OptionVectorSize) (k : Scalar) (p : AddressSpace) → S (f z k p) (g z k p)) → S rest last
+  pub to-value-pointer : (t : TypeInner) {f : Option VectorSize → Scalar → AddressSpace → X} {rest : X}
+      {g : Option VectorSize → Scalar → AddressSpace → Y} {last : Y}
+      → ((z : Option VectorSize) (k : Scalar) (p : AddressSpace) → S (f z k p) (g z k p)) → S rest last
       → S (if_value_pointer t f rest) (if_value_pointer (inner_to m t) g last)
   to-value-pointer (Ti.Scalar k) h r = r
   to-value-pointer (Ti.Vector z k) h r = r

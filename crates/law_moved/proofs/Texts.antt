@@ -1,6 +1,8 @@
 -- AN ACCEPTED TEXT: its frames pass checks 4 to 6, are made of bytes, and are no more than the limit, and so no more
 -- than a file may have. With an answer buffer or without, where that has 32 bytes a frame. From the laws of
 -- reading.
+use Rattle.answers.specs.declared.FileError.{FileError}
+use Rattle.std.specs.Prelude.{Ok, Err}
 use Prim.Native.Nat.{ℕ, zero, suc, ◌+◌, ◌*◌, ◌≤◌}
 use native.Mathlib.Omega.{arith}
 use mathlib.Core.Path.{◌≡◌, refl, sym, ap, ◌∙◌, subst}
@@ -8,8 +10,7 @@ use mathlib.Core.List.{List}
 use lib.Dec.{eqb}
 use Rattle.scan.specs.Lists.{sum_below}
 use Rattle.scan.proofs.Laws.{by-test}
-use Rattle.answers.specs.declared.Outcome.{Outcome}
-use Rattle.answers.specs.declared.Outcome.TheVariants.{Accepted, Long, Torn, Short, Order, Field, Index}
+use Rattle.answers.specs.Outcome.{Outcome}
 use Rattle.answers.specs.Limit.{max_frames}
 use Rattle.text.specs.declared.AnswerRoom.{AnswerRoom}
 use Rattle.text.specs.declared.AnswerRoom.TheVariants.{NotLent, Lent}
@@ -35,11 +36,11 @@ pub record Accepting (limit : ℕ) (fr : List ℕ) : Type 0 where
   pub few : row_count (starts_of fr) ≤ max_frames
 
 -- it has as many frames as lines
-pub lines_are : (limit : ℕ) (t : List ℕ) (f : ℕ) (room : AnswerRoom) (c : ℕ) → read_file limit t f room ≡ Accepted c
+pub lines_are : (limit : ℕ) (t : List ℕ) (f : ℕ) (room : AnswerRoom) (c : ℕ) → read_file limit t f room ≡ Ok c
     → c ≡ line_count t
 lines_are limit t f room c e = ((accepted-when limit t f room c).0 e).readable.count
 
-accepting-at : (limit : ℕ) (t : List ℕ) (f : ℕ) (room : AnswerRoom) (c : ℕ) → read_file limit t f room ≡ Accepted c
+accepting-at : (limit : ℕ) (t : List ℕ) (f : ℕ) (room : AnswerRoom) (c : ℕ) → read_file limit t f room ≡ Ok c
     → Accepting limit (decoded t c)
 accepting-at limit t f room c e =
     let a = (accepted-when limit t f room c).0 e in
@@ -51,7 +52,7 @@ accepting-at limit t f room c e =
       few = omega (arith, (starts-small (decoded t c) max_frames small).1);
     }
 
-pub accepting : (limit : ℕ) (t : List ℕ) (f : ℕ) (room : AnswerRoom) (c : ℕ) → read_file limit t f room ≡ Accepted c
+pub accepting : (limit : ℕ) (t : List ℕ) (f : ℕ) (room : AnswerRoom) (c : ℕ) → read_file limit t f room ≡ Ok c
     → Accepting limit (text_frames t)
 accepting limit t f room c e = subst (λ (k : ℕ). Accepting limit (decoded t k)) (lines_are limit t f room c e)
     (accepting-at limit t f room c e)
@@ -68,8 +69,8 @@ answers-most t (suc n) =
     (λ r. omega arith)) (λ q. omega arith)
 
 -- a text that is accepted without an answer buffer is accepted with one, and with any frame buffer that suffices
-pub with-buffers : (limit : ℕ) (t : List ℕ) (f c b a : ℕ) → read_file limit t f NotLent ≡ Accepted c → 16 * c ≤ b
-    → 32 * c ≤ a → read_file limit t b (Lent a) ≡ Accepted c
+pub with-buffers : (limit : ℕ) (t : List ℕ) (f c b a : ℕ) → read_file limit t f NotLent ≡ Ok c → 16 * c ≤ b
+    → 32 * c ≤ a → read_file limit t b (Lent a) ≡ Ok c
 with-buffers limit t f c b a e frames l =
     let x = (accepted-when limit t f NotLent c).0 e in
     let r = x.readable in
@@ -88,14 +89,14 @@ with-buffers limit t f c b a e frames l =
       index = x.index;
     })
 
-pub with-answers : (limit : ℕ) (t : List ℕ) (f c a : ℕ) → read_file limit t f NotLent ≡ Accepted c → 32 * c ≤ a
-    → read_file limit t f (Lent a) ≡ Accepted c
+pub with-answers : (limit : ℕ) (t : List ℕ) (f c a : ℕ) → read_file limit t f NotLent ≡ Ok c → 32 * c ≤ a
+    → read_file limit t f (Lent a) ≡ Ok c
 with-answers limit t f c a e = with-buffers limit t f c f a e
     ((accepted-when limit t f NotLent c).0 e).readable.frames
 
 -- an answer buffer lent or not, the text is accepted
-pub not-lent : (limit : ℕ) (t : List ℕ) (f a c : ℕ) → read_file limit t f (Lent a) ≡ Accepted c
-    → read_file limit t f NotLent ≡ Accepted c
+pub not-lent : (limit : ℕ) (t : List ℕ) (f a c : ℕ) → read_file limit t f (Lent a) ≡ Ok c
+    → read_file limit t f NotLent ≡ Ok c
 not-lent limit t f a c e =
     let x = (accepted-when limit t f (Lent a) c).0 e in
     let r = x.readable in
@@ -110,42 +111,27 @@ not-lent limit t f a c e =
 
 -- WHAT FOLLOWS ON READING A TEXT: it is refused, or its frames go on
 
--- text t is not accepted: x is its number, 1 to 6
-pub record Refused (limit : ℕ) (t : List ℕ) (f : ℕ) (room : AnswerRoom) (x : Outcome) : Type 0 where
-  pub is : read_file limit t f room ≡ x
-  pub refused : (c : ℕ) → x ≡ Accepted c → ⊥
+-- text t is not accepted, and x says why: numbers 1 to 6
+pub record Refused (limit : ℕ) (t : List ℕ) (f : ℕ) (room : AnswerRoom) (x : FileError) : Type 0 where
+  pub is : read_file limit t f room ≡ Err x
 
-module _ (limit : ℕ) (t : List ℕ) (f : ℕ) (room : AnswerRoom) {A : Type 0} (refused : Outcome → A)
+module _ (limit : ℕ) (t : List ℕ) (f : ℕ) (room : AnswerRoom) {A : Type 0} (refused : FileError → A)
     (given : List ℕ → A) where
-  pub over-accepted : read_file limit t f room ≡ Accepted (line_count t)
+  pub over-accepted : read_file limit t f room ≡ Ok (line_count t)
       → over_file refused given t (read_file limit t f room) ≡ given (text_frames t)
   over-accepted e = ap (over_file refused given t) e
 
-  refused-at : (x : Outcome) → ((c : ℕ) → x ≡ Accepted c → ⊥) → over_file refused given t x ≡ refused x
-  refused-at (Accepted c) h = absurd (h c refl)
-  refused-at (Long m) h = refl
-  refused-at (Torn k) h = refl
-  refused-at Short h = refl
-  refused-at (Order k) h = refl
-  refused-at (Field k) h = refl
-  refused-at (Index k) h = refl
-
-  pub over-refused : (x : Outcome) → Refused limit t f room x
+  pub over-refused : (x : FileError) → Refused limit t f room x
       → over_file refused given t (read_file limit t f room) ≡ refused x
-  over-refused x r = ap (over_file refused given t) r.is ∙ refused-at x r.refused
+  over-refused x r = ap (over_file refused given t) r.is
 
-  pub by-text : (P : A → Type 0) → ((x : Outcome) → Refused limit t f room x → P (refused x))
-      → (read_file limit t f room ≡ Accepted (line_count t) → P (given (text_frames t)))
+  pub by-text : (P : A → Type 0) → ((x : FileError) → Refused limit t f room x → P (refused x))
+      → (read_file limit t f room ≡ Ok (line_count t) → P (given (text_frames t)))
       → P (over_file refused given t (read_file limit t f room))
   by-text P stops goes = go (read_file limit t f room) refl
     where
       go : (x : Outcome) → read_file limit t f room ≡ x → P (over_file refused given t x)
-      go (Accepted c) e =
+      go (Ok c) e =
           let l = lines_are limit t f room c e in
-          subst (λ (k : ℕ). P (given (decoded t k))) (sym l) (goes (e ∙ ap Accepted l))
-      go (Long m) e = stops (Long m) (record { is = e; refused = λ c q. never (cc) })
-      go (Torn k) e = stops (Torn k) (record { is = e; refused = λ c q. never (cc) })
-      go Short e = stops Short (record { is = e; refused = λ c q. never (cc) })
-      go (Order k) e = stops (Order k) (record { is = e; refused = λ c q. never (cc) })
-      go (Field k) e = stops (Field k) (record { is = e; refused = λ c q. never (cc) })
-      go (Index k) e = stops (Index k) (record { is = e; refused = λ c q. never (cc) })
+          subst (λ (k : ℕ). P (given (decoded t k))) (sym l) (goes (e ∙ ap Ok l))
+      go (Err x) e = stops x (record { is = e })

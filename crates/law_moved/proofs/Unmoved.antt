@@ -1,16 +1,13 @@
 -- Where the numbers of types, members and overrides stay, so do types, members and items, and what they show.
+use Rattle.std.specs.Prelude.{Option as CodeOption, Some, None}
 use Prim.Native.Nat.{ℕ}
 use mathlib.Core.Path.{◌≡◌, refl, ap}
 use mathlib.Core.Option.{Option, none, some}
 use Rattle.ir.specs.declared.TypeNumber.{TypeNumber}
 use Rattle.ir.specs.declared.ArraySize.{ArraySize}
 use Rattle.ir.specs.declared.ArraySize.TheVariants as As
-use Rattle.ir.specs.declared.FunctionResult.{FunctionResult}
-use Rattle.ir.specs.declared.FunctionResult.TheVariants as Fr
 use Rattle.ir.specs.declared.TypeInner.{TypeInner}
 use Rattle.ir.specs.declared.TypeInner.TheVariants as Ti
-use Rattle.ir.specs.declared.TypeForm.{TypeForm}
-use Rattle.ir.specs.declared.TypeForm.TheVariants as Tf
 use Rattle.ir.specs.declared.StructMember.{StructMember}
 use Rattle.ir.specs.declared.Item.{Item}
 use Rattle.ir.specs.declared.Item.TheVariants as It
@@ -21,8 +18,6 @@ use Rattle.ir.specs.declared.RelationalFunction.{RelationalFunction}
 use Rattle.ir.specs.declared.RelationalFunction.TheVariants as Rl
 use Rattle.ir.specs.declared.Expression.{Expression}
 use Rattle.ir.specs.declared.Expression.TheVariants as Ex
-use Rattle.ir.specs.declared.RowForm.{RowForm}
-use Rattle.ir.specs.declared.RowForm.TheVariants as Ro
 use Rattle.answers.specs.declared.Refusal.{Refusal}
 use Rattle.answers.specs.declared.Refusal.TheVariants as R
 use Rattle.rule.specs.Answers.{TypeAnswer, number, value, malformed, Typed, given, refused, chosen_refusal, Place, row}
@@ -61,16 +56,16 @@ module _ (m : Moves) (stay : Stay m) where
   inner-stays (Ti.RayQuery q) = refl
   inner-stays (Ti.BindingArray b z) = rw (type-stays b, size-stays z)
 
-  pub form-stays : (t : TypeForm) → type_form_to m t ≡ t
-  form-stays (Tf.Known t) = ap Tf.Known (inner-stays t)
-  form-stays Tf.Unknown = refl
+  pub form-stays : (t : CodeOption TypeInner) → type_form_to m t ≡ t
+  form-stays (Some t) = ap Some (inner-stays t)
+  form-stays None = refl
 
   pub member-stays : (x : StructMember) → member_to m x ≡ x
   member-stays x = ap (λ (t : TypeNumber). record { ty = t; offset = x.offset }) (type-stays x.ty)
 
-  function-stays : (r : FunctionResult) → function_to m r ≡ r
-  function-stays (Fr.Some t) = ap Fr.Some (type-stays t)
-  function-stays Fr.None = refl
+  function-stays : (r : CodeOption TypeNumber) → function_to m r ≡ r
+  function-stays (Some t) = ap Some (type-stays t)
+  function-stays None = refl
 
   pub item-stays : (x : Item) → item_to m x ≡ x
   item-stays (It.Constant t) = ap It.Constant (type-stays t)
@@ -154,9 +149,9 @@ module _ (m : Moves) (stay : StayAll m) where
   expression-stays (Ex.CooperativeLoad c r o n) = ap (Ex.CooperativeLoad c r o) (row_stays n)
   expression-stays (Ex.CooperativeMultiplyAdd r) = ap Ex.CooperativeMultiplyAdd (row_stays r)
 
-  pub row-form-stays : (r : RowForm) → row_form_to m r ≡ r
-  row-form-stays (Ro.Known e) = ap Ro.Known (expression-stays e)
-  row-form-stays Ro.Unknown = refl
+  pub row-form-stays : (r : CodeOption Expression) → row_form_to m r ≡ r
+  row-form-stays (Some e) = ap Some (expression-stays e)
+  row-form-stays None = refl
 
   -- and answers
   pub answer-stays : (a : TypeAnswer) → answer_to m a ≡ a

@@ -1,9 +1,9 @@
 -- IN THE SECOND PASS: what a line of WGSL's tables gives is a scalar, a vector or a matrix, and names nothing, so
 -- moving numbers leaves it as it is.
+use Rattle.std.specs.Prelude.{Option as CodeOption, Some, None}
+use Rattle.ir.specs.declared.VectorSize.{VectorSize}
 use mathlib.Core.Path.{◌≡◌, refl, sym, ap, ◌∙◌}
 use mathlib.Core.Option.{Option, none, some}
-use Rattle.ir.specs.declared.OptionVectorSize.{OptionVectorSize}
-use Rattle.ir.specs.declared.OptionVectorSize.TheVariants as Ov
 use Rattle.ir.specs.declared.Scalar.{Scalar}
 use Rattle.ir.specs.declared.BinaryOperator.{BinaryOperator}
 use Rattle.ir.specs.declared.TypeInner.{TypeInner}
@@ -19,9 +19,9 @@ use Rattle.law_moved.proofs.Selected.{to-scalar, to_vector, to-matrix}
 use Rattle.law_moved.proofs.Parts.{Same}
 
 module _ (m : Moves) where
-  plain-unmoved : (n : OptionVectorSize) (k : Scalar) → inner_to m (plain n k) ≡ plain n k
-  plain-unmoved Ov.None k = refl
-  plain-unmoved (Ov.Some z) k = refl
+  plain-unmoved : (n : CodeOption VectorSize) (k : Scalar) → inner_to m (plain n k) ≡ plain n k
+  plain-unmoved None k = refl
+  plain-unmoved (Some z) k = refl
 
   line-unmoved : {op : BinaryOperator} {x y t : TypeInner} → Wgsl op x y t → inner_to m t ≡ t
   line-unmoved Wgsl.logical-or = refl

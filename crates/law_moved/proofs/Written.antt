@@ -1,5 +1,6 @@
 -- A file made frame by frame, as text: its bytes are bytes where each frame's are, a moved frame's where its numbers
 -- fit their bytes, and its lines are then read back and accepted.
+use Rattle.std.specs.Prelude.{Ok}
 use Prim.Native.Nat.{ℕ, suc, ◌+◌, ◌-◌, ◌*◌, ◌/◌, ◌%◌, ◌≤◌, ◌<◌}
 use native.Mathlib.Decide.{dec_lt}
 use native.Mathlib.Omega.{arith}
@@ -10,7 +11,6 @@ use lib.Dec.{eqb}
 use lib.ListN.{length, get_or, get_or-append}
 use lib.Seq.{get_or-append-add}
 use Rattle.scan.proofs.Laws.{by-test}
-use Rattle.answers.specs.declared.Outcome.TheVariants.{Accepted}
 use Rattle.frames.specs.declared.Frame.{Frame}
 use Rattle.frames.specs.Bytes.{byte, half, word, bytes_of, zero_frame}
 use Rattle.frames.proofs.FieldBack.{Below, below_each}
@@ -148,7 +148,7 @@ frames-bytes (f ∷ l) h i = go (dec_lt i 16) (frames-bytes l (λ j w. h (suc j)
 -- the lines of such a file are read back as it, and it is accepted
 module _ (l : List Frame) (good : Good (frames_bytes l)) (bytes : Bytes (frames_bytes l)) (limit f : ℕ)
     (few : length l ≤ most_frames limit) (room : 16 * length l ≤ f) where
-  pub written-accepted : read_file limit (text_of (frames_bytes l) (length l)) f NotLent ≡ Accepted (length l)
+  pub written-accepted : read_file limit (text_of (frames_bytes l) (length l)) f NotLent ≡ Ok (length l)
   written-accepted =
       let n = length l in
       let r = (accepted-when limit (text_of (frames_bytes l) n) f NotLent n).0
@@ -157,4 +157,4 @@ module _ (l : List Frame) (good : Good (frames_bytes l)) (bytes : Bytes (frames_
       let s = most-small limit in
       then-checked limit (text_of (frames_bytes l) n) f NotLent n r
       ∙ ap check_frames (decoded-text (frames_bytes l) n bytes (bytes-length l))
-      ∙ (good-when (frames_bytes l) (omega arith)).1 good ∙ ap Accepted c
+      ∙ (good-when (frames_bytes l) (omega arith)).1 good ∙ ap Ok c

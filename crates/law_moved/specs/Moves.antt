@@ -1,17 +1,13 @@
 -- Numbers that change where a file is cut or joined (document 02, requests 12 and 14), and what an answer, a row and a
 -- type become.
-use Rattle.std.specs.Prelude.{ℕ, List, map}
+use Rattle.std.specs.Prelude.{ℕ, List, map, Option as CodeOption, Some, None}
 use Rattle.std.proofs.Math.Option.{Option, none, some}
 use Rattle.ir.specs.declared.TypeNumber.{TypeNumber}
 use Rattle.ir.specs.declared.RowNumber.{RowNumber}
 use Rattle.ir.specs.declared.ArraySize.{ArraySize}
 use Rattle.ir.specs.declared.ArraySize.TheVariants as As
-use Rattle.ir.specs.declared.FunctionResult.{FunctionResult}
-use Rattle.ir.specs.declared.FunctionResult.TheVariants as Fr
 use Rattle.ir.specs.declared.TypeInner.{TypeInner}
 use Rattle.ir.specs.declared.TypeInner.TheVariants as Ti
-use Rattle.ir.specs.declared.TypeForm.{TypeForm}
-use Rattle.ir.specs.declared.TypeForm.TheVariants as Tf
 use Rattle.ir.specs.declared.StructMember.{StructMember}
 use Rattle.ir.specs.declared.Item.{Item}
 use Rattle.ir.specs.declared.Item.TheVariants as It
@@ -21,8 +17,6 @@ use Rattle.ir.specs.declared.RelationalFunction.{RelationalFunction}
 use Rattle.ir.specs.declared.RelationalFunction.TheVariants as Rl
 use Rattle.ir.specs.declared.Expression.{Expression}
 use Rattle.ir.specs.declared.Expression.TheVariants as Ex
-use Rattle.ir.specs.declared.RowForm.{RowForm}
-use Rattle.ir.specs.declared.RowForm.TheVariants as Ro
 use Rattle.answers.specs.declared.Refusal.{Refusal}
 use Rattle.answers.specs.declared.Refusal.TheVariants as R
 use Rattle.rule.specs.Answers.{TypeAnswer, number, value, malformed, Typed, given, refused, chosen_refusal, Place, row}
@@ -118,9 +112,9 @@ module _ (m : Moves) where
   maybe_to (some t) = some (type_to t)
   maybe_to none = none
 
-  abbrev pub function_to : FunctionResult → FunctionResult
-  function_to (Fr.Some t) = Fr.Some (type_to t)
-  function_to Fr.None = Fr.None
+  abbrev pub function_to : CodeOption TypeNumber → CodeOption TypeNumber
+  function_to (Some t) = Some (type_to t)
+  function_to None = None
 
   -- the operand of a query or a relational function, where it is read; else it is no number
   abbrev pub queried_to : ImageQuery → RowNumber → RowNumber
@@ -193,9 +187,9 @@ module _ (m : Moves) where
 
   -- WHAT FRAMES READ AS
 
-  abbrev pub type_form_to : TypeForm → TypeForm
-  type_form_to (Tf.Known t) = Tf.Known (inner_to t)
-  type_form_to Tf.Unknown = Tf.Unknown
+  abbrev pub type_form_to : CodeOption TypeInner → CodeOption TypeInner
+  type_form_to (Some t) = Some (inner_to t)
+  type_form_to None = None
 
   abbrev pub member_to : StructMember → StructMember
   member_to x = record { ty = type_to x.ty; offset = x.offset }
@@ -247,6 +241,6 @@ module _ (m : Moves) where
   expression_to (Ex.CooperativeLoad c r o n) = Ex.CooperativeLoad c r o (row_to n)
   expression_to (Ex.CooperativeMultiplyAdd r) = Ex.CooperativeMultiplyAdd (row_to r)
 
-  abbrev pub row_form_to : RowForm → RowForm
-  row_form_to (Ro.Known e) = Ro.Known (expression_to e)
-  row_form_to Ro.Unknown = Ro.Unknown
+  abbrev pub row_form_to : CodeOption Expression → CodeOption Expression
+  row_form_to (Some e) = Some (expression_to e)
+  row_form_to None = None

@@ -1,6 +1,7 @@
 -- The passes answer alike where the reading comes to no Binary row, and so do all rows of a file without one: the
 -- readings are the same, step by step of a rule and row by row of a file, since the rules differ in Binary rows
 -- alone; and a reading tells the outcome.
+use Rattle.std.specs.Prelude.{Ok}
 use Prim.Native.Nat.{ℕ, zero, suc, ◌+◌, ◌≤◌, ◌<◌}
 use native.Mathlib.Decide.{dec_lt}
 use native.Mathlib.Omega.{arith}
@@ -16,7 +17,6 @@ use Rattle.ir.specs.declared.RowKind.{RowKind}
 use Rattle.ir.specs.declared.RowKind.TheVariants as Rk
 use Rattle.ir.specs.Numbers.{row_kind_of, row_kind_number}
 use Rattle.ir.proofs.Numbered.{row_kind-number, unknown-row}
-use Rattle.answers.specs.declared.Outcome.TheVariants.{Accepted}
 use Rattle.text.specs.declared.AnswerRoom.TheVariants.{Lent}
 use Rattle.text.specs.Lines.{decoded}
 use Rattle.frames.specs.declared.Frame.{Frame}
@@ -275,7 +275,7 @@ module _ (fr : List ℕ) (good : Good fr) (without : HasNoBinary fr) where
 
 -- OVER TEXTS: the answer buffer that `type_rows` leaves is the same in both passes
 pub file-alike : (limit : ℕ) (t : List ℕ) (f : ℕ) (an : List ℕ) (n : ℕ) → read_file limit t f (Lent (length an))
-    ≡ Accepted n
+    ≡ Ok n
     → HasNoBinary (decoded t n) → answers_after Pa.First limit t f an ≡ answers_after Pa.Second limit t f an
 unfolding answers_after
 file-alike limit t f an n e without =

@@ -1,5 +1,6 @@
 -- `binary-one`: of a Binary row of an accepted text exactly one of the five cases holds in the second pass, and what it
 -- says is what `row_type` gives. Both the rule and the cases come to one function of the operands' answers and forms.
+use Rattle.std.specs.Prelude.{Ok}
 use Prim.Native.Nat.{ℕ, ◌<◌}
 use native.Mathlib.Omega.{arith}
 use mathlib.Core.Path.{◌≡◌, refl, sym, ap, subst, ◌∙◌}
@@ -9,7 +10,6 @@ use mathlib.Core.Logic.{◌⊎◌, inl, inr}
 use mathlib.Core.Option.{Option, none, some}
 use Rattle.ir.specs.declared.RowNumber.{RowNumber}
 use Rattle.ir.specs.declared.TypeInner.{TypeInner}
-use Rattle.answers.specs.declared.Outcome.TheVariants.{Accepted}
 use Rattle.answers.specs.declared.Refusal.TheVariants.{Mismatch}
 use Rattle.text.specs.declared.AnswerRoom.TheVariants.{Lent}
 use Rattle.text.specs.Lines.{decoded}
@@ -150,7 +150,7 @@ module _ (gives : RowNumber → RowGiven) (fr : List ℕ) (n : ℕ) where
         rw (of-left p, of-right q, u, v, none-given x y (λ t e. h t ((wgsl-is _ _ _ t).0 e))) (refl, refl)
 
 -- A BINARY ROW OF AN ACCEPTED TEXT
-module _ (limit : ℕ) (t : List ℕ) (f a k : ℕ) (e : read_file limit t f (Lent a) ≡ Accepted k) (n : ℕ)
+module _ (limit : ℕ) (t : List ℕ) (f a k : ℕ) (e : read_file limit t f (Lent a) ≡ Ok k) (n : ℕ)
     (here : n < row_count (starts_of (decoded t k))) (is : IsBinary (decoded t k) n) where
   abbrev fr : List ℕ
   fr = decoded t k

@@ -1,12 +1,12 @@
 -- `binary-in-both`: a Binary row that the second pass types is typed by the first, where the passes are alike at its
 -- operands: what a line of WGSL's tables takes, the first pass's rule types, line by line.
+use Rattle.std.specs.Prelude.{Option as CodeOption, Some, None}
+use Rattle.ir.specs.declared.VectorSize.{VectorSize}
 use Prim.Native.Nat.{ℕ, ◌<◌}
 use mathlib.Core.Path.{◌≡◌, refl, sym, ap, ◌∙◌}
 use mathlib.Core.List.{List}
 use mathlib.Core.Option.{Option, none, some}
 use Rattle.ir.specs.declared.RowNumber.{RowNumber}
-use Rattle.ir.specs.declared.OptionVectorSize.{OptionVectorSize}
-use Rattle.ir.specs.declared.OptionVectorSize.TheVariants as Ov
 use Rattle.ir.specs.declared.Scalar.{Scalar}
 use Rattle.ir.specs.declared.BinaryOperator.{BinaryOperator}
 use Rattle.ir.specs.declared.BinaryOperator.TheVariants as Bo
@@ -58,14 +58,14 @@ first_of Bo.InclusiveOr a b x y = given a
 first_of Bo.ShiftLeft a b x y = given a
 first_of Bo.ShiftRight a b x y = given a
 
-bools-given : (n : OptionVectorSize) (s : Scalar) → IsGiven (bools_of (plain n s))
-bools-given Ov.None s = is-given _
-bools-given (Ov.Some z) s = is-given _
+bools-given : (n : CodeOption VectorSize) (s : Scalar) → IsGiven (bools_of (plain n s))
+bools-given None s = is-given _
+bools-given (Some z) s = is-given _
 
-products-given : (a b : TypeAnswer) (n : OptionVectorSize) (s : Scalar)
+products-given : (a b : TypeAnswer) (n : CodeOption VectorSize) (s : Scalar)
     → IsGiven (product a b (plain n s) (plain n s))
-products-given a b Ov.None s = is-given _
-products-given a b (Ov.Some z) s = is-given _
+products-given a b None s = is-given _
+products-given a b (Some z) s = is-given _
 
 line-given : (a b : TypeAnswer) {op : BinaryOperator} {x y t : TypeInner} → Wgsl op x y t
     → IsGiven (first_of op a b x y)

@@ -1,5 +1,6 @@
 -- `typed-in-both`: what the second pass types the first types too, of rows whose operands' readings come to no Binary
 -- row where the passes part. By induction on the rows: Binary rows by `binary-in-both`, all others by `rule-alike`.
+use Rattle.std.specs.Prelude.{Ok}
 use Prim.Native.Nat.{ℕ, zero, suc, ◌+◌, ◌<◌}
 use native.Mathlib.Decide.{ℕ_discrete}
 use native.Mathlib.Omega.{arith}
@@ -16,7 +17,6 @@ use Rattle.ir.specs.declared.BinaryOperator.{BinaryOperator}
 use Rattle.ir.specs.declared.TypeInner.TheVariants as Ti
 use Rattle.ir.specs.Numbers.{row_kind_of}
 use Rattle.ir.specs.Scalars.{F32}
-use Rattle.answers.specs.declared.Outcome.TheVariants.{Accepted}
 use Rattle.answers.specs.declared.Refusal.TheVariants.{InvalidAccess}
 use Rattle.text.specs.declared.AnswerRoom.TheVariants.{Lent}
 use Rattle.text.specs.Lines.{decoded}
@@ -210,7 +210,7 @@ module _ (fr : List ℕ) (good : Good fr) where
           record { type = s.type; typed = s.typed }
 
 -- BY WHAT `row_type` GIVES of an accepted text
-module _ (limit : ℕ) (t : List ℕ) (f a k : ℕ) (e : read_file limit t f (Lent a) ≡ Accepted k) where
+module _ (limit : ℕ) (t : List ℕ) (f a k : ℕ) (e : read_file limit t f (Lent a) ≡ Ok k) where
   abbrev fr : List ℕ
   fr = decoded t k
 
@@ -238,7 +238,7 @@ module _ (limit : ℕ) (t : List ℕ) (f a k : ℕ) (e : read_file limit t f (Le
 
 -- NOT OF EVERY ROW: an accepted file whose row 3, component 1 of f32 plus vec2<f32>, is f32 in the second pass, and in
 -- the first number 11, since the sum is f32 there. Computed.
-pub parted : (check_frames index_of_sum ≡ Accepted 6)
+pub parted : (check_frames index_of_sum ≡ Ok 6)
     × ((row_answer Pa.Second (see index_of_sum) 3 ≡ told (given (value (Ti.Scalar F32))))
     × (row_answer Pa.First (see index_of_sum) 3 ≡ told (refused (InvalidAccess (record { 0 = 2 }) true))))
 unfolding lowest all_below build sum_below frame_at type_of item_of row_of member_of component_of fields_fit order_ok

@@ -1,11 +1,11 @@
 -- What the worked files hand back in the second pass, and their acceptance, is what the definitions give: both sides
 -- compute to the same.
+use Rattle.std.specs.Prelude.{Ok}
 use Prim.Native.Nat.{ℕ}
 use mathlib.Core.Path.{◌≡◌, refl}
 use mathlib.Core.List.{List, map}
 use Rattle.scan.specs.Lowest.{lowest, all_below}
 use Rattle.scan.specs.Lists.{build, sum_below}
-use Rattle.answers.specs.declared.Outcome.TheVariants.{Accepted}
 use Rattle.frames.specs.declared.Frame.{Frame}
 use Rattle.frames.specs.Bytes.{frame_at, bytes_of, frame_count}
 use Rattle.frames.specs.Forms.{type_of, item_of, row_of, member_of, component_of, fields_fit}
@@ -33,7 +33,7 @@ worked = refl
 
 -- each file passes checks 4 to 6
 accepted : map (λ (c : PassCase). check_frames (file_of c)) pass_cases
-    ≡ map (λ (c : PassCase). Accepted (frame_count (file_of c))) pass_cases
+    ≡ map (λ (c : PassCase). Ok (frame_count (file_of c))) pass_cases
 unfolding lowest all_below build sum_below frame_at type_of item_of row_of member_of component_of fields_fit order_ok
     start starts_of names_ok early_ok index_ok check_frames
 accepted = refl

@@ -1,6 +1,7 @@
 -- `fault-at-ordered`: the first of the three causes that holds at given counts is the one that the tests find. A type
 -- that holds no pending array has request 5's causes alone; a pending array over an element that holds none has no
 -- more than one alignment and size of it.
+use Rattle.std.specs.Prelude.{Some}
 use Prim.Native.Nat.{ℕ}
 use native.Mathlib.Omega.{arith}
 use mathlib.Core.Path.{◌≡◌, refl, sym, ◌∙◌}
@@ -13,7 +14,6 @@ use Rattle.ir.specs.declared.MemberNumber.{MemberNumber}
 use Rattle.ir.specs.declared.ItemNumber.{ItemNumber}
 use Rattle.ir.specs.declared.ArraySize.TheVariants as As
 use Rattle.ir.specs.declared.TypeInner.TheVariants as Ti
-use Rattle.ir.specs.declared.TypeForm.TheVariants as Tf
 use Rattle.archive.specs.Access.{type_at}
 use Rattle.law_rows.proofs.Good.{Good}
 use Rattle.rule_sizes.specs.declared.Alignment.{Alignment}
@@ -33,7 +33,7 @@ use Rattle.law_ranges.proofs.Own.{has-at-is}
 
 module _ (fr : List ℕ) (good : Good fr) (c : Counts) where
   pending-holds : (n b : TypeNumber) (o : ItemNumber) (stride : ℕ)
-      → type_at fr n ≡ Tf.Known (Ti.Array b (As.Pending o) stride) → Holds fr n
+      → type_at fr n ≡ Some (Ti.Array b (As.Pending o) stride) → Holds fr n
   pending-holds n b o stride e = (o, Over.pending o n b stride e)
 
   -- A TYPE THAT HOLDS NONE has request 5's causes alone
@@ -66,18 +66,18 @@ module _ (fr : List ℕ) (good : Good fr) (c : Counts) where
 
   -- A PENDING ARRAY over an element that holds none is in the list, and a stride that stands well breaks no rule
   outside-pending : (n b : TypeNumber) (o : ItemNumber) (stride : ℕ)
-      → type_at fr n ≡ Tf.Known (Ti.Array b (As.Pending o) stride) → (Holds fr b → ⊥) → OutsideAt fr n → ⊥
+      → type_at fr n ≡ Some (Ti.Array b (As.Pending o) stride) → (Holds fr b → ⊥) → OutsideAt fr n → ⊥
   outside-pending n b o stride e f (OutsideAt.fixed m g x) = g (pending-holds n b o stride e)
   outside-pending n b o stride e f (OutsideAt.over m b' z stride' e' h) =
-      let q : Tf.Known (Ti.Array b (As.Pending o) stride) ≡ Tf.Known (Ti.Array b' z stride') = sym e ∙ e' in
+      let q : Some (Ti.Array b (As.Pending o) stride) ≡ Some (Ti.Array b' z stride') = sym e ∙ e' in
       let p : b ≡ b' = cc in f (rw p h)
 
   breaks-pending : (n b : TypeNumber) (o : ItemNumber) (stride : ℕ) (a : Alignment) (z : ℕ)
-      → type_at fr n ≡ Tf.Known (Ti.Array b (As.Pending o) stride) → (Holds fr b → ⊥) → Has fr b a z
+      → type_at fr n ≡ Some (Ti.Array b (As.Pending o) stride) → (Holds fr b → ⊥) → Has fr b a z
       → Strided a z stride → BreaksAt fr c n → ⊥
   breaks-pending n b o stride a z e f h s (BreaksAt.fixed m g x) = g (pending-holds n b o stride e)
   breaks-pending n b o stride a z e f h s (BreaksAt.stride m b' o' stride' a' z' e' h' s') =
-      let q : Tf.Known (Ti.Array b (As.Pending o) stride) ≡ Tf.Known (Ti.Array b' (As.Pending o') stride') = sym e
+      let q : Some (Ti.Array b (As.Pending o) stride) ≡ Some (Ti.Array b' (As.Pending o') stride') = sym e
       ∙ e' in
       let p : b ≡ b' = cc in
       let r : stride ≡ stride' = cc in
@@ -90,12 +90,12 @@ module _ (fr : List ℕ) (good : Good fr) (c : Counts) where
 
   -- A STRUCT that holds a pending array
   outside-struct : (n : TypeNumber) (first : MemberNumber) (count span : ℕ)
-      → type_at fr n ≡ Tf.Known (Ti.Struct first count span) → Holds fr n → OutsideAt fr n → ⊥
+      → type_at fr n ≡ Some (Ti.Struct first count span) → Holds fr n → OutsideAt fr n → ⊥
   outside-struct n first count span e held (OutsideAt.fixed m g x) = g held
   outside-struct n first count span e held (OutsideAt.over m b z stride e' h) = never (let x = sym e ∙ e' in cc)
 
   breaks-struct : (n : TypeNumber) (first : MemberNumber) (count span : ℕ)
-      → type_at fr n ≡ Tf.Known (Ti.Struct first count span) → Holds fr n → BreaksAt fr c n → ⊥
+      → type_at fr n ≡ Some (Ti.Struct first count span) → Holds fr n → BreaksAt fr c n → ⊥
   breaks-struct n first count span e held (BreaksAt.fixed m g x) = g held
   breaks-struct n first count span e held (BreaksAt.stride m b o stride a z e' h s) =
       never (let x = sym e ∙ e' in cc)

@@ -1,5 +1,6 @@
 -- Entries past the file's overrides are free: in an accepted file a type is over counts of the file's overrides alone,
 -- and number 45 is asked of those alone. So what is said of a type hangs on no other entry.
+use Rattle.std.specs.Prelude.{Some}
 use Prim.Native.Nat.{ℕ, zero, suc, ◌<◌}
 use native.Mathlib.Omega.{arith}
 use mathlib.Core.Path.{◌≡◌, refl}
@@ -11,7 +12,6 @@ use Rattle.ir.specs.declared.TypeNumber.{TypeNumber}
 use Rattle.ir.specs.declared.ItemNumber.{ItemNumber}
 use Rattle.ir.specs.declared.ArraySize.TheVariants as As
 use Rattle.ir.specs.declared.TypeInner.TheVariants as Ti
-use Rattle.ir.specs.declared.TypeForm.TheVariants as Tf
 use Rattle.archive.specs.Starts.{starts_of, override_count}
 use Rattle.law_rows.proofs.Good.{Good}
 use Rattle.law_rows.proofs.There.{TypeThere}
@@ -30,7 +30,7 @@ module _ (fr : List ℕ) (good : Good fr) where
   -- what a type is over is an override of the file
   pub over-there : (o : ItemNumber) (n : TypeNumber) → Over fr o n → o.0 < override_count (starts_of fr)
   over-there o n (Over.pending p m b stride e) =
-      let h : TypeThere fr n (Tf.Known (Ti.Array b (As.Pending o) stride)) = rw e at (there fr good n) in
+      let h : TypeThere fr n (Some (Ti.Array b (As.Pending o) stride)) = rw e at (there fr good n) in
       ltb-true o.0 (override_count (starts_of fr)) h.1
   over-there o n (Over.element p m b z stride e h) = over-there o b h
   over-there o n (Over.part p m first count span i e l h) = over-there o _ h

@@ -1,6 +1,8 @@
 -- Sizes grow with counts: where a type has a size at some counts, it has one at all lower counts, with the same
 -- alignment, and no greater; at higher counts it has one, or number 44: 42 and 43 do not hang on counts. By the parts
 -- of a type: a product grows with its factor, a sum with its parts, and rounding up keeps order.
+use Rattle.std.specs.Prelude.{Option}
+use Rattle.ir.specs.declared.TypeInner.{TypeInner}
 use Prim.Native.Nat.{ℕ, zero, suc, ◌*◌, ◌≤◌, ◌<◌}
 use native.Mathlib.Nat.{mul-le-mul}
 use native.Mathlib.Omega.{arith}
@@ -13,7 +15,6 @@ use Rattle.scan.proofs.Laws.{by-test}
 use Rattle.ir.specs.declared.TypeNumber.{TypeNumber}
 use Rattle.ir.specs.declared.MemberNumber.{MemberNumber}
 use Rattle.ir.specs.declared.ArraySize.TheVariants as As
-use Rattle.ir.specs.declared.TypeForm.{TypeForm}
 use Rattle.archive.specs.Starts.{starts_of, override_count}
 use Rattle.archive.specs.Access.{type_at}
 use Rattle.law_rows.proofs.Good.{Good}
@@ -144,7 +145,7 @@ module _ (fr : List ℕ) (good : Good fr) where
   at c n = measure_at fr (starts_of fr) c n
 
   -- a type that holds a pending array is measured by counts
-  pub by-counts : (c : Counts) (n : TypeNumber) (t : TypeForm) → type_at fr n ≡ t
+  pub by-counts : (c : Counts) (n : TypeNumber) (t : Option TypeInner) → type_at fr n ≡ t
       → holds_pending fr (starts_of fr) n ≡ true
       → measure_at fr (starts_of fr) c n ≡ counted_form fr (starts_of fr) (holds_pending fr (starts_of fr)) c
       (measure_at fr (starts_of fr) c) n t
@@ -154,7 +155,7 @@ module _ (fr : List ℕ) (good : Good fr) where
   grows-as a b h = rw (a, b) h
 
   module _ (c d : Counts) (less : AtMost fr c d) where
-    form-grows : (n : TypeNumber) (t : TypeForm) → TypeThere fr n t → Shape fr t
+    form-grows : (n : TypeNumber) (t : Option TypeInner) → TypeThere fr n t → Shape fr t
         → ((b : TypeNumber) → PartOf fr t b → Grows (at c b) (at d b))
         → Grows (counted_form fr (starts_of fr) holds c (at c) n t) (counted_form fr (starts_of fr) holds d (at d) n t)
     form-grows n t w (Shape.array b (As.Constant x) stride) ih = tt

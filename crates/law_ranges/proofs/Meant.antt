@@ -1,6 +1,8 @@
 -- What is worked out of a type at given counts means what it says: it has that alignment and size; or it rests on the
 -- named type, and the fault is that type's own. By the parts of a type, and request 5's laws for types that hold no
 -- pending array.
+use Rattle.std.specs.Prelude.{Option, Some}
+use Rattle.ir.specs.declared.TypeInner.{TypeInner}
 use Prim.Native.Nat.{ℕ, ◌*◌, ◌<◌}
 use native.Mathlib.Omega.{arith}
 use mathlib.Core.Path.{◌≡◌, refl, sym, ◌∙◌}
@@ -14,8 +16,6 @@ use Rattle.ir.specs.declared.ItemNumber.{ItemNumber}
 use Rattle.ir.specs.declared.MemberNumber.{MemberNumber}
 use Rattle.ir.specs.declared.ArraySize.TheVariants as As
 use Rattle.ir.specs.declared.TypeInner.TheVariants as Ti
-use Rattle.ir.specs.declared.TypeForm.{TypeForm}
-use Rattle.ir.specs.declared.TypeForm.TheVariants as Tf
 use Rattle.archive.specs.Starts.{starts_of}
 use Rattle.archive.specs.Access.{type_at}
 use Rattle.law_rows.proofs.Good.{Good}
@@ -89,7 +89,7 @@ module _ (fr : List ℕ) (good : Good fr) (c : Counts) where
 
   -- AN ARRAY
   array-meant : (n b : TypeNumber) (o : ItemNumber) (stride : ℕ)
-      → type_at fr n ≡ Tf.Known (Ti.Array b (As.Pending o) stride) → (Holds fr b → ⊥) → (m : Measure)
+      → type_at fr n ≡ Some (Ti.Array b (As.Pending o) stride) → (Holds fr b → ⊥) → (m : Measure)
       → Meant fr b m → MeantAt n (array_of n m (c o) stride)
   unfolding array_of
   array-meant n b o stride e f (Faulty k p) h = (
@@ -107,7 +107,7 @@ module _ (fr : List ℕ) (good : Good fr) (c : Counts) where
 
   -- A STRUCT
   module _ (n : TypeNumber) (first : MemberNumber) (count span : ℕ)
-      (e : type_at fr n ≡ Tf.Known (Ti.Struct first count span)) (held : Holds fr n) where
+      (e : type_at fr n ≡ Some (Ti.Struct first count span)) (held : Holds fr n) where
     abbrev aligns : ℕ → Alignment
     aligns i = align_in (at (struct_member fr first i).ty)
 
@@ -141,18 +141,18 @@ module _ (fr : List ℕ) (good : Good fr) (c : Counts) where
 
   -- a struct that holds a pending array has members
   some-member : (n : TypeNumber) (first : MemberNumber) (count span : ℕ)
-      → type_at fr n ≡ Tf.Known (Ti.Struct first count span) → Holds fr n → 0 < count
+      → type_at fr n ≡ Some (Ti.Struct first count span) → Holds fr n → 0 < count
   some-member n first count span e h = go h.1
     where
       go : Over fr h.0 n → 0 < count
       go (Over.pending o m b stride f) = never (let x = sym e ∙ f in cc)
       go (Over.element o m b z stride f g) = never (let x = sym e ∙ f in cc)
       go (Over.part o m x y s i f l g) =
-          let q : Tf.Known (Ti.Struct x y s) ≡ Tf.Known (Ti.Struct first count span) = sym f ∙ e in
+          let q : Some (Ti.Struct x y s) ≡ Some (Ti.Struct first count span) = sym f ∙ e in
           let r : y ≡ count = cc in omega (arith, l, r)
 
   -- ANY TYPE that holds a pending array
-  form-meant : (n : TypeNumber) (t : TypeForm) → type_at fr n ≡ t → Shape fr t → holds n ≡ true
+  form-meant : (n : TypeNumber) (t : Option TypeInner) → type_at fr n ≡ t → Shape fr t → holds n ≡ true
       → ((b : TypeNumber) → PartOf fr t b → MeantAt b (at b))
       → MeantAt n (counted_form fr (starts_of fr) holds c at n t)
   form-meant n t e (Shape.array b (As.Constant x) stride) h ih =

@@ -1,5 +1,6 @@
 -- What a type has at given counts, and a number of its own, is what is worked out of it; and where it rests on a type
 -- with a number of its own, it is refused there or at a lower one. By the form of the type, and request 5's laws.
+use Rattle.std.specs.Prelude.{Some}
 use Prim.Native.Nat.{ℕ, ◌*◌, ◌<◌}
 use native.Mathlib.Omega.{arith}
 use mathlib.Core.Path.{◌≡◌, ◌∙◌}
@@ -13,7 +14,6 @@ use Rattle.ir.specs.declared.MemberNumber.{MemberNumber}
 use Rattle.ir.specs.declared.ArraySize.{ArraySize}
 use Rattle.ir.specs.declared.ArraySize.TheVariants as As
 use Rattle.ir.specs.declared.TypeInner.TheVariants as Ti
-use Rattle.ir.specs.declared.TypeForm.TheVariants as Tf
 use Rattle.archive.specs.Starts.{starts_of}
 use Rattle.archive.specs.Access.{type_at}
 use Rattle.law_rows.proofs.Good.{Good}
@@ -45,26 +45,26 @@ module _ (fr : List ℕ) (good : Good fr) (c : Counts) where
   -- WHAT A TYPE HAS is worked out of it
 
   pending-holds : (n b : TypeNumber) (o : ItemNumber) (stride : ℕ)
-      → type_at fr n ≡ Tf.Known (Ti.Array b (As.Pending o) stride) → Holds fr n
+      → type_at fr n ≡ Some (Ti.Array b (As.Pending o) stride) → Holds fr n
   pending-holds n b o stride e = (o, Over.pending o n b stride e)
 
   -- a pending array whose element is fixed
   of_array : (n b : TypeNumber) (o : ItemNumber) (stride : ℕ)
-      → type_at fr n ≡ Tf.Known (Ti.Array b (As.Pending o) stride) → (Holds fr b → ⊥)
+      → type_at fr n ≡ Some (Ti.Array b (As.Pending o) stride) → (Holds fr b → ⊥)
       → at n ≡ array_of n (measure_in fr (starts_of fr) b) (c o) stride
   of_array n b o stride e f =
       by-counts fr good c n _ e ((holds-when fr good n).1 (pending-holds n b o stride e))
       ∙ rw (is_free fr good c b f, fixed_same fr good c b (is_free fr good c b f))
 
   of_struct : (n : TypeNumber) (first : MemberNumber) (count span : ℕ)
-      → type_at fr n ≡ Tf.Known (Ti.Struct first count span) → Holds fr n
+      → type_at fr n ≡ Some (Ti.Struct first count span) → Holds fr n
       → at n ≡ fresh_struct n (fresh_parts fr (starts_of fr) at first count)
   of_struct n first count span e h = by-counts fr good c n _ e ((holds-when fr good n).1 h)
 
   -- a struct whose members have sizes
   of_members : (n : TypeNumber) (first : MemberNumber) (count span : ℕ) (aligns : ℕ → Alignment) (sizes offsets : ℕ
       → ℕ) (a : Alignment) (z : ℕ)
-      → type_at fr n ≡ Tf.Known (Ti.Struct first count span) → Holds fr n
+      → type_at fr n ≡ Some (Ti.Struct first count span) → Holds fr n
       → ((i : ℕ) → i < count → at (struct_member fr first i).ty ≡ Fills (aligns i) (sizes i)) → Greatest aligns count a
       → Fresh count aligns sizes offsets a z → at n ≡ cond (ltb z 4294967296) (Fills a z) (Faulty Huge n)
   unfolding fresh_struct
@@ -85,7 +85,7 @@ module _ (fr : List ℕ) (good : Good fr) (c : Counts) where
       (λ i q. has-at-is _ (aligns i) (sizes i) (h i q)) g f ∙ rw (lt-ltb z 4294967296 l)
 
   -- A FAULT OF ITS OWN is worked out of it
-  over-out : (n b : TypeNumber) (z : ArraySize) (stride : ℕ) → type_at fr n ≡ Tf.Known (Ti.Array b z stride)
+  over-out : (n b : TypeNumber) (z : ArraySize) (stride : ℕ) → type_at fr n ≡ Some (Ti.Array b z stride)
       → Holds fr b → at n ≡ Faulty Unmeasured n
   over-out n b (As.Constant x) stride e h =
       by-counts fr good c n _ e ((holds-when fr good n).1 (h.0, Over.element h.0 n b _ stride e h.1))

@@ -1,6 +1,8 @@
 -- One entry of a table of counts raised by one, in what is said of a type's range. From the steps of a size: the other
 -- end stays as it was, and a least count that is raised past its greatest is number 45 at that override, since every
 -- other override had a good span.
+use Rattle.rule_ranges.specs.declared.RangeError.TheVariants as Ge
+use Rattle.std.specs.Prelude.{Some, Ok, Err}
 use Prim.Native.Nat.{ℕ, ◌+◌, ◌≤◌, ◌<◌}
 use native.Mathlib.Decide.{dec_lt}
 use native.Mathlib.Omega.{arith}
@@ -14,7 +16,6 @@ use Rattle.ir.specs.declared.ItemNumber.{ItemNumber}
 use Rattle.ir.specs.declared.MemberNumber.{MemberNumber}
 use Rattle.ir.specs.declared.ArraySize.TheVariants as As
 use Rattle.ir.specs.declared.TypeInner.TheVariants as Ti
-use Rattle.ir.specs.declared.TypeForm.TheVariants as Tf
 use Rattle.archive.specs.Starts.{starts_of, override_count}
 use Rattle.archive.specs.Access.{type_at}
 use Rattle.law_rows.proofs.Good.{Good}
@@ -25,7 +26,6 @@ use Rattle.rule_sizes.specs.declared.Measure.TheVariants as Me
 use Rattle.rule_sizes.specs.Wgsl.{round_up}
 use Rattle.rule_sizes.specs.Meaning.{struct_member}
 use Rattle.rule_ranges.specs.declared.Range.TheVariants.{Spans, Faulty}
-use Rattle.rule_ranges.specs.declared.TypeRange.TheVariants as Tr
 use Rattle.rule_ranges.specs.Counts.{Counts, measure_at}
 use Rattle.rule_ranges.specs.Ranges.{range_of, range_in, span_ok, type_range_in}
 use Rattle.rule_ranges.specs.Meaning.{Over, AllSpan, Asked, Raised, Beside, sum, Steps, StepsTo, spans_or_huge}
@@ -45,7 +45,7 @@ item-or {X} p o same apart = go (dec_lt p.0 o.0) (dec_lt o.0 p.0)
     go (no l) (no m) = same (item-is p o (omega arith))
 
 module _ (fr : List ℕ) (good : Good fr) (o : ItemNumber) (least greatest : Counts) (n : TypeNumber) (a : Alignment)
-    (y z : ℕ) (e : type_range_in fr (starts_of fr) least greatest n ≡ Tr.Ranged (Spans a y z)) where
+    (y z : ℕ) (e : type_range_in fr (starts_of fr) least greatest n ≡ Ok (Spans a y z)) where
   asks : Asked fr least greatest n (Spans a y z)
   asks = (asked-when fr least greatest n (Spans a y z)).0 e
 
@@ -55,7 +55,7 @@ module _ (fr : List ℕ) (good : Good fr) (o : ItemNumber) (least greatest : Cou
 
   -- at other counts, where each override has a good span
   said_at : (low high : Counts) → AllSpan fr low high → type_range_in fr (starts_of fr) low high n
-      ≡ Tr.Ranged (range_of (measure_at fr (starts_of fr) low n) (measure_at fr (starts_of fr) high n))
+      ≡ Ok (range_of (measure_at fr (starts_of fr) low n) (measure_at fr (starts_of fr) high n))
   unfolding range_in
   said_at low high h = (asked-when fr low high n _).1 (record { there = asks.there; spans = h; is = refl })
 
@@ -67,15 +67,15 @@ module _ (fr : List ℕ) (good : Good fr) (o : ItemNumber) (least greatest : Cou
         let r = raised-above fr o greatest high raised p l in (h.0, omega (arith, h.1, r))
 
     to_high : type_range_in fr (starts_of fr) least high n
-        ≡ Tr.Ranged (range_of (Me.Fills a y) (measure_at fr (starts_of fr) high n))
+        ≡ Ok (range_of (Me.Fills a y) (measure_at fr (starts_of fr) high n))
     to_high = said_at least high above ∙ rw sizes.0
 
-    pub greatest-array : (b : TypeNumber) (stride : ℕ) → type_at fr n ≡ Tf.Known (Ti.Array b (As.Pending o) stride)
-        → type_range_in fr (starts_of fr) least high n ≡ Tr.Ranged (spans_or_huge n a y (z + stride))
+    pub greatest-array : (b : TypeNumber) (stride : ℕ) → type_at fr n ≡ Some (Ti.Array b (As.Pending o) stride)
+        → type_range_in fr (starts_of fr) least high n ≡ Ok (spans_or_huge n a y (z + stride))
     greatest-array b stride f =
         to_high
         ∙ rw (array_steps fr good o greatest high raised n b stride f a z sizes.1)
-        (ap Tr.Ranged (go (ltb (z + stride) 4294967296)))
+        (ap Ok (go (ltb (z + stride) 4294967296)))
       where
         go : (t : Bool) → range_of (Me.Fills a y) (cond t (Me.Fills a (z + stride)) (Me.Faulty Huge n))
             ≡ cond t (Spans a y (z + stride)) (Faulty Huge n)
@@ -83,7 +83,7 @@ module _ (fr : List ℕ) (good : Good fr) (o : ItemNumber) (least greatest : Cou
         go false = refl
 
     pub greatest-struct : (first : MemberNumber) (count span : ℕ)
-        → type_at fr n ≡ Tf.Known (Ti.Struct first count span) → (strides : ℕ → ℕ)
+        → type_at fr n ≡ Some (Ti.Struct first count span) → (strides : ℕ → ℕ)
         → ((i : ℕ) → i < count → Beside fr o (struct_member fr first i).ty (strides i))
         → GreatestSteps a y z (sum (λ i. round_up a (strides i)) count) (type_range_in fr (starts_of fr) least high n)
     greatest-struct first count span f strides each =
@@ -94,7 +94,7 @@ module _ (fr : List ℕ) (good : Good fr) (o : ItemNumber) (least greatest : Cou
         total : ℕ
         total = sum (λ i. round_up a (strides i)) count
 
-        go : (m : Measure) → StepsTo a z total m → GreatestSteps a y z total (Tr.Ranged (range_of (Me.Fills a y) m))
+        go : (m : Measure) → StepsTo a z total m → GreatestSteps a y z total (Ok (range_of (Me.Fills a y) m))
         go (Me.Fills b w) h = rw (sym h.same) (GreatestSteps.moves w h.kept h.most)
         go (Me.Faulty k p) h = rw h (GreatestSteps.huge p)
 
@@ -110,7 +110,7 @@ module _ (fr : List ℕ) (good : Good fr) (o : ItemNumber) (least greatest : Cou
         let h = asks.spans p i in (omega (arith, r, h.0), omega (arith, r, h.1)))
 
     to_low : AllSpan fr low greatest → type_range_in fr (starts_of fr) low greatest n
-        ≡ Tr.Ranged (range_of (measure_at fr (starts_of fr) low n) (Me.Fills a z))
+        ≡ Ok (range_of (measure_at fr (starts_of fr) low n) (Me.Fills a z))
     to_low h = said_at low greatest h ∙ rw sizes.1
 
     has-low : AllSpan fr low greatest → Smaller (measure_at fr (starts_of fr) low n) a z
@@ -118,7 +118,7 @@ module _ (fr : List ℕ) (good : Good fr) (o : ItemNumber) (least greatest : Cou
 
     -- past the greatest: 45
     past : greatest o ≤ least o → o.0 < override_count (starts_of fr)
-        → type_range_in fr (starts_of fr) low greatest n ≡ Tr.Span o.0
+        → type_range_in fr (starts_of fr) low greatest n ≡ Err (Ge.Span o.0)
     past l i =
         (span-when fr low greatest n o.0).1
         (asks.there, record { inside = i; fails = fails; before = before })
@@ -140,13 +140,13 @@ module _ (fr : List ℕ) (good : Good fr) (o : ItemNumber) (least greatest : Cou
               le-leb (low p) (greatest p) (omega (arith, r, h.1)),
             )
 
-    pub least-array : (b : TypeNumber) (stride : ℕ) → type_at fr n ≡ Tf.Known (Ti.Array b (As.Pending o) stride)
+    pub least-array : (b : TypeNumber) (stride : ℕ) → type_at fr n ≡ Some (Ti.Array b (As.Pending o) stride)
         → type_range_in fr (starts_of fr) low greatest n
-        ≡ cond (ltb (least o) (greatest o)) (Tr.Ranged (Spans a (y + stride) z)) (Tr.Span o.0)
+        ≡ cond (ltb (least o) (greatest o)) (Ok (Spans a (y + stride) z)) (Err (Ge.Span o.0))
     least-array b stride f = go (ltb (least o) (greatest o)) refl
       where
         go : (t : Bool) → ltb (least o) (greatest o) ≡ t → type_range_in fr (starts_of fr) low greatest n
-            ≡ cond t (Tr.Ranged (Spans a (y + stride) z)) (Tr.Span o.0)
+            ≡ cond t (Ok (Spans a (y + stride) z)) (Err (Ge.Span o.0))
         go true q =
             let h = within (ltb-true (least o) (greatest o) q) in
             let s = has-low h in
@@ -156,7 +156,7 @@ module _ (fr : List ℕ) (good : Good fr) (o : ItemNumber) (least greatest : Cou
         go false q = past (ltb-false (least o) (greatest o) q) (over-there fr good o n (Over.pending o n b stride f))
 
     pub least-struct : o.0 < override_count (starts_of fr) → (first : MemberNumber) (count span : ℕ)
-        → type_at fr n ≡ Tf.Known (Ti.Struct first count span) → (strides : ℕ → ℕ)
+        → type_at fr n ≡ Some (Ti.Struct first count span) → (strides : ℕ → ℕ)
         → ((i : ℕ) → i < count → Beside fr o (struct_member fr first i).ty (strides i))
         → LeastSteps o a y z (sum (λ i. round_up a (strides i)) count) (type_range_in fr (starts_of fr) low greatest n)
     least-struct i first count span f strides each = go (ltb (least o) (greatest o)) refl

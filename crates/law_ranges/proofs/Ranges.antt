@@ -2,6 +2,9 @@
 -- `refused-when`: a range and a refusal, both ways. `range-reached`: least and greatest are reached by some choice of
 -- counts. `range-within`: every choice gives a size between them, and nothing faults there that does not at the
 -- greatest counts. `range-fixed`: a type that holds no pending array has request 5's size twice, or its refusal.
+use Rattle.rule_ranges.specs.TypeRange.{TypeRange}
+use Rattle.rule_ranges.specs.declared.RangeError.TheVariants as Ge
+use Rattle.std.specs.Prelude.{ℕ, Option, Some, None, Ok, Err}
 use Prim.Native.Nat.{ℕ, ◌≤◌}
 use native.Mathlib.Omega.{arith}
 use mathlib.Core.Path.{◌≡◌, refl, sym, ◌∙◌}
@@ -10,8 +13,6 @@ use mathlib.Core.List.{List}
 use mathlib.Core.Logic.{◌↔◌}
 use lib.Dec.{leb}
 use borrow.Author.Tests.{leb-true, le-leb}
-use Rattle.scan.specs.declared.Found.{Found}
-use Rattle.scan.specs.declared.Found.TheVariants.{At, Nothing}
 use Rattle.scan.proofs.Laws.{and_first, and_second, lowest-all, none-all, LowestAt, found_at, at-found}
 use Rattle.ir.specs.declared.TypeNumber.{TypeNumber}
 use Rattle.ir.specs.declared.ItemNumber.{ItemNumber}
@@ -26,7 +27,6 @@ use Rattle.rule_sizes.specs.Sizes.{measure_in}
 use Rattle.law_sizes.proofs.Folded.{never}
 use Rattle.rule_ranges.specs.declared.Range.{Range}
 use Rattle.rule_ranges.specs.declared.Range.TheVariants.{Spans, Faulty}
-use Rattle.rule_ranges.specs.declared.TypeRange.TheVariants as Tr
 use Rattle.rule_ranges.specs.Pending.{holds_pending}
 use Rattle.rule_ranges.specs.Counts.{Counts, measure_at}
 use Rattle.rule_ranges.specs.Ranges.{range_of, range_in, span_ok, faulty_span, type_range_in}
@@ -58,50 +58,53 @@ module _ (fr : List ℕ) (least greatest : Counts) where
   -- NUMBER 45
 
   data Said (n : TypeNumber) : Type 0 where
-    none : is_type (starts_of fr) n ≡ false → type_range_in fr (starts_of fr) least greatest n ≡ Tr.Index → Said n
+    none : is_type (starts_of fr) n ≡ false → type_range_in fr (starts_of fr) least greatest n ≡ Err Ge.Index → Said n
     span : (o : ℕ) → is_type (starts_of fr) n ≡ true → LowestAt ok (override_count (starts_of fr)) o
-        → type_range_in fr (starts_of fr) least greatest n ≡ Tr.Span o → Said n
+        → type_range_in fr (starts_of fr) least greatest n ≡ Err (Ge.Span o) → Said n
     range : is_type (starts_of fr) n ≡ true → AllSpan fr least greatest
-        → type_range_in fr (starts_of fr) least greatest n ≡ Tr.Ranged (range_in fr (starts_of fr) least greatest n)
+        → type_range_in fr (starts_of fr) least greatest n ≡ Ok (range_in fr (starts_of fr) least greatest n)
         → Said n
 
   said : (n : TypeNumber) → Said n
   unfolding type_range_in faulty_span
   said n = go (is_type (starts_of fr) n) refl (faulty_span (starts_of fr) least greatest) refl
     where
-      go : (b : Bool) → is_type (starts_of fr) n ≡ b → (f : Found) → faulty_span (starts_of fr) least greatest ≡ f
+      go : (b : Bool) → is_type (starts_of fr) n ≡ b → (f : Option ℕ) → faulty_span (starts_of fr) least greatest ≡ f
           → Said n
       go false e f q = Said.none e (rw e)
-      go true e (At o) q = Said.span o e (found_at ok (override_count (starts_of fr)) o q) (rw (e, q))
-      go true e Nothing q =
+      go true e (Some o) q = Said.span o e (found_at ok (override_count (starts_of fr)) o q) (rw (e, q))
+      go true e None q =
           Said.range e (λ o l. ok-span o.0 (none-all ok (override_count (starts_of fr)) o.0 q l)) (rw (e, q))
 
+  abbrev span_error : ℕ → TypeRange
+  span_error o = Err (Ge.Span o)
+
   pub span-when : (n : TypeNumber) (o : ℕ)
-      → (type_range_in fr (starts_of fr) least greatest n ≡ Tr.Span o)
+      → (type_range_in fr (starts_of fr) least greatest n ≡ Err (Ge.Span o))
       ↔ ((is_type (starts_of fr) n ≡ true) × LowestAt (λ (k : ℕ). span_ok least greatest (record { 0 = k }))
       (override_count (starts_of fr)) o)
   unfolding type_range_in faulty_span
   span-when n o = (λ e. go e (said n), λ h. rw (h.0, at-found ok (override_count (starts_of fr)) o h.1))
     where
-      go : type_range_in fr (starts_of fr) least greatest n ≡ Tr.Span o → Said n
+      go : type_range_in fr (starts_of fr) least greatest n ≡ Err (Ge.Span o) → Said n
           → (is_type (starts_of fr) n ≡ true) × LowestAt ok (override_count (starts_of fr)) o
       go e (Said.none t q) = never (let x = sym q ∙ e in cc)
       go e (Said.span p t l q) =
-          let x : Tr.Span p ≡ Tr.Span o = sym q ∙ e in let y : p ≡ o = cc in (t, rw (sym y) l)
+          let x : span_error p ≡ span_error o = sym q ∙ e in let y : p ≡ o = cc in (t, rw (sym y) l)
       go e (Said.range t s q) = never (let x = sym q ∙ e in cc)
 
   pub index-when : (n : TypeNumber)
-      → (type_range_in fr (starts_of fr) least greatest n ≡ Tr.Index) ↔ (is_type (starts_of fr) n ≡ false)
+      → (type_range_in fr (starts_of fr) least greatest n ≡ Err Ge.Index) ↔ (is_type (starts_of fr) n ≡ false)
   unfolding type_range_in
   index-when n = (λ e. go e (said n), λ e. rw e)
     where
-      go : type_range_in fr (starts_of fr) least greatest n ≡ Tr.Index → Said n → is_type (starts_of fr) n ≡ false
+      go : type_range_in fr (starts_of fr) least greatest n ≡ Err Ge.Index → Said n → is_type (starts_of fr) n ≡ false
       go e (Said.none t q) = t
       go e (Said.span p t l q) = never (let x = sym q ∙ e in cc)
       go e (Said.range t s q) = never (let x = sym q ∙ e in cc)
 
   pub asked-when : (n : TypeNumber) (r : Range)
-      → (type_range_in fr (starts_of fr) least greatest n ≡ Tr.Ranged r) ↔ Asked fr least greatest n r
+      → (type_range_in fr (starts_of fr) least greatest n ≡ Ok r) ↔ Asked fr least greatest n r
   unfolding type_range_in faulty_span
   asked-when n r = (
     λ e. go e (said n),
@@ -113,11 +116,11 @@ module _ (fr : List ℕ) (least greatest : Counts) where
     ),
   )
     where
-      go : type_range_in fr (starts_of fr) least greatest n ≡ Tr.Ranged r → Said n → Asked fr least greatest n r
+      go : type_range_in fr (starts_of fr) least greatest n ≡ Ok r → Said n → Asked fr least greatest n r
       go e (Said.none t q) = never (let x = sym q ∙ e in cc)
       go e (Said.span p t l q) = never (let x = sym q ∙ e in cc)
       go e (Said.range t s q) =
-          let x : Tr.Ranged (range_in fr (starts_of fr) least greatest n) ≡ Tr.Ranged r = sym q
+          let x : Ok (range_in fr (starts_of fr) least greatest n) ≡ Ok r = sym q
           ∙ e in record { there = t; spans = s; is = cc }
 
   -- THE RANGE
@@ -168,7 +171,7 @@ module _ (fr : List ℕ) (least greatest : Counts) where
     at_most h o l = (h o l).1
 
     pub range-reached : (n : TypeNumber) (a : Alignment) (y z : ℕ)
-        → type_range_in fr (starts_of fr) least greatest n ≡ Tr.Ranged (Spans a y z)
+        → type_range_in fr (starts_of fr) least greatest n ≡ Ok (Spans a y z)
         → Reached fr least greatest n a y × Reached fr least greatest n a z
     range-reached n a y z e =
         let h = (asked-when n (Spans a y z)).0 e in
@@ -179,7 +182,7 @@ module _ (fr : List ℕ) (least greatest : Counts) where
         )
 
     pub range-within : (n : TypeNumber) (a : Alignment) (y z : ℕ)
-        → type_range_in fr (starts_of fr) least greatest n ≡ Tr.Ranged (Spans a y z)
+        → type_range_in fr (starts_of fr) least greatest n ≡ Ok (Spans a y z)
         → (c : Counts) → Choice fr least greatest c → Between (measure_at fr (starts_of fr) c n) a y z
     range-within n a y z e c k =
         let h = (asked-when n (Spans a y z)).0 e in

@@ -1,6 +1,8 @@
 -- `holds-when`: a type is a pending array or holds one exactly where it is over some count. `fixed_same`: a type that
 -- is not, and holds none, has request 5's size or refusal. `same-counts`: what a type fills hangs on the counts that
 -- it is over, and on no other. By the parts of a type.
+use Rattle.std.specs.Prelude.{Option, Some}
+use Rattle.ir.specs.declared.TypeInner.{TypeInner}
 use Prim.Native.Nat.{ℕ, zero, suc, ◌<◌}
 use native.Mathlib.Decide.{dec_lt}
 use native.Mathlib.Omega.{arith}
@@ -13,8 +15,6 @@ use Rattle.ir.specs.declared.ItemNumber.{ItemNumber}
 use Rattle.ir.specs.declared.MemberNumber.{MemberNumber}
 use Rattle.ir.specs.declared.ArraySize.TheVariants as As
 use Rattle.ir.specs.declared.TypeInner.TheVariants as Ti
-use Rattle.ir.specs.declared.TypeForm.{TypeForm}
-use Rattle.ir.specs.declared.TypeForm.TheVariants as Tf
 use Rattle.archive.specs.Starts.{starts_of}
 use Rattle.archive.specs.Access.{type_at}
 use Rattle.law_rows.proofs.Good.{Good}
@@ -53,7 +53,8 @@ module _ (fr : List ℕ) where
       go (yes m) ih = ih m
       go (no m) ih = let q : i ≡ k = omega arith in rw q (or-second (member_holds fr (starts_of fr) h first k) _ e)
 
-  part_free : (h : TypeNumber → Bool) (t : TypeForm) → form_holds fr (starts_of fr) h t ≡ false → (b : TypeNumber)
+  part_free : (h : TypeNumber → Bool) (t : Option TypeInner) → form_holds fr (starts_of fr) h t ≡ false
+      → (b : TypeNumber)
       → PartOf fr t b → h b ≡ false
   part_free h t e b (PartOf.element x (As.Constant c) stride) = e
   part_free h t e b (PartOf.element x (As.Pending o) stride) = true-false e
@@ -81,7 +82,8 @@ module _ (fr : List ℕ) where
 
     -- OVER COUNTS
 
-    over-part : (o : ItemNumber) (n : TypeNumber) (t : TypeForm) → type_at fr n ≡ t → (b : TypeNumber) → PartOf fr t b
+    over-part : (o : ItemNumber) (n : TypeNumber) (t : Option TypeInner) → type_at fr n ≡ t → (b : TypeNumber)
+        → PartOf fr t b
         → Over fr o b → Over fr o n
     over-part o n t e b (PartOf.element x z stride) h = Over.element o n b z stride e h
     over-part o n t e b (PartOf.part first count span i l) h = Over.part o n first count span i e l h
@@ -108,7 +110,7 @@ module _ (fr : List ℕ) where
     SomeCount n = (o : ItemNumber) × Over fr o n
 
     member-over : (n : TypeNumber) (first : MemberNumber) (count span : ℕ)
-        → type_at fr n ≡ Tf.Known (Ti.Struct first count span)
+        → type_at fr n ≡ Some (Ti.Struct first count span)
         → ((i : ℕ) → i < count → holds (struct_member fr first i).ty ≡ true → SomeCount (struct_member fr first i).ty)
         → (k : ℕ) → ((i : ℕ) → i < k → i < count) → member_holds fr (starts_of fr) holds first k ≡ true → SomeCount n
     unfolding member_holds
@@ -124,7 +126,7 @@ module _ (fr : List ℕ) where
             let l : k < count = w k (omega arith) in
             let x = ih k l (rw q at h) in (x.0, Over.part x.0 n first count span k e l x.1)
 
-    form-over : (n : TypeNumber) (t : TypeForm) → type_at fr n ≡ t → Shape fr t
+    form-over : (n : TypeNumber) (t : Option TypeInner) → type_at fr n ≡ t → Shape fr t
         → ((b : TypeNumber) → PartOf fr t b → holds b ≡ true → SomeCount b)
         → form_holds fr (starts_of fr) holds t ≡ true → SomeCount n
     form-over n t e (Shape.array b (As.Constant c) stride) ih h =
@@ -147,14 +149,14 @@ module _ (fr : List ℕ) where
     over-holds : (o : ItemNumber) (n : TypeNumber) → Over fr o n → (x : Bool) → holds n ≡ x → x ≡ true
     over-holds o n h true e = refl
     over-holds o n (Over.pending p m b stride f) false e =
-        let q : form_holds fr (starts_of fr) holds (Tf.Known (Ti.Array b (As.Pending o) stride)) ≡ false =
+        let q : form_holds fr (starts_of fr) holds (Some (Ti.Array b (As.Pending o) stride)) ≡ false =
         rw f at (sym (holds-fixed fr good n) ∙ e) in true-false q
     over-holds o n (Over.element p m b z stride f h) false e =
-        let q : form_holds fr (starts_of fr) holds (Tf.Known (Ti.Array b z stride)) ≡ false =
+        let q : form_holds fr (starts_of fr) holds (Some (Ti.Array b z stride)) ≡ false =
         rw f at (sym (holds-fixed fr good n) ∙ e) in
         over-holds o b h false (part_free holds _ q b (PartOf.element b z stride))
     over-holds o n (Over.part p m first count span i f l h) false e =
-        let q : form_holds fr (starts_of fr) holds (Tf.Known (Ti.Struct first count span)) ≡ false =
+        let q : form_holds fr (starts_of fr) holds (Some (Ti.Struct first count span)) ≡ false =
         rw f at (sym (holds-fixed fr good n) ∙ e) in
         over-holds o _ h false (part_free holds _ q _ (PartOf.part first count span i l))
 

@@ -1,5 +1,7 @@
 -- A type is an array, a struct, or names no part. What is said of a type in an accepted file is said over its parts,
 -- which are earlier; so what follows for a type from its parts holds of every type.
+use Rattle.std.specs.Prelude.{Option, Some, None}
+use Rattle.ir.specs.declared.TypeInner.{TypeInner}
 use Prim.Native.Nat.{ℕ, zero, suc, ◌<◌}
 use native.Mathlib.Omega.{arith}
 use mathlib.Core.Path.{◌≡◌, refl, sym, ap, ◌∙◌}
@@ -11,8 +13,6 @@ use Rattle.ir.specs.declared.ItemNumber.{ItemNumber}
 use Rattle.ir.specs.declared.ArraySize.{ArraySize}
 use Rattle.ir.specs.declared.ArraySize.TheVariants as As
 use Rattle.ir.specs.declared.TypeInner.TheVariants as Ti
-use Rattle.ir.specs.declared.TypeForm.{TypeForm}
-use Rattle.ir.specs.declared.TypeForm.TheVariants as Tf
 use Rattle.archive.specs.Starts.{starts_of}
 use Rattle.archive.specs.Access.{type_at}
 use Rattle.law_rows.proofs.Good.{Good}
@@ -33,44 +33,44 @@ cond-alike false a b = b
 
 module _ (fr : List ℕ) where
   -- a type without parts is measured alike whatever other types fill, and holds no pending array
-  pub record Other (t : TypeForm) : Type 0 where
+  pub record Other (t : Option TypeInner) : Type 0 where
     pub out : (h : TypeNumber → Bool) (c : Counts) (f : TypeNumber → Measure) (n : TypeNumber)
         → counted_form fr (starts_of fr) h c f n t ≡ Faulty Unmeasured n
     pub free : (h : TypeNumber → Bool) → form_holds fr (starts_of fr) h t ≡ false
 
-  pub data Shape : TypeForm → Type 0 where
-    array : (b : TypeNumber) (z : ArraySize) (stride : ℕ) → Shape (Tf.Known (Ti.Array b z stride))
-    struct : (first : MemberNumber) (count span : ℕ) → Shape (Tf.Known (Ti.Struct first count span))
-    other : (t : TypeForm) → Other t → Shape t
+  pub data Shape : Option TypeInner → Type 0 where
+    array : (b : TypeNumber) (z : ArraySize) (stride : ℕ) → Shape (Some (Ti.Array b z stride))
+    struct : (first : MemberNumber) (count span : ℕ) → Shape (Some (Ti.Struct first count span))
+    other : (t : Option TypeInner) → Other t → Shape t
 
-  pub shape : (t : TypeForm) → Shape t
-  shape (Tf.Known (Ti.Array b z t)) = Shape.array b z t
-  shape (Tf.Known (Ti.Struct m j t)) = Shape.struct m j t
-  shape (Tf.Known (Ti.Scalar k)) =
+  pub shape : (t : Option TypeInner) → Shape t
+  shape (Some (Ti.Array b z t)) = Shape.array b z t
+  shape (Some (Ti.Struct m j t)) = Shape.struct m j t
+  shape (Some (Ti.Scalar k)) =
       Shape.other _ (record { out = λ h x f n. refl; free = λ h. refl })
-  shape (Tf.Known (Ti.Vector z k)) =
+  shape (Some (Ti.Vector z k)) =
       Shape.other _ (record { out = λ h x f n. refl; free = λ h. refl })
-  shape (Tf.Known (Ti.Matrix c r k)) =
+  shape (Some (Ti.Matrix c r k)) =
       Shape.other _ (record { out = λ h x f n. refl; free = λ h. refl })
-  shape (Tf.Known (Ti.CooperativeMatrix c r k o)) =
+  shape (Some (Ti.CooperativeMatrix c r k o)) =
       Shape.other _ (record { out = λ h x f n. refl; free = λ h. refl })
-  shape (Tf.Known (Ti.Atomic k)) =
+  shape (Some (Ti.Atomic k)) =
       Shape.other _ (record { out = λ h x f n. refl; free = λ h. refl })
-  shape (Tf.Known (Ti.Pointer b p)) =
+  shape (Some (Ti.Pointer b p)) =
       Shape.other _ (record { out = λ h x f n. refl; free = λ h. refl })
-  shape (Tf.Known (Ti.ValuePointer z k p)) =
+  shape (Some (Ti.ValuePointer z k p)) =
       Shape.other _ (record { out = λ h x f n. refl; free = λ h. refl })
-  shape (Tf.Known (Ti.Image d a c)) =
+  shape (Some (Ti.Image d a c)) =
       Shape.other _ (record { out = λ h x f n. refl; free = λ h. refl })
-  shape (Tf.Known (Ti.Sampler q)) =
+  shape (Some (Ti.Sampler q)) =
       Shape.other _ (record { out = λ h x f n. refl; free = λ h. refl })
-  shape (Tf.Known (Ti.AccelerationStructure q)) =
+  shape (Some (Ti.AccelerationStructure q)) =
       Shape.other _ (record { out = λ h x f n. refl; free = λ h. refl })
-  shape (Tf.Known (Ti.RayQuery q)) =
+  shape (Some (Ti.RayQuery q)) =
       Shape.other _ (record { out = λ h x f n. refl; free = λ h. refl })
-  shape (Tf.Known (Ti.BindingArray b z)) =
+  shape (Some (Ti.BindingArray b z)) =
       Shape.other _ (record { out = λ h x f n. refl; free = λ h. refl })
-  shape Tf.Unknown = Shape.other _ (record { out = λ h x f n. refl; free = λ h. refl })
+  shape None = Shape.other _ (record { out = λ h x f n. refl; free = λ h. refl })
 
   -- PARTS ALIKE: the same is said of the type
 
@@ -94,7 +94,8 @@ module _ (fr : List ℕ) where
   size-holds-alike f g b (As.Pending o) e = refl
   size-holds-alike f g b As.Dynamic e = e
 
-  holds-alike : (f g : TypeNumber → Bool) (t : TypeForm) → Shape t → ((b : TypeNumber) → PartOf fr t b → f b ≡ g b)
+  holds-alike : (f g : TypeNumber → Bool) (t : Option TypeInner) → Shape t → ((b : TypeNumber) → PartOf fr t b
+      → f b ≡ g b)
       → form_holds fr (starts_of fr) f t ≡ form_holds fr (starts_of fr) g t
   holds-alike f g t (Shape.array b z stride) h = size-holds-alike f g b z (h b (PartOf.element b z stride))
   holds-alike f g t (Shape.struct first count span) h =
@@ -111,13 +112,13 @@ module _ (fr : List ℕ) where
 
   -- the rule by counts
   pub counted-alike : (h : TypeNumber → Bool) (c d : Counts) (f g : TypeNumber
-      → Measure) (n : TypeNumber) (t : TypeForm) → Shape t
+      → Measure) (n : TypeNumber) (t : Option TypeInner) → Shape t
       → ((b : TypeNumber) → PartOf fr t b → f b ≡ g b)
-      → ((o : ItemNumber) (b : TypeNumber) (stride : ℕ) → t ≡ Tf.Known (Ti.Array b (As.Pending o) stride) → c o ≡ d o)
+      → ((o : ItemNumber) (b : TypeNumber) (stride : ℕ) → t ≡ Some (Ti.Array b (As.Pending o) stride) → c o ≡ d o)
       → counted_form fr (starts_of fr) h c f n t ≡ counted_form fr (starts_of fr) h d g n t
   counted-alike h c d f g n t (Shape.array b z stride) e k =
       array-alike h c d f g n b z stride (e b (PartOf.element b z stride))
-      (λ o q. k o b stride (ap (λ (x : ArraySize). Tf.Known (Ti.Array b x stride)) q))
+      (λ o q. k o b stride (ap (λ (x : ArraySize). Some (Ti.Array b x stride)) q))
   counted-alike h c d f g n t (Shape.struct first count span) e k =
       ap (fresh_struct n) (fresh-alike f g first count (λ i l. e _ (PartOf.part first count span i l)))
   counted-alike h c d f g n t (Shape.other u o) e k = o.out h c f n ∙ sym (o.out h d g n)

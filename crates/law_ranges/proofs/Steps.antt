@@ -2,6 +2,7 @@
 -- struct with such arrays among its members, and no other member over that count, never shrinks, and grows by no more
 -- than the sum of their strides, each rounded up to the struct's alignment: each end before a member moves by a
 -- multiple of that alignment, and rounding up moves it no further.
+use Rattle.std.specs.Prelude.{Some}
 use Prim.Native.Nat.{ℕ, zero, suc, ◌+◌, ◌*◌, ◌≤◌, ◌<◌}
 use native.Mathlib.Nat.{suc-mul}
 use native.Mathlib.Decide.{dec_lt}
@@ -15,7 +16,6 @@ use Rattle.ir.specs.declared.ItemNumber.{ItemNumber}
 use Rattle.ir.specs.declared.MemberNumber.{MemberNumber}
 use Rattle.ir.specs.declared.ArraySize.TheVariants as As
 use Rattle.ir.specs.declared.TypeInner.TheVariants as Ti
-use Rattle.ir.specs.declared.TypeForm.TheVariants as Tf
 use Rattle.archive.specs.Starts.{starts_of}
 use Rattle.archive.specs.Access.{type_at}
 use Rattle.law_rows.proofs.Good.{Good}
@@ -136,11 +136,11 @@ module _ (fr : List ℕ) (good : Good fr) (o : ItemNumber) (c d : Counts) (raise
   abbrev at : Counts → TypeNumber → Measure
   at k n = measure_at fr (starts_of fr) k n
 
-  pending-holds : (n b : TypeNumber) (stride : ℕ) → type_at fr n ≡ Tf.Known (Ti.Array b (As.Pending o) stride)
+  pending-holds : (n b : TypeNumber) (stride : ℕ) → type_at fr n ≡ Some (Ti.Array b (As.Pending o) stride)
       → holds n ≡ true
   pending-holds n b stride e = holds-fixed fr good n ∙ rw e
 
-  pub array_steps : (n b : TypeNumber) (stride : ℕ) → type_at fr n ≡ Tf.Known (Ti.Array b (As.Pending o) stride)
+  pub array_steps : (n b : TypeNumber) (stride : ℕ) → type_at fr n ≡ Some (Ti.Array b (As.Pending o) stride)
       → (a : Alignment) (z : ℕ)
       → measure_at fr (starts_of fr) c n ≡ Fills a z → measure_at fr (starts_of fr) d n ≡ or_huge n a (z + stride)
   array_steps n b stride f a z h = by-counts fr good d n _ f (pending-holds n b stride f)
@@ -222,7 +222,7 @@ module _ (fr : List ℕ) (good : Good fr) (o : ItemNumber) (c d : Counts) (raise
         }
 
   moved_by : (n : TypeNumber) (first : MemberNumber) (count span : ℕ)
-      → type_at fr n ≡ Tf.Known (Ti.Struct first count span)
+      → type_at fr n ≡ Some (Ti.Struct first count span)
       → (strides : ℕ → ℕ) → ((i : ℕ) → i < count → Beside fr o (struct_member fr first i).ty (strides i))
       → (a b : Alignment) (y z : ℕ) → at c n ≡ Fills a y → at d n ≡ Fills b z → (x : Bool) → holds n ≡ x
       → z ≤ y + sum (λ i. round_up a (strides i)) count
@@ -243,7 +243,7 @@ module _ (fr : List ℕ) (good : Good fr) (o : ItemNumber) (c d : Counts) (raise
       omega (arith, i, w, ui, vi, mi)
 
   pub struct-steps : (n : TypeNumber) (first : MemberNumber) (count span : ℕ)
-      → type_at fr n ≡ Tf.Known (Ti.Struct first count span) → (strides : ℕ → ℕ)
+      → type_at fr n ≡ Some (Ti.Struct first count span) → (strides : ℕ → ℕ)
       → ((i : ℕ) → i < count → Beside fr o (struct_member fr first i).ty (strides i)) → (a : Alignment) (y : ℕ)
       → measure_at fr (starts_of fr) c n ≡ Fills a y
       → StepsTo a y (sum (λ i. round_up a (strides i)) count) (measure_at fr (starts_of fr) d n)

@@ -1,6 +1,9 @@
 -- What a row of an accepted file shows, and a struct of it, by the bytes: the laws of rule/proofs/Named.antt with no
 -- range left to assume, and the family and kind of each frame that is named. The ranges are what check 6 has of the
 -- row.
+use Rattle.ir.specs.declared.Expression.{Expression}
+use Rattle.std.specs.Prelude.{Option}
+use Rattle.ir.specs.declared.TypeInner.{TypeInner}
 use Prim.Native.Nat.{ℕ, ◌+◌, ◌-◌, ◌≤◌, ◌<◌}
 use native.Mathlib.Omega.{arith}
 use mathlib.Core.Path.{◌≡◌, sym, ap, ◌∙◌, subst}
@@ -10,8 +13,6 @@ use mathlib.Core.Option.{none, some}
 use borrow.Author.Tests.{ltb-true}
 use Rattle.ir.specs.declared.TypeNumber.{TypeNumber}
 use Rattle.ir.specs.declared.RowNumber.{RowNumber}
-use Rattle.ir.specs.declared.TypeForm.{TypeForm}
-use Rattle.ir.specs.declared.RowForm.{RowForm}
 use Rattle.ir.specs.declared.TypeInner.TheVariants as Ti
 use Rattle.ir.specs.Numbers.{type_kind_of, row_kind_of, space_of}
 use Rattle.frames.specs.declared.Frame.{Frame}
@@ -124,7 +125,8 @@ module _ (fr : List ℕ) (good : Good fr) where
     unfolding row_in row_of
     there-at b e =
         let q : row_in fr (starts_of fr) n ≡ row_of (row_frame fr n) = rw here in
-        subst (λ (x : RowForm). RowThere fr n x) (q ∙ ap (λ (x : ℕ). row_as (row_kind_of x) (row_frame fr n)) e)
+        subst (λ (x : Option Expression). RowThere fr n x) (q
+        ∙ ap (λ (x : ℕ). row_as (row_kind_of x) (row_frame fr n)) e)
         (row-named fr good n here)
 
     -- ROWS
@@ -178,7 +180,7 @@ module _ (fr : List ℕ) (good : Good fr) where
       record {
         shows = λ e. members-named fr good.order n here e;
         members =
-            λ e. subst (λ (x : TypeForm). TypeThere fr n x) (q ∙ ap (λ (x : ℕ). type_as (type_kind_of x) f) e)
+            λ e. subst (λ (x : Option TypeInner). TypeThere fr n x) (q ∙ ap (λ (x : ℕ). type_as (type_kind_of x) f) e)
             (type-named fr good n here);
       }
 

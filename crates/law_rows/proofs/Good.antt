@@ -1,5 +1,6 @@
 -- A file whose frames pass checks 4 to 6, and the family and kind of the frames that numbers and ranges lead to: ranks
 -- rise, so the frames from one start up to the next are of one family, and items of one kind.
+use Rattle.std.specs.Prelude.{Ok}
 use Prim.Native.Nat.{ℕ, ◌+◌, ◌*◌, ◌≤◌, ◌<◌}
 use native.Mathlib.Omega.{arith}
 use mathlib.Core.Path.{◌≡◌, refl, ap}
@@ -12,7 +13,6 @@ use Rattle.scan.proofs.Laws.{and_first, and_second}
 use Rattle.frames.specs.declared.Frame.{Frame}
 use Rattle.frames.specs.Bytes.{byte, frame_at, frame_count}
 use Rattle.archive.specs.Order.{rank_of, is_known, order_ok}
-use Rattle.answers.specs.declared.Outcome.TheVariants.{Accepted}
 use Rattle.answers.specs.Limit.{max_frames}
 use Rattle.archive.specs.Checks.{field_ok, index_ok, check_frames}
 use Rattle.archive.specs.Starts.{start}
@@ -27,7 +27,7 @@ pub record Good (fr : List ℕ) : Type 0 where
   pub index : Holds index_ok fr
 
 -- exactly these are what checks 4 to 6 accept
-pub good-when : (fr : List ℕ) → frame_count fr ≤ max_frames → (check_frames fr ≡ Accepted (frame_count fr)) ↔ Good fr
+pub good-when : (fr : List ℕ) → frame_count fr ≤ max_frames → (check_frames fr ≡ Ok (frame_count fr)) ↔ Good fr
 good-when fr few = (
   λ e. let a = (accepted-when fr few (frame_count fr)).0 e in record { order = a.1; fields = a.2; index = a.3 },
   λ good. (accepted-when fr few (frame_count fr)).1 (refl, good.order, good.fields, good.index),

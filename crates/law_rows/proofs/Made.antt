@@ -1,4 +1,6 @@
 -- What each rule makes of types in range is in range. By the selectors and the cases that rules are made of.
+use Rattle.std.specs.Prelude.{Option as CodeOption, Some, None}
+use Rattle.ir.specs.declared.Width.{Width}
 use Prim.Native.Nat.{ℕ}
 use mathlib.Core.Path.{◌≡◌, refl, ap}
 use mathlib.Core.Bool.{true}
@@ -11,8 +13,6 @@ use Rattle.ir.specs.declared.TypeNumber.{TypeNumber}
 use Rattle.ir.specs.declared.RowNumber.{RowNumber}
 use Rattle.ir.specs.declared.VectorSize.{VectorSize}
 use Rattle.ir.specs.declared.VectorSize.TheVariants as Vs
-use Rattle.ir.specs.declared.OptionVectorSize.{OptionVectorSize}
-use Rattle.ir.specs.declared.OptionVectorSize.TheVariants as Ov
 use Rattle.ir.specs.declared.CooperativeSize.{CooperativeSize}
 use Rattle.ir.specs.declared.CooperativeRole.{CooperativeRole}
 use Rattle.ir.specs.declared.BinaryOperator.{BinaryOperator}
@@ -24,9 +24,6 @@ use Rattle.ir.specs.declared.ImageDimension.{ImageDimension}
 use Rattle.ir.specs.declared.ImageDimension.TheVariants as Id
 use Rattle.ir.specs.declared.ImageClass.{ImageClass}
 use Rattle.ir.specs.declared.ImageClass.TheVariants as Ic
-use Rattle.ir.specs.declared.FunctionResult.{FunctionResult}
-use Rattle.ir.specs.declared.FunctionResult.TheVariants as Fr
-use Rattle.ir.specs.declared.OptionBytes.{OptionBytes}
 use Rattle.ir.specs.declared.TypeInner.{TypeInner}
 use Rattle.ir.specs.declared.TypeInner.TheVariants as Ti
 use Rattle.ir.specs.Scalars.{U32, F32, BOOL, equal_scalars}
@@ -42,8 +39,6 @@ use Rattle.rule_rows.specs.declared.Pass.TheVariants as Pa
 use Rattle.rule_rows.specs.Access.{access_component, access_into, access_through, bounded, member, member_pointer}
 use Rattle.rule_rows.specs.Access.{index_component, index_into, index_through, splat_of, swizzle_of}
 use Rattle.ir.specs.TypeMethods.{value_base}
-use Rattle.ir.specs.declared.OptionScalar.{OptionScalar}
-use Rattle.ir.specs.declared.OptionScalar.TheVariants as Os
 use Rattle.rule_rows.specs.Variables.{argument, variable, load_through, load_into}
 use Rattle.rule_rows.specs.Images.{sampled_scalar, gathered_scalar, gathered_of, sampled_of, size_of, image_size_of}
 use Rattle.rule_rows.specs.WgslTables.{Wgsl}
@@ -80,16 +75,16 @@ module _ (pass : Pass) (s : Starts) where
       → In (given (value (Ti.CooperativeMatrix c r k o)))
   cooperative-in c r k o = (refl, refl)
 
-  pub value-pointer-in : (z : OptionVectorSize) (k : Scalar) (p : AddressSpace)
+  pub value-pointer-in : (z : CodeOption VectorSize) (k : Scalar) (p : AddressSpace)
       → In (given (value (Ti.ValuePointer z k p)))
   value-pointer-in z k p = (refl, refl)
 
   -- ACCESS
 
-  pub access-component : (base : RowNumber) (k : Scalar) (p : AddressSpace) (z : OptionVectorSize)
+  pub access-component : (base : RowNumber) (k : Scalar) (p : AddressSpace) (z : CodeOption VectorSize)
       → In (access_component base k p z)
-  access-component base k p (Ov.Some z) = value-pointer-in Ov.None k p
-  access-component base k p Ov.None = no-type _ refl
+  access-component base k p (Some z) = value-pointer-in None k p
+  access-component base k p None = no-type _ refl
 
   pub access-into : (base : RowNumber) (t : TypeInner) → BaseInRange s t → In (access_into base t)
   access-into base t w =
@@ -104,8 +99,8 @@ module _ (pass : Pass) (s : Starts) where
       → In (access_through base p t)
   access-through base p t w =
       by-array s In t w (λ b h. pointer_in b p h)
-      (by-vector In t (λ z k. value-pointer-in Ov.None k p)
-      (by-matrix In t (λ c r k. value-pointer-in (Ov.Some r) k p)
+      (by-vector In t (λ z k. value-pointer-in None k p)
+      (by-matrix In t (λ c r k. value-pointer-in (Some r) k p)
       (by-binding-array s In t w (λ b h. pointer_in b p h)
       (no-type _ refl))))
 
@@ -125,11 +120,11 @@ module _ (pass : Pass) (s : Starts) where
   member-pointer base i p (some t) h = pointer_in t p h
   member-pointer base i p none h = no-type _ refl
 
-  pub index-component : (base : RowNumber) (i : ℕ) (k : Scalar) (p : AddressSpace) (z : OptionVectorSize)
+  pub index-component : (base : RowNumber) (i : ℕ) (k : Scalar) (p : AddressSpace) (z : CodeOption VectorSize)
       → In (index_component base i k p z)
-  index-component base i k p (Ov.Some z) = bounded-in base i _ (value (Ti.ValuePointer Ov.None k p))
-      (value-pointer-in Ov.None k p)
-  index-component base i k p Ov.None = no-type _ refl
+  index-component base i k p (Some z) = bounded-in base i _ (value (Ti.ValuePointer None k p))
+      (value-pointer-in None k p)
+  index-component base i k p None = no-type _ refl
 
   pub index-into : (base : RowNumber) (i : ℕ) (members : List TypeNumber) (t : TypeInner) → BaseInRange s t
       → Each (λ t. is_type s t ≡ true) members → In (index_into base i members t)
@@ -148,9 +143,9 @@ module _ (pass : Pass) (s : Starts) where
       → In (index_through base i ty p members t)
   index-through base i ty p members t w all =
       by-array s In t w (λ b h. pointer_in b p h)
-      (by-vector In t (λ z k. bounded-in base i _ (value (Ti.ValuePointer Ov.None k p)) (value-pointer-in Ov.None k p))
-      (by-matrix In t (λ c r k. bounded-in base i _ (value (Ti.ValuePointer (Ov.Some r) k p))
-      (value-pointer-in (Ov.Some r) k p))
+      (by-vector In t (λ z k. bounded-in base i _ (value (Ti.ValuePointer None k p)) (value-pointer-in None k p))
+      (by-matrix In t (λ c r k. bounded-in base i _ (value (Ti.ValuePointer (Some r) k p))
+      (value-pointer-in (Some r) k p))
       (by-struct In t (member-pointer base i p (get_elem? members i) (each_at _ members i all))
       (by-binding-array s In t w (λ b h. pointer_in b p h)
       (no-type _ refl)))))
@@ -181,9 +176,9 @@ module _ (pass : Pass) (s : Starts) where
   variable-in t Sp.RayPayload h = pointer_in t Sp.RayPayload h
   variable-in t Sp.IncomingRayPayload h = pointer_in t Sp.IncomingRayPayload h
 
-  pub pointee-in : (k : Scalar) (z : OptionVectorSize) → In (given (value (value_base z k)))
-  pointee-in k Ov.None = scalar-in k
-  pointee-in k (Ov.Some z) = vector-in z k
+  pub pointee-in : (k : Scalar) (z : CodeOption VectorSize) → In (given (value (value_base z k)))
+  pointee-in k None = scalar-in k
+  pointee-in k (Some z) = vector-in z k
 
   pub load-through : (base : TypeNumber) (t : TypeInner) → is_type s base ≡ true → In (load_through base t)
   load-through base t h = by-atomic In t (λ k. scalar-in k) h
@@ -246,25 +241,25 @@ module _ (pass : Pass) (s : Starts) where
   logical-of t = by_scalar In t (λ k. by-test In (equal_scalars k BOOL) (λ q. scalar-in BOOL) (λ q. no-type _ refl))
       (no-type _ refl)
 
-  pub cast-of : (to : ScalarKind) (convert : OptionBytes) (t : TypeInner) → In (cast_of to convert t)
+  pub cast-of : (to : ScalarKind) (convert : CodeOption Width) (t : TypeInner) → In (cast_of to convert t)
   cast-of to convert t =
       by_scalar In t (λ k. scalar-in k)
       (by-vector In t (λ z k. vector-in z k) (by-matrix In t (λ c r k. matrix-in c r k) (no-type _ refl)))
 
   -- RESULTS
 
-  pub result-of : (r : FunctionResult) → result_names s r ≡ true → In (result_of r)
-  result-of (Fr.Some t) h = h
-  result-of Fr.None h = no-type _ refl
+  pub result-of : (r : CodeOption TypeNumber) → result_names s r ≡ true → In (result_of r)
+  result-of (Some t) h = h
+  result-of None h = no-type _ refl
 
   pub special-in : (t : Option TypeNumber) → IfSome (λ t. is_type s t ≡ true) t → In (special t)
   special-in (some t) h = h
   special-in none h = no-type _ refl
 
-  pub cooperative-of : (c r : CooperativeSize) (o : CooperativeRole) (pointer : RowNumber) (k : OptionScalar)
+  pub cooperative-of : (c r : CooperativeSize) (o : CooperativeRole) (pointer : RowNumber) (k : CodeOption Scalar)
       → In (cooperative_of c r o pointer k)
-  cooperative-of c r o pointer (Os.Some k) = cooperative-in c r k o
-  cooperative-of c r o pointer Os.None = no-type _ refl
+  cooperative-of c r o pointer (Some k) = cooperative-in c r k o
+  cooperative-of c r o pointer None = no-type _ refl
 
 -- IN THE SECOND PASS: what a line of WGSL's tables gives is a scalar, a vector or a matrix
 module _ (s : Starts) where

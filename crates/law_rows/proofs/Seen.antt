@@ -1,5 +1,6 @@
 -- In an accepted file what a row shows, and what a type that is looked into shows, is in range: the items, members and
 -- components that they name are there, and these name types and rows of the file. By the cases of rows and types.
+use Rattle.std.specs.Prelude.{Option, Some, None}
 use Prim.Native.Nat.{ℕ, zero, suc, ◌+◌, ◌-◌, ◌<◌}
 use native.Mathlib.Omega.{arith}
 use mathlib.Core.Path.{◌≡◌, refl, sym, ap, ◌∙◌}
@@ -14,12 +15,8 @@ use Rattle.ir.specs.declared.RowNumber.{RowNumber}
 use Rattle.ir.specs.declared.Item.{Item}
 use Rattle.ir.specs.declared.TypeInner.{TypeInner}
 use Rattle.ir.specs.declared.TypeInner.TheVariants as Ti
-use Rattle.ir.specs.declared.TypeForm.{TypeForm}
-use Rattle.ir.specs.declared.TypeForm.TheVariants as Tf
 use Rattle.ir.specs.declared.Expression.{Expression}
 use Rattle.ir.specs.declared.Expression.TheVariants as Ex
-use Rattle.ir.specs.declared.RowForm.{RowForm}
-use Rattle.ir.specs.declared.RowForm.TheVariants as Ro
 use Rattle.ir.specs.Numbers.{item_kind_of}
 use Rattle.frames.specs.Bytes.{frame_at}
 use Rattle.frames.specs.Forms.{item_as, item_of}
@@ -161,10 +158,10 @@ module _ (fr : List ℕ) (good : Good fr) where
   expression-shows n (Ex.CooperativeLoad c r o m) h = h
   expression-shows n (Ex.CooperativeMultiplyAdd m) h = h
 
-  row_shows : (n : RowNumber) (r : RowForm) → RowThere fr n r
+  row_shows : (n : RowNumber) (r : Option Expression) → RowThere fr n r
       → IfSome (ShownInRange (starts_of fr) n) (see_row fr (starts_of fr) r)
-  row_shows n (Ro.Known e) h = expression-shows n e h
-  row_shows n Ro.Unknown h = tt
+  row_shows n (Some e) h = expression-shows n e h
+  row_shows n None h = tt
 
   -- what a row of the file shows is in range
   pub row_seen : (n : RowNumber) → is_row (starts_of fr) n ≡ true
@@ -178,7 +175,7 @@ module _ (fr : List ℕ) (good : Good fr) where
         (omega (arith, ltb-true n.0 (type_count (starts_of fr)) here))
 
     inner-shows : (t : TypeInner) → InnerThere fr n t
-        → IfSome (FormInRange (starts_of fr)) (see_form fr (starts_of fr) (Tf.Known t))
+        → IfSome (FormInRange (starts_of fr)) (see_form fr (starts_of fr) (Some t))
     inner-shows (Ti.Scalar k) h = record { base = tt; members = tt }
     inner-shows (Ti.Vector z k) h = record { base = tt; members = tt }
     inner-shows (Ti.Matrix c r k) h = record { base = tt; members = tt }
@@ -195,9 +192,10 @@ module _ (fr : List ℕ) (good : Good fr) where
     inner-shows (Ti.RayQuery q) h = record { base = tt; members = tt }
     inner-shows (Ti.BindingArray b z) h = record { base = earlier-type b h.0; members = tt }
 
-    form-shows : (t : TypeForm) → TypeThere fr n t → IfSome (FormInRange (starts_of fr)) (see_form fr (starts_of fr) t)
-    form-shows (Tf.Known t) h = inner-shows t h
-    form-shows Tf.Unknown h = tt
+    form-shows : (t : Option TypeInner) → TypeThere fr n t → IfSome (FormInRange (starts_of fr)) (see_form fr
+        (starts_of fr) t)
+    form-shows (Some t) h = inner-shows t h
+    form-shows None h = tt
 
   -- what a type that a comparison gives neither 5 nor 6 shows is in range
   pub sound-seen : (a : TypeAnswer) → fault_of (starts_of fr) a ≡ Fa.Sound

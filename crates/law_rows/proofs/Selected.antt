@@ -1,9 +1,9 @@
 -- What holds of a selector's outcome: what holds of the case that it treats, and of the rest. By the cases of a type.
+use Rattle.std.specs.Prelude.{Option}
 use mathlib.Core.Path.{◌≡◌}
 use mathlib.Core.Bool.{true}
 use Rattle.ir.specs.declared.TypeNumber.{TypeNumber}
 use Rattle.ir.specs.declared.VectorSize.{VectorSize}
-use Rattle.ir.specs.declared.OptionVectorSize.{OptionVectorSize}
 use Rattle.ir.specs.declared.CooperativeSize.{CooperativeSize}
 use Rattle.ir.specs.declared.CooperativeRole.{CooperativeRole}
 use Rattle.ir.specs.declared.Scalar.{Scalar}
@@ -110,8 +110,8 @@ module _ {X : Type 0} (P : X → Type 0) where
   by-atomic (Ti.RayQuery q) h rest_in = rest_in
   by-atomic (Ti.BindingArray b z) h rest_in = rest_in
 
-  pub by-value-pointer : (t : TypeInner) {f : OptionVectorSize → Scalar → AddressSpace → X} {rest : X}
-      → ((z : OptionVectorSize) (k : Scalar) (p : AddressSpace) → P (f z k p)) → P rest → P (if_value_pointer t f rest)
+  pub by-value-pointer : (t : TypeInner) {f : Option VectorSize → Scalar → AddressSpace → X} {rest : X}
+      → ((z : Option VectorSize) (k : Scalar) (p : AddressSpace) → P (f z k p)) → P rest → P (if_value_pointer t f rest)
   by-value-pointer (Ti.Scalar k) h rest_in = rest_in
   by-value-pointer (Ti.Vector z k) h rest_in = rest_in
   by-value-pointer (Ti.Matrix c j k) h rest_in = rest_in

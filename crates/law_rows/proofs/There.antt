@@ -1,5 +1,6 @@
 -- What a row and a type name, as statements of a file's frames: each number and range leads to frames of the right
 -- family and kind, and each row or type that must be earlier is (document 01, "The file"). Definitions alone.
+use Rattle.std.specs.Prelude.{Option, Some, None}
 use Prim.Native.Nat.{ℕ, ◌+◌, ◌-◌, ◌<◌}
 use mathlib.Core.Path.{◌≡◌}
 use mathlib.Core.Bool.{true}
@@ -8,12 +9,8 @@ use Rattle.ir.specs.declared.TypeNumber.{TypeNumber}
 use Rattle.ir.specs.declared.RowNumber.{RowNumber}
 use Rattle.ir.specs.declared.TypeInner.{TypeInner}
 use Rattle.ir.specs.declared.TypeInner.TheVariants as Ti
-use Rattle.ir.specs.declared.TypeForm.{TypeForm}
-use Rattle.ir.specs.declared.TypeForm.TheVariants as Tf
 use Rattle.ir.specs.declared.Expression.{Expression}
 use Rattle.ir.specs.declared.Expression.TheVariants as Ex
-use Rattle.ir.specs.declared.RowForm.{RowForm}
-use Rattle.ir.specs.declared.RowForm.TheVariants as Ro
 use Rattle.frames.specs.Bytes.{frame_at}
 use Rattle.frames.specs.Forms.{member_of, component_of}
 use Rattle.archive.specs.declared.Starts.{Starts}
@@ -51,9 +48,9 @@ InnerThere fr n (Ti.AccelerationStructure q) = Unit {0}
 InnerThere fr n (Ti.RayQuery q) = Unit {0}
 InnerThere fr n (Ti.BindingArray b z) = (b.0 < n.0) × (size_names (starts_of fr) z ≡ true)
 
-abbrev pub TypeThere : List ℕ → TypeNumber → TypeForm → Type 0
-TypeThere fr n (Tf.Known t) = InnerThere fr n t
-TypeThere fr n Tf.Unknown = Unit {0}
+abbrev pub TypeThere : List ℕ → TypeNumber → Option TypeInner → Type 0
+TypeThere fr n (Some t) = InnerThere fr n t
+TypeThere fr n None = Unit {0}
 
 -- ROWS: an operand is earlier than row n, an item is of its kind, a type is of the file, and a compose's range holds
 -- components. An argument index is free, and a special type may be missing; so of these only what is there.
@@ -97,9 +94,9 @@ ExpressionThere fr n (Ex.SubgroupOperationResult t) = is_type (starts_of fr) t �
 ExpressionThere fr n (Ex.CooperativeLoad c r o m) = m.0 < n.0
 ExpressionThere fr n (Ex.CooperativeMultiplyAdd m) = m.0 < n.0
 
-abbrev pub RowThere : List ℕ → RowNumber → RowForm → Type 0
-RowThere fr n (Ro.Known e) = ExpressionThere fr n e
-RowThere fr n Ro.Unknown = Unit {0}
+abbrev pub RowThere : List ℕ → RowNumber → Option Expression → Type 0
+RowThere fr n (Some e) = ExpressionThere fr n e
+RowThere fr n None = Unit {0}
 
 -- WHAT A ROW SHOWS is in range: its types are types of the file, the rows that it reads are earlier than row n, and so
 -- are its components

@@ -1,6 +1,7 @@
 -- `fault-ordered`: the first of the three causes that holds is the one that the tests find. What has a cause of 43 or
 -- 44 is in the list, and a type has no more than one alignment and size, so that a stride that stands well at one
 -- breaks no rule at another.
+use Rattle.std.specs.Prelude.{Some}
 use Prim.Native.Nat.{ℕ, ◌<◌}
 use native.Mathlib.Omega.{arith}
 use mathlib.Core.Path.{◌≡◌, refl, sym, ◌∙◌}
@@ -12,7 +13,6 @@ use Rattle.ir.specs.declared.TypeNumber.{TypeNumber}
 use Rattle.ir.specs.declared.MemberNumber.{MemberNumber}
 use Rattle.ir.specs.declared.ArraySize.TheVariants as As
 use Rattle.ir.specs.declared.TypeInner.TheVariants as Ti
-use Rattle.ir.specs.declared.TypeForm.TheVariants as Tf
 use Rattle.archive.specs.Access.{type_at}
 use Rattle.law_rows.proofs.Good.{Good}
 use Rattle.rule_sizes.specs.declared.Alignment.{Alignment}
@@ -48,20 +48,20 @@ before-44 C o b Huge l h = omega (arith, l)
 
 module _ (fr : List ℕ) (good : Good fr) where
   -- what is an array or a struct with members is in the list
-  array-in : (n b : TypeNumber) (count stride : ℕ) → type_at fr n ≡ Tf.Known (Ti.Array b (As.Constant count) stride)
+  array-in : (n b : TypeNumber) (count stride : ℕ) → type_at fr n ≡ Some (Ti.Array b (As.Constant count) stride)
       → Outside fr n → ⊥
   array-in n b count stride e h = h (rw e (Listed.array b count stride))
 
   struct-in : (n : TypeNumber) (first : MemberNumber) (count span : ℕ)
-      → type_at fr n ≡ Tf.Known (Ti.Struct first count span) → 0 < count → Outside fr n → ⊥
+      → type_at fr n ≡ Some (Ti.Struct first count span) → 0 < count → Outside fr n → ⊥
   struct-in n first count span e l h = h (rw e (Listed.struct first count span l))
 
   -- a stride that stands well for an element's alignment and size breaks no rule
   stands-well : (n b : TypeNumber) (count stride : ℕ) (a : Alignment) (z : ℕ)
-      → type_at fr n ≡ Tf.Known (Ti.Array b (As.Constant count) stride) → Has fr b a z → Strided a z stride
+      → type_at fr n ≡ Some (Ti.Array b (As.Constant count) stride) → Has fr b a z → Strided a z stride
       → Breaks fr n → ⊥
   stands-well n b count stride a z e h s (Breaks.stride m c count' stride' a' z' e' h' s') =
-      let q : Tf.Known (Ti.Array b (As.Constant count) stride) ≡ Tf.Known (Ti.Array c (As.Constant count') stride')
+      let q : Some (Ti.Array b (As.Constant count) stride) ≡ Some (Ti.Array c (As.Constant count') stride')
       = sym e ∙ e' in
       let p : b ≡ c = cc in
       let r : stride ≡ stride' = cc in

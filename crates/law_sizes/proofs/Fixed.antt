@@ -1,5 +1,7 @@
 -- In an accepted file a type names earlier types only, so what a type fills is worked out from what the types it
 -- names fill.
+use Rattle.std.specs.Prelude.{Option, Some, None}
+use Rattle.ir.specs.declared.TypeInner.{TypeInner}
 use Prim.Native.Nat.{ℕ, zero, suc, ◌<◌}
 use native.Mathlib.Omega.{arith}
 use mathlib.Core.Path.{◌≡◌, refl, sym, ap}
@@ -10,8 +12,6 @@ use Rattle.ir.specs.declared.MemberNumber.{MemberNumber}
 use Rattle.ir.specs.declared.ArraySize.{ArraySize}
 use Rattle.ir.specs.declared.ArraySize.TheVariants as As
 use Rattle.ir.specs.declared.TypeInner.TheVariants as Ti
-use Rattle.ir.specs.declared.TypeForm.{TypeForm}
-use Rattle.ir.specs.declared.TypeForm.TheVariants as Tf
 use Rattle.archive.specs.Starts.{starts_of}
 use Rattle.archive.specs.Names.{is_type}
 use Rattle.archive.specs.Access.{type_in, type_at}
@@ -25,12 +25,12 @@ use Rattle.rule_sizes.proofs.Laws.{look-earlier}
 
 module _ (fr : List ℕ) where
   -- THE PARTS of a type: the element of an array, the members of a struct
-  pub data PartOf : TypeForm → TypeNumber → Type 0 where
-    element : (b : TypeNumber) (z : ArraySize) (stride : ℕ) → PartOf (Tf.Known (Ti.Array b z stride)) b
+  pub data PartOf : Option TypeInner → TypeNumber → Type 0 where
+    element : (b : TypeNumber) (z : ArraySize) (stride : ℕ) → PartOf (Some (Ti.Array b z stride)) b
     part : (first : MemberNumber) (count span i : ℕ) → i < count
-        → PartOf (Tf.Known (Ti.Struct first count span)) (struct_member fr first i).ty
+        → PartOf (Some (Ti.Struct first count span)) (struct_member fr first i).ty
 
-  part-early : (n : TypeNumber) (t : TypeForm) (b : TypeNumber) → TypeThere fr n t → PartOf t b → b.0 < n.0
+  part-early : (n : TypeNumber) (t : Option TypeInner) (b : TypeNumber) → TypeThere fr n t → PartOf t b → b.0 < n.0
   part-early n t b h (PartOf.element e z stride) = h.0
   part-early n t b h (PartOf.part first count span i l) = (h i l).early
 
@@ -48,24 +48,24 @@ module _ (fr : List ℕ) where
     array-alike n b (As.Pending o) t e = refl
     array-alike n b As.Dynamic t e = refl
 
-    pub form-alike : (n : TypeNumber) (t : TypeForm) → ((b : TypeNumber) → PartOf t b → f b ≡ g b)
+    pub form-alike : (n : TypeNumber) (t : Option TypeInner) → ((b : TypeNumber) → PartOf t b → f b ≡ g b)
         → of_form fr (starts_of fr) f n t ≡ of_form fr (starts_of fr) g n t
-    form-alike n (Tf.Known (Ti.Scalar k)) h = refl
-    form-alike n (Tf.Known (Ti.Vector z k)) h = refl
-    form-alike n (Tf.Known (Ti.Matrix c r k)) h = refl
-    form-alike n (Tf.Known (Ti.CooperativeMatrix c r k o)) h = refl
-    form-alike n (Tf.Known (Ti.Atomic k)) h = refl
-    form-alike n (Tf.Known (Ti.Pointer b p)) h = refl
-    form-alike n (Tf.Known (Ti.ValuePointer z k p)) h = refl
-    form-alike n (Tf.Known (Ti.Array b z t)) h = array-alike n b z t (h b (PartOf.element b z t))
-    form-alike n (Tf.Known (Ti.Struct m j t)) h =
+    form-alike n (Some (Ti.Scalar k)) h = refl
+    form-alike n (Some (Ti.Vector z k)) h = refl
+    form-alike n (Some (Ti.Matrix c r k)) h = refl
+    form-alike n (Some (Ti.CooperativeMatrix c r k o)) h = refl
+    form-alike n (Some (Ti.Atomic k)) h = refl
+    form-alike n (Some (Ti.Pointer b p)) h = refl
+    form-alike n (Some (Ti.ValuePointer z k p)) h = refl
+    form-alike n (Some (Ti.Array b z t)) h = array-alike n b z t (h b (PartOf.element b z t))
+    form-alike n (Some (Ti.Struct m j t)) h =
         ap (λ (p : Parts). struct_of n p j t) (parts-alike m j (λ i l. h _ (PartOf.part m j t i l)))
-    form-alike n (Tf.Known (Ti.Image d a c)) h = refl
-    form-alike n (Tf.Known (Ti.Sampler q)) h = refl
-    form-alike n (Tf.Known (Ti.AccelerationStructure q)) h = refl
-    form-alike n (Tf.Known (Ti.RayQuery q)) h = refl
-    form-alike n (Tf.Known (Ti.BindingArray b z)) h = refl
-    form-alike n Tf.Unknown h = refl
+    form-alike n (Some (Ti.Image d a c)) h = refl
+    form-alike n (Some (Ti.Sampler q)) h = refl
+    form-alike n (Some (Ti.AccelerationStructure q)) h = refl
+    form-alike n (Some (Ti.RayQuery q)) h = refl
+    form-alike n (Some (Ti.BindingArray b z)) h = refl
+    form-alike n None h = refl
 
 module _ (fr : List ℕ) (good : Good fr) where
   -- what type n fills
@@ -74,7 +74,7 @@ module _ (fr : List ℕ) (good : Good fr) where
 
   -- what a type names is there and earlier; of a number past the types nothing is asked
 
-  none : (n : TypeNumber) → is_type (starts_of fr) n ≡ false → type_at fr n ≡ Tf.Unknown
+  none : (n : TypeNumber) → is_type (starts_of fr) n ≡ false → type_at fr n ≡ None
   unfolding type_in
   none n e = rw e
 

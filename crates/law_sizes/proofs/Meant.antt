@@ -1,5 +1,6 @@
 -- What is worked out means what it says: a type has the alignment and size that it is given; the fault that it is
 -- given is the named type's own, and the type rests on that type. By the form of the type, over the earlier types.
+use Rattle.std.specs.Prelude.{Option, Some, None}
 use Prim.Native.Nat.{ℕ, zero, suc, ◌*◌, ◌<◌}
 use native.Mathlib.Omega.{arith}
 use mathlib.Core.Path.{◌≡◌, refl, sym, ◌∙◌}
@@ -16,15 +17,11 @@ use Rattle.ir.specs.declared.ArraySize.{ArraySize}
 use Rattle.ir.specs.declared.ArraySize.TheVariants as As
 use Rattle.ir.specs.declared.TypeInner.{TypeInner}
 use Rattle.ir.specs.declared.TypeInner.TheVariants as Ti
-use Rattle.ir.specs.declared.TypeForm.{TypeForm}
-use Rattle.ir.specs.declared.TypeForm.TheVariants as Tf
 use Rattle.archive.specs.Starts.{starts_of}
 use Rattle.archive.specs.Access.{type_at}
 use Rattle.law_rows.proofs.Good.{Good}
 use Rattle.law_rows.proofs.There.{TypeThere, InnerThere}
 use Rattle.rule_sizes.specs.declared.Alignment.{Alignment}
-use Rattle.rule_sizes.specs.declared.OptionAlignment.{OptionAlignment}
-use Rattle.rule_sizes.specs.declared.OptionAlignment.TheVariants as Oa
 use Rattle.rule_sizes.specs.declared.SizeFault.{SizeFault}
 use Rattle.rule_sizes.specs.declared.SizeFault.TheVariants.{Unmeasured, Misplaced, Huge}
 use Rattle.rule_sizes.specs.declared.Measure.{Measure}
@@ -44,26 +41,26 @@ use Rattle.law_sizes.proofs.Ordered.{Ordered}
 
 -- WHAT IS IN THE LIST, by each form that may be outside it
 
-abbrev IsListed : TypeForm → Type 0
-IsListed (Tf.Known (Ti.Scalar k)) = (a : Alignment) × Number k a
-IsListed (Tf.Known (Ti.Vector z k)) = (a : Alignment) × Number k a
-IsListed (Tf.Known (Ti.Matrix c r k)) = (a : Alignment) × Float k a
-IsListed (Tf.Known (Ti.CooperativeMatrix c r k o)) = ⊥
-IsListed (Tf.Known (Ti.Atomic k)) = (a : Alignment) × Integer k a
-IsListed (Tf.Known (Ti.Pointer b p)) = ⊥
-IsListed (Tf.Known (Ti.ValuePointer z k p)) = ⊥
-IsListed (Tf.Known (Ti.Array b (As.Constant c) t)) = Unit {0}
-IsListed (Tf.Known (Ti.Array b (As.Pending o) t)) = ⊥
-IsListed (Tf.Known (Ti.Array b As.Dynamic t)) = ⊥
-IsListed (Tf.Known (Ti.Struct m j t)) = 0 < j
-IsListed (Tf.Known (Ti.Image d a c)) = ⊥
-IsListed (Tf.Known (Ti.Sampler q)) = ⊥
-IsListed (Tf.Known (Ti.AccelerationStructure q)) = ⊥
-IsListed (Tf.Known (Ti.RayQuery q)) = ⊥
-IsListed (Tf.Known (Ti.BindingArray b z)) = ⊥
-IsListed Tf.Unknown = ⊥
+abbrev IsListed : Option TypeInner → Type 0
+IsListed (Some (Ti.Scalar k)) = (a : Alignment) × Number k a
+IsListed (Some (Ti.Vector z k)) = (a : Alignment) × Number k a
+IsListed (Some (Ti.Matrix c r k)) = (a : Alignment) × Float k a
+IsListed (Some (Ti.CooperativeMatrix c r k o)) = ⊥
+IsListed (Some (Ti.Atomic k)) = (a : Alignment) × Integer k a
+IsListed (Some (Ti.Pointer b p)) = ⊥
+IsListed (Some (Ti.ValuePointer z k p)) = ⊥
+IsListed (Some (Ti.Array b (As.Constant c) t)) = Unit {0}
+IsListed (Some (Ti.Array b (As.Pending o) t)) = ⊥
+IsListed (Some (Ti.Array b As.Dynamic t)) = ⊥
+IsListed (Some (Ti.Struct m j t)) = 0 < j
+IsListed (Some (Ti.Image d a c)) = ⊥
+IsListed (Some (Ti.Sampler q)) = ⊥
+IsListed (Some (Ti.AccelerationStructure q)) = ⊥
+IsListed (Some (Ti.RayQuery q)) = ⊥
+IsListed (Some (Ti.BindingArray b z)) = ⊥
+IsListed None = ⊥
 
-pub is-listed : (t : TypeForm) → Listed t → IsListed t
+pub is-listed : (t : Option TypeInner) → Listed t → IsListed t
 is-listed t (Listed.scalar k a h) = (a, h)
 is-listed t (Listed.vector z k a h) = (a, h)
 is-listed t (Listed.matrix c r k a h) = (a, h)
@@ -71,7 +68,7 @@ is-listed t (Listed.atomic k a h) = (a, h)
 is-listed t (Listed.array b c s) = tt
 is-listed t (Listed.struct m j s h) = h
 
-none-some : {X : Type 0} (a : Alignment) → Oa.None ≡ Oa.Some a → X
+none-some : {X : Type 0} (a : Alignment) → None ≡ Some a → X
 none-some a e = never (cc)
 
 module _ (fr : List ℕ) where
@@ -85,34 +82,35 @@ module _ (fr : List ℕ) where
   own n k h = (RestsOn.itself n, h)
 
   -- outside the list
-  out : (n : TypeNumber) (t : TypeForm) → type_at fr n ≡ t → (IsListed t → ⊥) → RestsOn fr n n × Ordered fr n Unmeasured
+  out : (n : TypeNumber) (t : Option TypeInner) → type_at fr n ≡ t → (IsListed t → ⊥)
+      → RestsOn fr n n × Ordered fr n Unmeasured
   out n t e h = own n Unmeasured (Ordered.outside n (λ l. h (rw e at (is-listed (type_at fr n) l))))
 
   -- TYPES THAT NAME NONE
 
-  scalar-meant : (n : TypeNumber) (k : Scalar) → type_at fr n ≡ Tf.Known (Ti.Scalar k) → (o : OptionAlignment)
+  scalar-meant : (n : TypeNumber) (k : Scalar) → type_at fr n ≡ Some (Ti.Scalar k) → (o : Option Alignment)
       → number_align k ≡ o → Given Number k o
       → Meant n (scalar_measure n o)
-  scalar-meant n k e (Oa.Some a) q h = Has.scalar n k a e h
-  scalar-meant n k e Oa.None q h = out n _ e (λ l. none-some l.0 (sym q ∙ number-has k l.0 l.1))
+  scalar-meant n k e (Some a) q h = Has.scalar n k a e h
+  scalar-meant n k e None q h = out n _ e (λ l. none-some l.0 (sym q ∙ number-has k l.0 l.1))
 
-  vector-meant : (n : TypeNumber) (z : VectorSize) (k : Scalar) → type_at fr n ≡ Tf.Known (Ti.Vector z k)
-      → (o : OptionAlignment) → number_align k ≡ o
+  vector-meant : (n : TypeNumber) (z : VectorSize) (k : Scalar) → type_at fr n ≡ Some (Ti.Vector z k)
+      → (o : Option Alignment) → number_align k ≡ o
       → Given Number k o → Meant n (vector_measure n z o)
-  vector-meant n z k e (Oa.Some a) q h = Has.vector n z k a e h
-  vector-meant n z k e Oa.None q h = out n _ e (λ l. none-some l.0 (sym q ∙ number-has k l.0 l.1))
+  vector-meant n z k e (Some a) q h = Has.vector n z k a e h
+  vector-meant n z k e None q h = out n _ e (λ l. none-some l.0 (sym q ∙ number-has k l.0 l.1))
 
-  matrix-meant : (n : TypeNumber) (c r : VectorSize) (k : Scalar) → type_at fr n ≡ Tf.Known (Ti.Matrix c r k)
-      → (o : OptionAlignment)
+  matrix-meant : (n : TypeNumber) (c r : VectorSize) (k : Scalar) → type_at fr n ≡ Some (Ti.Matrix c r k)
+      → (o : Option Alignment)
       → float_align k ≡ o → Given Float k o → Meant n (matrix_measure n c r o)
-  matrix-meant n c r k e (Oa.Some a) q h = Has.matrix n c r k a e h
-  matrix-meant n c r k e Oa.None q h = out n _ e (λ l. none-some l.0 (sym q ∙ float-has k l.0 l.1))
+  matrix-meant n c r k e (Some a) q h = Has.matrix n c r k a e h
+  matrix-meant n c r k e None q h = out n _ e (λ l. none-some l.0 (sym q ∙ float-has k l.0 l.1))
 
-  atomic-meant : (n : TypeNumber) (k : Scalar) → type_at fr n ≡ Tf.Known (Ti.Atomic k) → (o : OptionAlignment)
+  atomic-meant : (n : TypeNumber) (k : Scalar) → type_at fr n ≡ Some (Ti.Atomic k) → (o : Option Alignment)
       → integer_align k ≡ o → Given Integer k o
       → Meant n (scalar_measure n o)
-  atomic-meant n k e (Oa.Some a) q h = Has.atomic n k a e h
-  atomic-meant n k e Oa.None q h = out n _ e (λ l. none-some l.0 (sym q ∙ integer-has k l.0 l.1))
+  atomic-meant n k e (Some a) q h = Has.atomic n k a e h
+  atomic-meant n k e None q h = out n _ e (λ l. none-some l.0 (sym q ∙ integer-has k l.0 l.1))
 
   -- AN ARRAY
 
@@ -127,7 +125,7 @@ module _ (fr : List ℕ) where
   pub strided-is : (a : Alignment) (z stride : ℕ) → Strided a z stride → (is_multiple a stride && leb z stride) ≡ true
   strided-is a z stride s = rw (s.multiple, le-leb z stride s.holds)
 
-  array-meant : (n b : TypeNumber) (count stride : ℕ) → type_at fr n ≡ Tf.Known (Ti.Array b (As.Constant count) stride)
+  array-meant : (n b : TypeNumber) (count stride : ℕ) → type_at fr n ≡ Some (Ti.Array b (As.Constant count) stride)
       → (m : Measure) → Meant b m
       → Meant n (array_of n m count stride)
   unfolding array_of
@@ -142,7 +140,7 @@ module _ (fr : List ℕ) where
       (Ordered.stride n b count stride a z e h (λ s. never (let x = sym q ∙ strided-is a z stride s in cc))))
 
   sized-meant : (n b : TypeNumber) (z : ArraySize) (stride : ℕ) (f : TypeNumber → Measure)
-      → type_at fr n ≡ Tf.Known (Ti.Array b z stride) → Meant b (f b)
+      → type_at fr n ≡ Some (Ti.Array b z stride) → Meant b (f b)
       → Meant n (sized_array n f b z stride)
   sized-meant n b (As.Constant c) stride f e h = array-meant n b c stride e (f b) h
   sized-meant n b (As.Pending o) stride f e h = out n _ e (λ l. l)
@@ -150,7 +148,7 @@ module _ (fr : List ℕ) where
 
   -- A STRUCT
   module _ (n : TypeNumber) (first : MemberNumber) (count span : ℕ)
-      (e : type_at fr n ≡ Tf.Known (Ti.Struct first count span))
+      (e : type_at fr n ≡ Some (Ti.Struct first count span))
       (f : TypeNumber → Measure)
       (h : (i : ℕ) → i < count → Meant (struct_member fr first i).ty (f (struct_member fr first i).ty)) where
     abbrev aligns : ℕ → Alignment
@@ -195,7 +193,7 @@ module _ (fr : List ℕ) where
         positive (suc c) d = omega arith
 
   -- ANY TYPE
-  inner-meant : (n : TypeNumber) (t : TypeInner) (f : TypeNumber → Measure) → type_at fr n ≡ Tf.Known t
+  inner-meant : (n : TypeNumber) (t : TypeInner) (f : TypeNumber → Measure) → type_at fr n ≡ Some t
       → InnerThere fr n t
       → ((b : TypeNumber) → b.0 < n.0 → Meant b (f b)) → Meant n (of_inner fr (starts_of fr) f n t)
   inner-meant n (Ti.Scalar k) f e h ih = scalar-meant n k e (number_align k) refl (number-given k)
@@ -213,10 +211,10 @@ module _ (fr : List ℕ) where
   inner-meant n (Ti.RayQuery q) f e h ih = out n _ e (λ l. l)
   inner-meant n (Ti.BindingArray b z) f e h ih = out n _ e (λ l. l)
 
-  form-meant : (n : TypeNumber) (t : TypeForm) (f : TypeNumber → Measure) → type_at fr n ≡ t → TypeThere fr n t
+  form-meant : (n : TypeNumber) (t : Option TypeInner) (f : TypeNumber → Measure) → type_at fr n ≡ t → TypeThere fr n t
       → ((b : TypeNumber) → b.0 < n.0 → Meant b (f b)) → Meant n (of_form fr (starts_of fr) f n t)
-  form-meant n (Tf.Known t) f e h ih = inner-meant n t f e h ih
-  form-meant n Tf.Unknown f e h ih = out n Tf.Unknown e (λ l. l)
+  form-meant n (Some t) f e h ih = inner-meant n t f e h ih
+  form-meant n None f e h ih = out n None e (λ l. l)
 
   module _ (good : Good fr) where
     below : (limit : ℕ) (n : TypeNumber) → n.0 < limit → Meant n (measure_in fr (starts_of fr) n)

@@ -1,5 +1,6 @@
 -- What a type has, and a number of its own, is what is worked out of it; and where it rests on a type with a number of
 -- its own, it is refused there or at a lower one. By the form of the type.
+use Rattle.std.specs.Prelude.{Option, Some, None}
 use Prim.Native.Nat.{ℕ, zero, suc, ◌*◌, ◌≤◌, ◌<◌}
 use native.Mathlib.Omega.{arith}
 use mathlib.Core.Path.{◌≡◌, refl, ap, ◌∙◌}
@@ -14,14 +15,10 @@ use Rattle.ir.specs.declared.Scalar.{Scalar}
 use Rattle.ir.specs.declared.ArraySize.TheVariants as As
 use Rattle.ir.specs.declared.TypeInner.{TypeInner}
 use Rattle.ir.specs.declared.TypeInner.TheVariants as Ti
-use Rattle.ir.specs.declared.TypeForm.{TypeForm}
-use Rattle.ir.specs.declared.TypeForm.TheVariants as Tf
 use Rattle.archive.specs.Starts.{starts_of}
 use Rattle.archive.specs.Access.{type_at}
 use Rattle.law_rows.proofs.Good.{Good}
 use Rattle.rule_sizes.specs.declared.Alignment.{Alignment}
-use Rattle.rule_sizes.specs.declared.OptionAlignment.{OptionAlignment}
-use Rattle.rule_sizes.specs.declared.OptionAlignment.TheVariants as Oa
 use Rattle.rule_sizes.specs.declared.SizeFault.{SizeFault}
 use Rattle.rule_sizes.specs.declared.SizeFault.TheVariants.{Unmeasured, Misplaced}
 use Rattle.rule_sizes.specs.declared.Measure.{Measure}
@@ -46,38 +43,38 @@ untrue false h = refl
 
 -- OUTSIDE THE LIST is number 42
 
-scalar-out : (n : TypeNumber) (k : Scalar) (o : OptionAlignment) → Given Number k o
-    → (Listed (Tf.Known (Ti.Scalar k)) → ⊥)
+scalar-out : (n : TypeNumber) (k : Scalar) (o : Option Alignment) → Given Number k o
+    → (Listed (Some (Ti.Scalar k)) → ⊥)
     → scalar_measure n o ≡ Faulty Unmeasured n
-scalar-out n k (Oa.Some a) g h = absurd (h (Listed.scalar k a g))
-scalar-out n k Oa.None g h = refl
+scalar-out n k (Some a) g h = absurd (h (Listed.scalar k a g))
+scalar-out n k None g h = refl
 
-vector-out : (n : TypeNumber) (z : VectorSize) (k : Scalar) (o : OptionAlignment) → Given Number k o
-    → (Listed (Tf.Known (Ti.Vector z k)) → ⊥)
+vector-out : (n : TypeNumber) (z : VectorSize) (k : Scalar) (o : Option Alignment) → Given Number k o
+    → (Listed (Some (Ti.Vector z k)) → ⊥)
     → vector_measure n z o ≡ Faulty Unmeasured n
-vector-out n z k (Oa.Some a) g h = absurd (h (Listed.vector z k a g))
-vector-out n z k Oa.None g h = refl
+vector-out n z k (Some a) g h = absurd (h (Listed.vector z k a g))
+vector-out n z k None g h = refl
 
-matrix-out : (n : TypeNumber) (c r : VectorSize) (k : Scalar) (o : OptionAlignment) → Given Float k o
-    → (Listed (Tf.Known (Ti.Matrix c r k)) → ⊥)
+matrix-out : (n : TypeNumber) (c r : VectorSize) (k : Scalar) (o : Option Alignment) → Given Float k o
+    → (Listed (Some (Ti.Matrix c r k)) → ⊥)
     → matrix_measure n c r o ≡ Faulty Unmeasured n
-matrix-out n c r k (Oa.Some a) g h = absurd (h (Listed.matrix c r k a g))
-matrix-out n c r k Oa.None g h = refl
+matrix-out n c r k (Some a) g h = absurd (h (Listed.matrix c r k a g))
+matrix-out n c r k None g h = refl
 
-atomic-out : (n : TypeNumber) (k : Scalar) (o : OptionAlignment) → Given Integer k o
-    → (Listed (Tf.Known (Ti.Atomic k)) → ⊥)
+atomic-out : (n : TypeNumber) (k : Scalar) (o : Option Alignment) → Given Integer k o
+    → (Listed (Some (Ti.Atomic k)) → ⊥)
     → scalar_measure n o ≡ Faulty Unmeasured n
-atomic-out n k (Oa.Some a) g h = absurd (h (Listed.atomic k a g))
-atomic-out n k Oa.None g h = refl
+atomic-out n k (Some a) g h = absurd (h (Listed.atomic k a g))
+atomic-out n k None g h = refl
 
 module _ (fr : List ℕ) (f : TypeNumber → Measure) (n : TypeNumber) where
-  struct-out : (m : MemberNumber) (j t : ℕ) → (Listed (Tf.Known (Ti.Struct m j t)) → ⊥)
+  struct-out : (m : MemberNumber) (j t : ℕ) → (Listed (Some (Ti.Struct m j t)) → ⊥)
       → struct_of n (parts_of fr (starts_of fr) f m j) j t ≡ Faulty Unmeasured n
   unfolding struct_of
   struct-out m zero t h = refl
   struct-out m (suc j) t h = absurd (h (Listed.struct m (suc j) t (omega arith)))
 
-  inner_out : (t : TypeInner) → (Listed (Tf.Known t) → ⊥) → of_inner fr (starts_of fr) f n t ≡ Faulty Unmeasured n
+  inner_out : (t : TypeInner) → (Listed (Some t) → ⊥) → of_inner fr (starts_of fr) f n t ≡ Faulty Unmeasured n
   inner_out (Ti.Scalar k) h = scalar-out n k (number_align k) (number-given k) h
   inner_out (Ti.Vector z k) h = vector-out n z k (number_align k) (number-given k) h
   inner_out (Ti.Matrix c r k) h = matrix-out n c r k (float_align k) (float-given k) h
@@ -95,17 +92,17 @@ module _ (fr : List ℕ) (f : TypeNumber → Measure) (n : TypeNumber) where
   inner_out (Ti.RayQuery q) h = refl
   inner_out (Ti.BindingArray b z) h = refl
 
-  form-out : (t : TypeForm) → (Listed t → ⊥) → of_form fr (starts_of fr) f n t ≡ Faulty Unmeasured n
-  form-out (Tf.Known t) h = inner_out t h
-  form-out Tf.Unknown h = refl
+  form-out : (t : Option TypeInner) → (Listed t → ⊥) → of_form fr (starts_of fr) f n t ≡ Faulty Unmeasured n
+  form-out (Some t) h = inner_out t h
+  form-out None h = refl
 
 module _ (fr : List ℕ) (good : Good fr) where
   -- a type of this form
-  of-form : (n : TypeNumber) (t : TypeForm) → type_at fr n ≡ t
+  of-form : (n : TypeNumber) (t : Option TypeInner) → type_at fr n ≡ t
       → measure_in fr (starts_of fr) n ≡ of_form fr (starts_of fr) (measure_in fr (starts_of fr)) n t
   of-form n t e = fixed fr good n ∙ ap (of_form fr (starts_of fr) (measure_in fr (starts_of fr)) n) e
 
-  of_array : (n b : TypeNumber) (count stride : ℕ) → type_at fr n ≡ Tf.Known (Ti.Array b (As.Constant count) stride)
+  of_array : (n b : TypeNumber) (count stride : ℕ) → type_at fr n ≡ Some (Ti.Array b (As.Constant count) stride)
       → (m : Measure)
       → measure_in fr (starts_of fr) b ≡ m → measure_in fr (starts_of fr) n ≡ array_of n m count stride
   of_array n b count stride e m h = of-form n _ e ∙ ap (λ (x : Measure). array_of n x count stride) h
@@ -114,7 +111,7 @@ module _ (fr : List ℕ) (good : Good fr) where
   positive count l = ne_eqb count 0 (λ e. omega arith)
 
   of_struct : (n : TypeNumber) (first : MemberNumber) (count span : ℕ)
-      → type_at fr n ≡ Tf.Known (Ti.Struct first count span) → 0 < count
+      → type_at fr n ≡ Some (Ti.Struct first count span) → 0 < count
       → measure_in fr (starts_of fr) n
       ≡ spanned n (parts_of fr (starts_of fr) (measure_in fr (starts_of fr)) first count) span
   unfolding struct_of
@@ -123,7 +120,7 @@ module _ (fr : List ℕ) (good : Good fr) where
   -- a struct whose members have sizes, by the test of their places
   of_members : (n : TypeNumber) (first : MemberNumber) (count span : ℕ) (aligns : ℕ → Alignment) (sizes : ℕ → ℕ)
       (a : Alignment)
-      → type_at fr n ≡ Tf.Known (Ti.Struct first count span)
+      → type_at fr n ≡ Some (Ti.Struct first count span)
       → ((i : ℕ) → i < count → measure_in fr (starts_of fr) (struct_member fr first i).ty ≡ Fills (aligns i) (sizes i))
       → Greatest aligns count a
       → measure_in fr (starts_of fr) n

@@ -1,5 +1,7 @@
 -- A size is the source's own (`TypeInner::try_size`, proc/type_methods.rs, lines 230 to 284) wherever a type has one,
 -- but for the source's upper limit. By the forms of the list.
+use Rattle.std.specs.Prelude.{Option as CodeOption, Some, None}
+use Rattle.ir.specs.declared.TypeInner.{TypeInner}
 use Prim.Native.Nat.{ℕ, ◌*◌}
 use mathlib.Core.Path.{◌≡◌, refl, ap, ◌∙◌}
 use mathlib.Core.List.{List}
@@ -11,8 +13,6 @@ use Rattle.ir.specs.declared.Scalar.{Scalar}
 use Rattle.ir.specs.declared.ArraySize.{ArraySize}
 use Rattle.ir.specs.declared.ArraySize.TheVariants as As
 use Rattle.ir.specs.declared.TypeInner.TheVariants as Ti
-use Rattle.ir.specs.declared.TypeForm.{TypeForm}
-use Rattle.ir.specs.declared.TypeForm.TheVariants as Tf
 use Rattle.ir.specs.Numbers.{width_number, vector_size_number}
 use Rattle.archive.specs.Access.{type_at}
 use Rattle.rule_sizes.specs.declared.Alignment.{Alignment}
@@ -26,22 +26,22 @@ array_size (As.Pending o) stride = some 0
 array_size As.Dynamic stride = some stride
 
 -- the source's size of the forms that the list has; matrices are treated as arrays of aligned columns
-abbrev pub source_size : TypeForm → Option ℕ
-source_size (Tf.Known (Ti.Scalar k)) = some (width_number k.width)
-source_size (Tf.Known (Ti.Vector z k)) = some (vector_size_number z * width_number k.width)
-source_size (Tf.Known (Ti.Matrix c r k)) = some (align_count r * width_number k.width * vector_size_number c)
-source_size (Tf.Known (Ti.CooperativeMatrix c r k o)) = none
-source_size (Tf.Known (Ti.Atomic k)) = some (width_number k.width)
-source_size (Tf.Known (Ti.Pointer b p)) = none
-source_size (Tf.Known (Ti.ValuePointer z k p)) = none
-source_size (Tf.Known (Ti.Array b z t)) = array_size z t
-source_size (Tf.Known (Ti.Struct m j t)) = some t
-source_size (Tf.Known (Ti.Image d a c)) = none
-source_size (Tf.Known (Ti.Sampler q)) = none
-source_size (Tf.Known (Ti.AccelerationStructure q)) = none
-source_size (Tf.Known (Ti.RayQuery q)) = none
-source_size (Tf.Known (Ti.BindingArray b z)) = none
-source_size Tf.Unknown = none
+abbrev pub source_size : CodeOption TypeInner → Option ℕ
+source_size (Some (Ti.Scalar k)) = some (width_number k.width)
+source_size (Some (Ti.Vector z k)) = some (vector_size_number z * width_number k.width)
+source_size (Some (Ti.Matrix c r k)) = some (align_count r * width_number k.width * vector_size_number c)
+source_size (Some (Ti.CooperativeMatrix c r k o)) = none
+source_size (Some (Ti.Atomic k)) = some (width_number k.width)
+source_size (Some (Ti.Pointer b p)) = none
+source_size (Some (Ti.ValuePointer z k p)) = none
+source_size (Some (Ti.Array b z t)) = array_size z t
+source_size (Some (Ti.Struct m j t)) = some t
+source_size (Some (Ti.Image d a c)) = none
+source_size (Some (Ti.Sampler q)) = none
+source_size (Some (Ti.AccelerationStructure q)) = none
+source_size (Some (Ti.RayQuery q)) = none
+source_size (Some (Ti.BindingArray b z)) = none
+source_size None = none
 
 integer-width : (k : Scalar) (a : Alignment) → Integer k a → width_number k.width ≡ bytes a
 integer-width k a Integer.i32 = refl

@@ -1,13 +1,13 @@
 -- A row of a file that has a verdict is a compose: the rule of its verdict is that of the type and the components that
 -- it shows. By the cases of a row (law_answers/proofs/Room.antt).
+use Rattle.std.specs.Prelude.{Option as CodeOption, Some, None}
+use Rattle.ir.specs.declared.Expression.{Expression}
 use Prim.Native.Nat.{ℕ, ◌+◌}
 use mathlib.Core.Path.{◌≡◌, refl, ap, ◌∙◌}
 use mathlib.Core.List.{List}
 use mathlib.Core.Option.{Option, none, some}
 use Rattle.ir.specs.declared.TypeNumber.{TypeNumber}
 use Rattle.ir.specs.declared.RowNumber.{RowNumber}
-use Rattle.ir.specs.declared.RowForm.{RowForm}
-use Rattle.ir.specs.declared.RowForm.TheVariants as Ro
 use Rattle.frames.specs.Bytes.{frame_at}
 use Rattle.frames.specs.Forms.{component_of}
 use Rattle.archive.specs.Starts.{starts_of}
@@ -39,11 +39,11 @@ rule-is fr n rule h c = let q : of_shown (see fr (kind (record { 0 = n })))
 pub composes : (fr : List ℕ) (n : ℕ) (rule : Rule Judgement) → verdict_rule (see fr) n ≡ some rule → Composes fr n
 composes fr n rule h = go (row_in fr (starts_of fr) (record { 0 = n })) refl h
   where
-    go : (f : RowForm) → row_in fr (starts_of fr) (record { 0 = n }) ≡ f
+    go : (f : CodeOption Expression) → row_in fr (starts_of fr) (record { 0 = n }) ≡ f
         → of_shown (see_row fr (starts_of fr) f) ≡ some rule
         → Composes fr n
-    go Ro.Unknown q e = never (cc)
-    go (Ro.Known x) q e =
+    go None q e = never (cc)
+    go (Some x) q e =
         let c = shown-compose fr (starts_of fr) x rule e in
         record {
           ty = c.ty;

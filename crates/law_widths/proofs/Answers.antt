@@ -1,6 +1,8 @@
 -- Every value handed back has one of the four widths: an answer of ours is in range, so a value among them is a type
 -- that was written; a verdict is of family 11.
 -- Row by row, then byte by byte of the answer buffer.
+use Rattle.answers.specs.declared.FileError.{FileError}
+use Rattle.std.specs.Prelude.{Ok, Err}
 use Prim.Native.Nat.{ℕ, zero, suc, ◌+◌, ◌*◌, ◌/◌, ◌≤◌, ◌<◌}
 use native.Mathlib.Omega.{arith}
 use mathlib.Core.Path.{◌≡◌, refl, sym, ap, ◌∙◌, subst}
@@ -10,8 +12,7 @@ use mathlib.Core.Option.{Option, none, some}
 use lib.ListN.{length, drop, length-append}
 use borrow.Author.Tests.{ltb-true}
 use Rattle.ir.specs.declared.RowNumber.{RowNumber}
-use Rattle.answers.specs.declared.Outcome.{Outcome}
-use Rattle.answers.specs.declared.Outcome.TheVariants.{Accepted, Long, Torn, Short, Order, Field, Index}
+use Rattle.answers.specs.Outcome.{Outcome}
 use Rattle.answers.specs.Numbers.{Refused, at, outcome_values}
 use Rattle.text.specs.declared.AnswerRoom.TheVariants.{Lent}
 use Rattle.text.specs.Lines.{decoded}
@@ -115,7 +116,7 @@ unfolding frames_bytes
 each-there P l rest a k h = let i : 0 + k ≡ k = omega arith in rw i at (there P rest [] l a k h)
 
 -- OF A FILE
-good_of : (limit : ℕ) (t : List ℕ) (f a n : ℕ) → read_file limit t f (Lent a) ≡ Accepted n → Good (decoded t n)
+good_of : (limit : ℕ) (t : List ℕ) (f a n : ℕ) → read_file limit t f (Lent a) ≡ Ok n → Good (decoded t n)
 good_of limit t f a n e =
     let q = (accepted-when limit t f (Lent a) n).0 e in record { order = q.order; fields = q.fields; index = q.index }
 
@@ -129,7 +130,7 @@ pub row-type-width : (pass : Pass) (limit : ℕ) (t : List ℕ) (f a : ℕ) (m :
 unfolding row_type
 row-type-width pass limit t f a m = go (read_file limit t f (Lent a)) refl
   where
-    there-or-not : (n : ℕ) → read_file limit t f (Lent a) ≡ Accepted n → (b : Bool) → is_row (starts_of (decoded t n)) m
+    there-or-not : (n : ℕ) → read_file limit t f (Lent a) ≡ Ok n → (b : Bool) → is_row (starts_of (decoded t n)) m
         ≡ b
         → ValueWidth (one_frame (row_said (cond b (answer (row_answer pass (see (decoded t n)) m.0)) no_row)))
     there-or-not n e true i =
@@ -139,24 +140,19 @@ row-type-width pass limit t f a m = go (read_file limit t f (Lent a)) refl
 
     go : (o : Outcome) → read_file limit t f (Lent a) ≡ o
         → ValueWidth (one_frame (row_said (over_file not_accepted (row_given pass m) t o)))
-    go (Accepted n) e = there-or-not n e (is_row (starts_of (decoded t n)) m) refl
-    go (Long k) e = no_value (outcome_values (Long k))
-    go (Torn k) e = no_value (outcome_values (Torn k))
-    go Short e = no_value (outcome_values Short)
-    go (Order k) e = no_value (outcome_values (Order k))
-    go (Field k) e = no_value (outcome_values (Field k))
-    go (Index k) e = no_value (outcome_values (Index k))
+    go (Ok n) e = there-or-not n e (is_row (starts_of (decoded t n)) m) refl
+    go (Err x) e = no_value (outcome_values (Err x))
 
 -- the answer buffer after `type_rows`: frame k of those handed back
 pub answers-width : (pass : Pass) (limit : ℕ) (t : List ℕ) (f : ℕ) (an : List ℕ) (n : ℕ)
-    → read_file limit t f (Lent (length an)) ≡ Accepted n → (k : ℕ)
+    → read_file limit t f (Lent (length an)) ≡ Ok n → (k : ℕ)
     → k < output_count pass limit t f (length an) → ValueWidth (frame_at (answers_after pass limit t f an) k)
 unfolding answers_after output_count
 answers-width pass limit t f an n e k h =
     let fr = decoded t n in
     let l = outputs pass (see fr) (row_count (starts_of fr)) in
     let c : output_count pass limit t f (length an) ≡ frame_count (output_bytes pass fr) =
-    ap (over_file (λ (o : Outcome). 0) (λ (x : List ℕ). frame_count (output_bytes pass x)) t) e in
+    ap (over_file (λ (e : FileError). 0) (λ (x : List ℕ). frame_count (output_bytes pass x)) t) e in
     rw e
     (each-there ValueWidth l (drop (length (output_bytes pass fr)) an)
     (output-widths pass fr (good_of limit t f (length an) n e) (row_count (starts_of fr)) (omega arith)) k

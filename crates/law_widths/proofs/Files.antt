@@ -1,9 +1,9 @@
 -- The frames of an accepted file have the four widths alone: every frame meets check 5, which asks it of each type that
 -- holds a scalar, and of each As row.
+use Rattle.std.specs.Prelude.{Ok}
 use Prim.Native.Nat.{ℕ}
 use mathlib.Core.Path.{◌≡◌, sym, ◌∙◌}
 use mathlib.Core.List.{List}
-use Rattle.answers.specs.declared.Outcome.TheVariants.{Accepted}
 use Rattle.text.specs.declared.AnswerRoom.{AnswerRoom}
 use Rattle.text.specs.Lines.{decoded}
 use Rattle.frames.specs.Bytes.{frame_at}
@@ -23,6 +23,6 @@ checked-widths fr fields = record {
 }
 
 -- the frames of an accepted file
-pub file-widths : (limit : ℕ) (t : List ℕ) (f : ℕ) (room : AnswerRoom) (n : ℕ) → read_file limit t f room ≡ Accepted n
+pub file-widths : (limit : ℕ) (t : List ℕ) (f : ℕ) (room : AnswerRoom) (n : ℕ) → read_file limit t f room ≡ Ok n
     → FileWidths (decoded t n)
 file-widths limit t f room n e = checked-widths (decoded t n) ((accepted-when limit t f room n).0 e).fields

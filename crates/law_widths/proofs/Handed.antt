@@ -1,5 +1,8 @@
 -- A value of another width, handed in or chosen by a later reader, fits no layout, so it is malformed: a comparison
 -- gives it 5, and looked into it shows nothing, as a type of unknown kind does. From the laws of the comparison.
+use Rattle.answers.specs.Asked.{sameness_error}
+use Rattle.answers.specs.declared.CompareError.TheVariants as Ce
+use Rattle.std.specs.Prelude.{Ok, Err}
 use Prim.Native.Nat.{ℕ}
 use native.Mathlib.Omega.{arith}
 use mathlib.Core.Path.{◌≡◌, refl, sym, ap, ◌∙◌}
@@ -8,8 +11,6 @@ use mathlib.Core.List.{List}
 use mathlib.Core.Option.{none}
 use lib.Dec.{eqb}
 use Rattle.ir.specs.Numbers.{type_kind_of, is_width}
-use Rattle.answers.specs.declared.Outcome.TheVariants.{Accepted}
-use Rattle.answers.specs.declared.Sameness.TheVariants as Sa
 use Rattle.text.specs.declared.AnswerRoom.TheVariants.{NotLent}
 use Rattle.text.specs.Lines.{decoded}
 use Rattle.frames.specs.declared.Frame.{Frame}
@@ -58,26 +59,26 @@ pub other-newer : (fr : List ℕ) (f : Frame) → OtherWidth f → see fr (form 
 other-newer fr f o = ap (λ (a : TypeAnswer). see fr (form a)) (other-malformed f o)
 
 -- TWO FRAMES HANDED IN, of an accepted file
-module _ (limit : ℕ) (t : List ℕ) (f n : ℕ) (e : read_file limit t f NotLent ≡ Accepted n) where
+module _ (limit : ℕ) (t : List ℕ) (f n : ℕ) (e : read_file limit t f NotLent ≡ Ok n) where
   abbrev fr : List ℕ
   fr = decoded t n
 
   asked : (l r : Frame) → same_types limit t f l r ≡ sameness_of (same_in fr (starts_of fr) l r)
   unfolding same_types same_type
-  asked l r = ap (over_file Sa.NotAccepted (λ (x : List ℕ). sameness_of (same_type x l r)) t) e
+  asked l r = ap (over_file sameness_error (λ (x : List ℕ). sameness_of (same_type x l r)) t) e
 
   five : (g : Frame) → OtherWidth g → fault_of (starts_of fr) (type_answer_of g) ≡ Fa.Field
   five g o = ap (fault_of (starts_of fr)) (other-malformed g o)
 
   -- whatever the right one is
-  pub other-left : (l r : Frame) → OtherWidth l → same_types limit t f l r ≡ Sa.Field
+  pub other-left : (l r : Frame) → OtherWidth l → same_types limit t f l r ≡ Err Ce.Field
   unfolding same_in
   other-left l r o = asked l r
       ∙ ap sameness_of (left-five fr (starts_of fr) (type_answer_of l) (type_answer_of r) (five l o))
 
   -- where the left one gets neither 5 nor 6
   pub other-right : (l r : Frame) → fault_of (starts_of (decoded t n)) (type_answer_of l) ≡ Fa.Sound → OtherWidth r
-      → same_types limit t f l r ≡ Sa.Field
+      → same_types limit t f l r ≡ Err Ce.Field
   unfolding same_in
   other-right l r s o = asked l r
       ∙ ap sameness_of (right-five fr (starts_of fr) (type_answer_of l) (type_answer_of r) s (five r o))

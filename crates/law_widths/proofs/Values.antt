@@ -1,5 +1,7 @@
 -- A type that is written has one of the four widths, since a width has no other number; so has a frame that fits the
 -- layout of its kind, by the test of its scalar. Case by case of the kind.
+use Rattle.std.specs.Prelude.{Ok, Err}
+use Rattle.answers.specs.declared.Unresolved.TheVariants as Un
 use Prim.Native.Nat.{ℕ}
 use native.Mathlib.Omega.{arith}
 use mathlib.Core.Path.{◌≡◌, refl, sym, ap, ◌∙◌}
@@ -13,8 +15,7 @@ use Rattle.ir.specs.declared.TypeResolution.{TypeResolution}
 use Rattle.ir.specs.declared.TypeResolution.TheVariants as Tr
 use Rattle.ir.specs.Numbers.{type_kind_of, row_kind_of, scalar_kind_number, is_width, width_number}
 use Rattle.ir.proofs.Numbered.{scalar_kind-number, width_one, width-number}
-use Rattle.answers.specs.declared.Answer.{Answer}
-use Rattle.answers.specs.declared.Answer.TheVariants as An
+use Rattle.answers.specs.Answer.{Answer}
 use Rattle.answers.specs.Numbers.{SaidOf, type, no_pointer, refused}
 use Rattle.frames.specs.declared.Frame.{Frame}
 use Rattle.frames.specs.Bytes.{byte}
@@ -52,9 +53,9 @@ resolution-width (Tr.Value t) e = value-width 9 t
 
 -- every answer of the code
 pub answer-width : (a : Answer) → ValueWidth (answer_frame a)
-answer-width (An.Resolved r) z = resolution-width r z
-answer-width (An.Refused e) z = let q : ◌≡◌ {A = ℕ} 10 9 = z in absurd (omega arith)
-answer-width (An.Newer r) z = let q : ◌≡◌ {A = ℕ} 10 9 = z in absurd (omega arith)
+answer-width (Ok r) z = resolution-width r z
+answer-width (Err (Un.Refused e)) z = let q : ◌≡◌ {A = ℕ} 10 9 = z in absurd (omega arith)
+answer-width (Err (Un.Newer r)) z = let q : ◌≡◌ {A = ℕ} 10 9 = z in absurd (omega arith)
 
 -- what the exported functions write for a canonical form or a base
 pub said-width : (s : SaidOf) → ValueWidth (type_said_frame s)

@@ -1,4 +1,5 @@
 -- A count read digit by digit: the number so far is what the digits spell, and more digits spell no less.
+use Rattle.std.specs.Prelude.{Some, None}
 use Prim.Native.Nat.{ℕ, zero, suc, ◌+◌, ◌*◌, ◌-◌, ◌≤◌, ◌<◌}
 use native.Mathlib.Decide.{dec_le}
 use native.Mathlib.Numerals.{add-one}
@@ -11,7 +12,6 @@ use lib.ListN.{length, get_or}
 use borrow.Author.Tests.{lt-ltb, le-ltb}
 use Rattle.scan.specs.Lowest.{all_below}
 use Rattle.scan.proofs.Laws.{all-each}
-use Rattle.program_limit.specs.declared.counts.OptionCount.TheVariants.{Some, None}
 use Rattle.program_limit.specs.Word.{is_digit, spells}
 use Rattle.program_limit.specs.Counts.{count_of}
 

@@ -1,6 +1,7 @@
 -- The words that the programs take: a limit of frames in decimal digits (document 02, request 7: "1 to 1,024, any other
 -- counting as 1,024"), and `wgsl` for the second pass (request 3).
 use Rattle.std.specs.Prelude.{ℕ, zero, suc, ◌+◌, ◌*◌, ◌-◌, Bool, true, false, cond, ◌&&◌, List, leb, ltb, eqb, length}
+use Rattle.std.specs.Prelude.{Option, Some, None}
 use Rattle.std.specs.Prelude.{get_or}
 use Rattle.scan.specs.Lowest.{all_below}
 use Rattle.answers.specs.Limit.{max_frames}
@@ -8,7 +9,6 @@ use Rattle.text.specs.Reading.{most_frames}
 use Rattle.program_limit.specs.declared.Word.{Word}
 use Rattle.program_limit.specs.declared.Word.TheVariants.{Absent, Limit, Wgsl, Neither}
 use Rattle.program_limit.specs.declared.Asked.{Asked}
-use Rattle.program_limit.specs.declared.Asked.TheVariants.{Within, NotTaken}
 
 -- A WORD
 
@@ -39,30 +39,33 @@ word_of w = cond (is_wgsl w) Wgsl (limit_of w)
 
 -- TWO WORDS, each absent or there
 
+abbrev pub within : ℕ → Bool → Option Asked
+within n second = Some (record { limit = n; wgsl = second })
+
 -- one word: without a limit it is 1,024, without `wgsl` the first pass
-abbrev pub alone : Word → Asked
-alone Absent = Within max_frames false
-alone (Limit n) = Within n false
-alone Wgsl = Within max_frames true
-alone Neither = NotTaken
+abbrev pub alone : Word → Option Asked
+alone Absent = within max_frames false
+alone (Limit n) = within n false
+alone Wgsl = within max_frames true
+alone Neither = None
 
 -- one beside a limit
-abbrev pub beside_limit : ℕ → Word → Asked
-beside_limit n Absent = Within n false
-beside_limit n (Limit m) = NotTaken
-beside_limit n Wgsl = Within n true
-beside_limit n Neither = NotTaken
+abbrev pub beside_limit : ℕ → Word → Option Asked
+beside_limit n Absent = within n false
+beside_limit n (Limit m) = None
+beside_limit n Wgsl = within n true
+beside_limit n Neither = None
 
 -- one beside `wgsl`
-abbrev pub beside_wgsl : Word → Asked
-beside_wgsl Absent = Within max_frames true
-beside_wgsl (Limit n) = Within n true
-beside_wgsl Wgsl = NotTaken
-beside_wgsl Neither = NotTaken
+abbrev pub beside_wgsl : Word → Option Asked
+beside_wgsl Absent = within max_frames true
+beside_wgsl (Limit n) = within n true
+beside_wgsl Wgsl = None
+beside_wgsl Neither = None
 
 -- what two words ask for, in either order, each at most once
-abbrev pub asked_by : Word → Word → Asked
+abbrev pub asked_by : Word → Word → Option Asked
 asked_by Absent w = alone w
 asked_by (Limit n) w = beside_limit n w
 asked_by Wgsl w = beside_wgsl w
-asked_by Neither w = NotTaken
+asked_by Neither w = None

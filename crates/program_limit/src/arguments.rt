@@ -1,6 +1,6 @@
 // The words that a program is started with: a limit of frames in decimal, `wgsl` for the second pass, counts, a row.
-use super::counts::{CountWord, counts_of};
-use super::rows::{RowWord, row_of};
+use super::counts::{Counts, counts_of};
+use super::rows::row_of;
 use super::{Asked, Word, asked_by, word_of};
 use answers::MAX_LIMIT;
 use std::env::FillError;
@@ -30,35 +30,32 @@ pub fn word_at(env: &impl Env, i: usize) -> Word {
 // What the arguments ask for: the limit that holds, which is 1,024 where none is handed in, and whether the second
 // pass.
 // Other arguments, and more than two, are told on standard error, with what is taken.
-pub fn asked<R: Env + Eprint>(rt: &R) -> io::Result<Asked> {
+pub fn asked<R: Env + Eprint>(rt: &R) -> io::Result<Option<Asked>> {
     if !is_given(rt, 3) {
-        let words = asked_by(word_at(rt, 1), word_at(rt, 2));
-        if let Asked::Within { limit, wgsl } = words {
-            return Ok(Asked::Within { limit, wgsl });
+        if let Some(asked) = asked_by(word_at(rt, 1), word_at(rt, 2)) {
+            return Ok(Some(asked));
         }
     }
     rt.eprintln(
         "The arguments, in either order, are the limit of frames, a number in decimal (1 to 1024, any other counting \
          as 1024), and wgsl for the second pass.",
     )?;
-    Ok(Asked::NotTaken)
+    Ok(None)
 }
 
-// What the listing program is asked for: sizes, or ranges between counts, with the limit that holds; or its words are
-// not taken.
+// What the listing program is asked for: sizes, or ranges between counts, with the limit that holds.
 #[derive(Clone, Copy)]
 pub enum Listing {
     Sizes(u32),
     Ranges(u32),
-    NotTaken,
 }
 
 // Argument i as two counts.
-fn counts_at(env: &impl Env, i: usize) -> CountWord {
+fn counts_at(env: &impl Env, i: usize) -> Option<Counts> {
     let mut word = [0u8; 131072];
     match env.arg(i, &mut word) {
         Ok(n) => counts_of(&word[..n]),
-        Err(_) => CountWord::Neither,
+        Err(_) => None,
     }
 }
 
@@ -77,14 +74,11 @@ fn take_counts(env: &impl Env, first: usize, least: &mut [u32], greatest: &mut [
             return false;
         }
         match counts_at(env, i) {
-            CountWord::Between {
-                least: low,
-                greatest: high,
-            } => {
-                least[k] = low;
-                greatest[k] = high;
+            Some(counts) => {
+                least[k] = counts.least;
+                greatest[k] = counts.greatest;
             }
-            CountWord::Neither => {
+            None => {
                 return false;
             }
         }
@@ -99,7 +93,7 @@ pub fn asked_listing<R: Env + Eprint>(
     rt: &R,
     least: &mut [u32],
     greatest: &mut [u32],
-) -> io::Result<Listing> {
+) -> io::Result<Option<Listing>> {
     let mut limit = MAX_LIMIT;
     let mut first = 1;
     if let Word::Limit(given) = word_at(rt, 1) {
@@ -107,47 +101,47 @@ pub fn asked_listing<R: Env + Eprint>(
         first = 2;
     }
     if !is_given(rt, first) {
-        return Ok(Listing::Sizes(limit));
+        return Ok(Some(Listing::Sizes(limit)));
     }
     if take_counts(rt, first, least, greatest) {
-        return Ok(Listing::Ranges(limit));
+        return Ok(Some(Listing::Ranges(limit)));
     }
     rt.eprintln(
         "The arguments are the limit of frames, a number in decimal (1 to 1024, any other counting as 1024), which \
          may be left out, and the least and greatest count of each override in order, as 3-8.",
     )?;
-    Ok(Listing::NotTaken)
+    Ok(None)
 }
 
-// What the cutting program is asked for: a row, and the limit that holds; or its words are not taken.
+// What the cutting program is asked for: a row, and the limit that holds.
 #[derive(Clone, Copy)]
-pub enum Cutting {
-    Row { row: u16, limit: u32 },
-    NotTaken,
+pub struct Cutting {
+    pub row: u16,
+    pub limit: u32,
 }
 
 // Argument i as a row.
-fn row_at(env: &impl Env, i: usize) -> RowWord {
+fn row_at(env: &impl Env, i: usize) -> Option<u16> {
     let mut word = [0u8; 131072];
     match env.arg(i, &mut word) {
         Ok(n) => row_of(&word[..n]),
-        Err(_) => RowWord::Neither,
+        Err(_) => None,
     }
 }
 
 // What the words ask for: the row, and the limit, which is 1,024 where there is one word. Other words are told on
 // standard error, with what is taken.
-pub fn asked_cutting<R: Env + Eprint>(rt: &R) -> io::Result<Cutting> {
+pub fn asked_cutting<R: Env + Eprint>(rt: &R) -> io::Result<Option<Cutting>> {
     if !is_given(rt, 3) {
-        if let RowWord::Row(row) = row_at(rt, 1) {
+        if let Some(row) = row_at(rt, 1) {
             if let Word::Absent = word_at(rt, 2) {
-                return Ok(Cutting::Row {
+                return Ok(Some(Cutting {
                     row,
                     limit: MAX_LIMIT,
-                });
+                }));
             }
             if let Word::Limit(limit) = word_at(rt, 2) {
-                return Ok(Cutting::Row { row, limit });
+                return Ok(Some(Cutting { row, limit }));
             }
         }
     }
@@ -155,5 +149,5 @@ pub fn asked_cutting<R: Env + Eprint>(rt: &R) -> io::Result<Cutting> {
         "The arguments are the row, a number in decimal, counted from 0, and the limit of frames, a number in \
          decimal (1 to 1024, any other counting as 1024), which may be left out.",
     )?;
-    Ok(Cutting::NotTaken)
+    Ok(None)
 }

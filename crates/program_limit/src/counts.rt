@@ -1,90 +1,61 @@
 // A word of two counts, as `3-8`: the least and the greatest count of an override (document 02, request 6).
-ghost use Rattle.std.specs.Prelude.{◌≡◌, length};
-ghost use Rattle.scan.specs.Lowest.{lowest};
-ghost use Rattle.program_limit.specs.Counts.{no_dash, count_of, both_of, counts_of};
+ghost use Rattle.std.specs.Prelude.{◌≡◌, ◌≢◌, ℕ, ◌<◌, length, slice_index, EachIndex, MatchOption};
+ghost use Rattle.program_limit.specs.Counts.{count_of, both_of, counts_of};
 
 use super::is_digit;
-use scan::Found;
 
-// A count, or none.
+// What a word says of an override's counts.
 #[derive(Clone, Copy)]
-pub enum OptionCount {
-    None,
-    Some(u32),
-}
-
-// What a word says of an override's counts: the least and the greatest, or neither.
-#[derive(Clone, Copy)]
-pub enum CountWord {
-    Between { least: u32, greatest: u32 },
-    Neither,
+pub struct Counts {
+    pub least: u32,
+    pub greatest: u32,
 }
 
 // The count that a word of decimal digits spells, below 2 to the 32.
-pub fn count_of(word: &[u8]) -> OptionCount
+pub fn count_of(word: &[u8]) -> Option<u32>
     ensures { result ≡ count_of word.now }
 {
+    if word.is_empty() {
+        return None;
+    }
     let mut n = 0u64;
-    let mut k = 0;
-    while k < word.len() {
-        let b = word[k];
-        if is_digit(b) {
-            n = 10 * n + (b - 48) as u64;
-            k += 1;
-            if 4294967295 < n {
-                return OptionCount::None;
-            }
-        } else {
-            return OptionCount::None;
+    for b in word {
+        if !is_digit(*b) {
+            return None;
+        }
+        n = 10 * n + u64::from(*b - 48);
+        if 4294967295 < n {
+            return None;
         }
     }
-    if k == 0 {
-        return OptionCount::None;
-    }
-    OptionCount::Some(n as u32)
+    Some(n as u32)
 }
 
 // The first `-`.
-fn first_dash(word: &[u8]) -> Found
-    ensures { result ≡ lowest (no_dash word.now) (length word.now) }
+fn first_dash(word: &[u8]) -> Option<usize>
+    ensures { MatchOption result (EachIndex word.now (λ k. slice_index word.now k ≢ 45))
+        (λ i. (i < length word.now) × (slice_index word.now i ≡ 45)
+        × ((k : ℕ) → k < i → slice_index word.now k ≢ 45)) }
 {
-    let mut k = 0;
-    while k < word.len() {
-        if word[k] == 45 {
-            return Found::At(k);
-        }
-        k += 1;
-    }
-    Found::Nothing
+    word.iter().position(|b| *b == b'-')
 }
 
-fn both(least: OptionCount, greatest: OptionCount) -> CountWord
+fn both(least: Option<u32>, greatest: Option<u32>) -> Option<Counts>
     ensures { result ≡ both_of least greatest }
 {
-    match least {
-        OptionCount::None => CountWord::Neither,
-        OptionCount::Some(a) => match greatest {
-            OptionCount::None => CountWord::Neither,
-            OptionCount::Some(b) => CountWord::Between {
-                least: a,
-                greatest: b,
-            },
-        },
-    }
+    let a = least?;
+    let b = greatest?;
+    Some(Counts {
+        least: a,
+        greatest: b,
+    })
 }
 
-// What a word says.
+// What a word says; none where it is no two counts.
 #[tactic(auto, unfolding(crate::specs::Counts::counts_of))]
-pub fn counts_of(word: &[u8]) -> CountWord
+pub fn counts_of(word: &[u8]) -> Option<Counts>
     ensures { result ≡ counts_of word.now }
 {
-    match first_dash(word) {
-        Found::At(k) => {
-            let least = count_of(&word[..k]);
-            let from = k + 1;
-            let greatest = count_of(&word[from..]);
-            both(least, greatest)
-        }
-        Found::Nothing => CountWord::Neither,
-    }
+    let k = first_dash(word)?;
+    both(count_of(&word[..k]), count_of(&word[k + 1..]))
 }

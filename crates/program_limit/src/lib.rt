@@ -23,11 +23,11 @@ pub enum Word {
     Neither,
 }
 
-// What a program is asked for: the limit that holds, and whether the second pass; or its words are not taken.
+// What a program is asked for: the limit that holds, and whether the second pass.
 #[derive(Clone, Copy)]
-pub enum Asked {
-    Within { limit: u32, wgsl: bool },
-    NotTaken,
+pub struct Asked {
+    pub limit: u32,
+    pub wgsl: bool,
 }
 
 pub fn is_digit(b: u8) -> bool
@@ -52,19 +52,15 @@ fn next(n: u32, digit: u8) -> u32
 fn limit_of(word: &[u8]) -> Word
     ensures { result ≡ limit_of word.now }
 {
+    if word.is_empty() {
+        return Word::Neither;
+    }
     let mut n = 0;
-    let mut k = 0;
-    while k < word.len() {
-        let b = word[k];
-        if is_digit(b) {
-            n = next(n, b - 48);
-            k += 1;
-        } else {
+    for b in word {
+        if !is_digit(*b) {
             return Word::Neither;
         }
-    }
-    if k == 0 {
-        return Word::Neither;
+        n = next(n, *b - 48);
     }
     Word::Limit(most(n) as u32)
 }
@@ -91,56 +87,56 @@ pub fn word_of(word: &[u8]) -> Word
 }
 
 // What a second word asks for where the first is absent, is a limit, or is `wgsl`.
-fn alone(word: Word) -> Asked
+fn alone(word: Word) -> Option<Asked>
     ensures { result ≡ alone word }
 {
     match word {
-        Word::Absent => Asked::Within {
+        Word::Absent => Some(Asked {
             limit: MAX_LIMIT,
             wgsl: false,
-        },
-        Word::Limit(limit) => Asked::Within { limit, wgsl: false },
-        Word::Wgsl => Asked::Within {
+        }),
+        Word::Limit(limit) => Some(Asked { limit, wgsl: false }),
+        Word::Wgsl => Some(Asked {
             limit: MAX_LIMIT,
             wgsl: true,
-        },
-        Word::Neither => Asked::NotTaken,
+        }),
+        Word::Neither => None,
     }
 }
 
-fn beside_limit(limit: u32, word: Word) -> Asked
+fn beside_limit(limit: u32, word: Word) -> Option<Asked>
     ensures { result ≡ beside_limit limit word }
 {
     match word {
-        Word::Absent => Asked::Within { limit, wgsl: false },
-        Word::Limit(_) => Asked::NotTaken,
-        Word::Wgsl => Asked::Within { limit, wgsl: true },
-        Word::Neither => Asked::NotTaken,
+        Word::Absent => Some(Asked { limit, wgsl: false }),
+        Word::Limit(_) => None,
+        Word::Wgsl => Some(Asked { limit, wgsl: true }),
+        Word::Neither => None,
     }
 }
 
-fn beside_wgsl(word: Word) -> Asked
+fn beside_wgsl(word: Word) -> Option<Asked>
     ensures { result ≡ beside_wgsl word }
 {
     match word {
-        Word::Absent => Asked::Within {
+        Word::Absent => Some(Asked {
             limit: MAX_LIMIT,
             wgsl: true,
-        },
-        Word::Limit(limit) => Asked::Within { limit, wgsl: true },
-        Word::Wgsl => Asked::NotTaken,
-        Word::Neither => Asked::NotTaken,
+        }),
+        Word::Limit(limit) => Some(Asked { limit, wgsl: true }),
+        Word::Wgsl => None,
+        Word::Neither => None,
     }
 }
 
-// What two words ask for, in either order, each at most once.
-pub fn asked_by(first: Word, second: Word) -> Asked
+// What two words ask for, in either order, each at most once; none where they are not taken.
+pub fn asked_by(first: Word, second: Word) -> Option<Asked>
     ensures { result ≡ asked_by first second }
 {
     match first {
         Word::Absent => alone(second),
         Word::Limit(limit) => beside_limit(limit, second),
         Word::Wgsl => beside_wgsl(second),
-        Word::Neither => Asked::NotTaken,
+        Word::Neither => None,
     }
 }

@@ -2,16 +2,8 @@
 ghost use Rattle.std.specs.Prelude.{◌≡◌, min};
 ghost use Rattle.program_limit.specs.Rows.{of_long, row_of};
 
-use super::counts::{OptionCount, count_of};
+use super::counts::count_of;
 use super::{Word, word_of};
-
-// What a word says of a row: its number, or no number. No file has a row 65,535, so that any number over it counts as
-// that.
-#[derive(Clone, Copy)]
-pub enum RowWord {
-    Row(u16),
-    Neither,
-}
 
 fn row_number(n: u32) -> u16
     ensures { result ≡ min n 65535 }
@@ -20,24 +12,24 @@ fn row_number(n: u32) -> u16
 }
 
 // Of a word that spells no count.
-fn long_row(word: Word) -> RowWord
+fn long_row(word: Word) -> Option<u16>
     ensures { result ≡ of_long word }
 {
     match word {
-        Word::Limit(_) => RowWord::Row(65535),
-        Word::Absent => RowWord::Neither,
-        Word::Wgsl => RowWord::Neither,
-        Word::Neither => RowWord::Neither,
+        Word::Limit(_) => Some(65535),
+        Word::Absent => None,
+        Word::Wgsl => None,
+        Word::Neither => None,
     }
 }
 
 // What a word says.
 #[tactic(auto, unfolding(crate::specs::Rows::row_of))]
-pub fn row_of(word: &[u8]) -> RowWord
+pub fn row_of(word: &[u8]) -> Option<u16>
     ensures { result ≡ row_of word.now }
 {
     match count_of(word) {
-        OptionCount::Some(n) => RowWord::Row(row_number(n)),
-        OptionCount::None => long_row(word_of(word)),
+        Some(n) => Some(row_number(n)),
+        None => long_row(word_of(word)),
     }
 }

@@ -6,7 +6,7 @@
 // room for any file's (`sized-fits`, `ranged-fits`).
 #![tactic(auto)]
 
-use answers::{MAX_TEXT_BYTES, Printed};
+use answers::MAX_TEXT_BYTES;
 use explain_file::{MAX_SIZED_BYTES, ranges_text, sizes_text};
 use program_limit::arguments::{Listing, asked_listing};
 use program_limit::input::read_full;
@@ -15,7 +15,7 @@ use std::rt::Env;
 
 fn list_sizes(rt: &impl Print, text: &[u8], limit: u32) -> io::Result<()> {
     let mut lines = [0u8; MAX_SIZED_BYTES];
-    if let Printed::Bytes(m) = sizes_text(text, limit, &mut lines) {
+    if let Some(m) = sizes_text(text, limit, &mut lines) {
         rt.write_all(&lines[..m])?;
     }
     Ok(())
@@ -29,7 +29,7 @@ fn list_ranges(
     greatest: &[u32],
 ) -> io::Result<()> {
     let mut lines = [0u8; MAX_SIZED_BYTES];
-    if let Printed::Bytes(m) = ranges_text(text, limit, least, greatest, &mut lines) {
+    if let Some(m) = ranges_text(text, limit, least, greatest, &mut lines) {
         rt.write_all(&lines[..m])?;
     }
     Ok(())
@@ -56,8 +56,8 @@ pub fn list_file<R: Env + Input + Print + Eprint>(rt: &R) -> io::Result<()> {
     let mut least = [0u32; 1024];
     let mut greatest = [0u32; 1024];
     match asked_listing(rt, &mut least, &mut greatest)? {
-        Listing::Sizes(limit) => list(rt, limit, false, &least, &greatest),
-        Listing::Ranges(limit) => list(rt, limit, true, &least, &greatest),
-        Listing::NotTaken => Ok(()),
+        Some(Listing::Sizes(limit)) => list(rt, limit, false, &least, &greatest),
+        Some(Listing::Ranges(limit)) => list(rt, limit, true, &least, &greatest),
+        None => Ok(()),
     }
 }

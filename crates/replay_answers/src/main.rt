@@ -8,11 +8,12 @@
 
 ghost use Rattle.std.specs.Prelude.{◌≤◌};
 
-use answers::{MAX_FRAME_BYTES, MAX_LIMIT, MAX_LINE_BYTES, Outcome, Printed, Sameness};
+use answers::{CompareError, MAX_FRAME_BYTES, MAX_LIMIT, MAX_LINE_BYTES, Sameness};
 use file_lines::type_text;
 use file_read::same_type;
 use frames::frame_at;
-use program_limit::input::read_full;
+use frames_answers::write::outcome_frame;
+use program_limit::input::{number_of, print_lines, read_full};
 use rule_rows::Pass;
 use std::fs::File;
 use std::io;
@@ -20,49 +21,19 @@ use std::io::Read;
 use text::AnswerRoom;
 use text_decode::read_text;
 
-// The number that the 5 digits from `at` on spell.
-fn length(line: &[u8; 59], at: usize) -> usize
-    requires { at ≤ 54 }
-{
-    let mut n = 0;
-    let mut i = 0;
-    while i < 5 {
-        n = n % 10000 * 10 + (line[at + i] % 16) as usize;
-        i += 1;
-    }
-    n
-}
-
-// The document's number of an outcome; 0 where the file is accepted.
-fn number(outcome: Outcome) -> u64 {
-    match outcome {
-        Outcome::Accepted { frames: _ } => 0,
-        Outcome::Long { limit: _ } => 1,
-        Outcome::Torn { line: _ } => 2,
-        Outcome::Short => 3,
-        Outcome::Order { frame: _ } => 4,
-        Outcome::Field { frame: _ } => 5,
-        Outcome::Index { frame: _ } => 6,
-    }
-}
-
 // Prints what typing a text by the first pass writes; the buffer has room for any.
 fn print_types(rt: &impl Print, text: &[u8]) -> io::Result<()> {
-    let mut out = [0u8; MAX_LINE_BYTES];
-    if let Printed::Bytes(n) = type_text(text, MAX_LIMIT, Pass::First, &mut out) {
-        rt.write_all(&out[..n])?;
-    }
-    Ok(())
+    print_lines::<MAX_LINE_BYTES, _, _>(rt, |lines| type_text(text, MAX_LIMIT, Pass::First, lines))
 }
 
 fn print_sameness(rt: &impl Print, same: Sameness) -> io::Result<()> {
     match same {
-        Sameness::Same => rt.println("yes"),
-        Sameness::Different => rt.println("no"),
-        Sameness::Newer => rt.println("22"),
-        Sameness::Field => rt.println("5"),
-        Sameness::Index => rt.println("6"),
-        Sameness::NotAccepted(outcome) => rt.println(number(outcome)),
+        Ok(true) => rt.println("yes"),
+        Ok(false) => rt.println("no"),
+        Err(CompareError::Newer) => rt.println("22"),
+        Err(CompareError::Field) => rt.println("5"),
+        Err(CompareError::Index) => rt.println("6"),
+        Err(CompareError::NotAccepted(outcome)) => rt.println(outcome_frame(Err(outcome)).b1),
     }
 }
 
@@ -79,15 +50,13 @@ fn print_pair(rt: &impl Print, text: &[u8], asked: &[u8], k: usize) -> io::Resul
 // Reads the lines of the pairs, and compares each pair.
 fn print_pairs(rt: &impl Print, text: &[u8], lines: &[u8]) -> io::Result<()> {
     let mut asked = [0u8; MAX_FRAME_BYTES];
-    read_text(lines, MAX_LIMIT, &mut asked, AnswerRoom::NotLent);
+    let _ = read_text(lines, MAX_LIMIT, &mut asked, AnswerRoom::NotLent);
     let many = lines.len() / 66;
     if 512 < many {
         return Ok(());
     }
-    let mut k = 0;
-    while k < many {
+    for k in 0..many {
         print_pair(rt, text, &asked, k)?;
-        k += 1;
     }
     Ok(())
 }
@@ -116,8 +85,8 @@ fn one<R: Read>(rt: &impl Print, cases: &mut R) -> io::Result<bool> {
     if read_full(cases, &mut line)? < 59 {
         return Ok(false);
     }
-    let n = length(&line, 47);
-    let m = length(&line, 53);
+    let n = number_of(&line[47..52]);
+    let m = number_of(&line[53..58]);
     if 40000 < n {
         return Ok(false);
     }
@@ -132,15 +101,12 @@ fn one<R: Read>(rt: &impl Print, cases: &mut R) -> io::Result<bool> {
     Ok(true)
 }
 
-fn all<R: Read>(rt: &impl Print, cases: &mut R) -> io::Result<()> {
-    let mut turns = u64::MAX;
-    while turns > 0 && one(rt, cases)? {
-        turns -= 1;
-    }
-    Ok(())
-}
-
 fn main(rt: HostRuntime) -> io::Result<()> {
     let mut cases = File::open(&rt, "cases")?;
-    all(&rt, &mut cases)
+    for _ in 0..u64::MAX {
+        if !one(&rt, &mut cases)? {
+            break;
+        }
+    }
+    Ok(())
 }

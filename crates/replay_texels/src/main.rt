@@ -3,13 +3,13 @@
 #![tactic(auto)]
 
 use std::io;
-use texel::{Texel, texel_of};
+use texel::texel_of;
 
 fn print_texel(rt: &impl Print, density: u32) -> io::Result<()> {
     let given = texel_of(density);
     match given {
-        Texel::Given(t) => println!(rt; "{density} {t}"),
-        Texel::Range => println!(rt; "{density} refused 40"),
+        Some(t) => println!(rt; "{density} {t}"),
+        None => println!(rt; "{density} refused 40"),
     }
 }
 

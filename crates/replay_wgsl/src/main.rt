@@ -11,10 +11,10 @@
 
 ghost use Rattle.std.specs.Prelude.{◌≤◌, length};
 
-use answers::{MAX_FRAME_BYTES, MAX_LIMIT, MAX_LINE_BYTES, MAX_TEXT_BYTES, Printed};
+use answers::{MAX_FRAME_BYTES, MAX_LIMIT, MAX_LINE_BYTES, MAX_TEXT_BYTES};
 use file_lines::type_text;
 use frames::{Frame, put_frame};
-use program_limit::input::read_full;
+use program_limit::input::{number_of, print_lines, read_full};
 use rule_rows::Pass;
 use std::fs::File;
 use std::io;
@@ -22,19 +22,6 @@ use std::io::Read;
 use text::AnswerRoom;
 use text_decode::read_text;
 use text_encode::write_text;
-
-// The number that the 5 digits from `at` on spell.
-fn number(line: &[u8; 53], at: usize) -> usize
-    requires { at ≤ 48 }
-{
-    let mut n = 0;
-    let mut i = 0;
-    while i < 5 {
-        n = n % 10000 * 10 + (line[at + i] % 16) as usize;
-        i += 1;
-    }
-    n
-}
 
 // Whether a line is that of a refusal with a number, at a row, and zeros.
 fn refused(line: &[u8], b1: u8, row: usize) -> bool {
@@ -45,22 +32,7 @@ fn refused(line: &[u8], b1: u8, row: usize) -> bool {
     frame[3] = (row / 256 % 256) as u8;
     let mut digits = [0u8; 33];
     write_text(&frame, &mut digits);
-    same(line, &digits)
-}
-
-// Whether two slices hold the same bytes.
-fn same(a: &[u8], b: &[u8]) -> bool {
-    if a.len() != b.len() {
-        return false;
-    }
-    let mut i = 0;
-    while i < a.len() {
-        if a[i] != b[i] {
-            return false;
-        }
-        i += 1;
-    }
-    true
+    line == digits.as_slice()
 }
 
 // Prints what the answer of a row is, from its line.
@@ -80,13 +52,8 @@ fn print_cell(rt: &impl Print, line: &[u8], row: usize) -> io::Result<()> {
 
 // Prints the answers of the rows from `first` on.
 fn print_cells(rt: &impl Print, lines: &[u8], first: usize) -> io::Result<()> {
-    let many = lines.len() / 33;
-    let mut row = first;
-    while row < many {
-        let a = 33 * row;
-        let e = a + 33;
-        print_cell(rt, &lines[a..e], row)?;
-        row += 1;
+    for (row, line) in lines.chunks_exact(33).enumerate().skip(first) {
+        print_cell(rt, line, row)?;
     }
     Ok(())
 }
@@ -94,7 +61,7 @@ fn print_cells(rt: &impl Print, lines: &[u8], first: usize) -> io::Result<()> {
 // Types a text by the second pass, and prints the answers of the rows from `first` on.
 fn print_answers(rt: &impl Print, text: &[u8], first: usize) -> io::Result<()> {
     let mut out = [0u8; MAX_LINE_BYTES];
-    if let Printed::Bytes(n) = type_text(text, MAX_LIMIT, Pass::Second, &mut out) {
+    if let Some(n) = type_text(text, MAX_LIMIT, Pass::Second, &mut out) {
         print_cells(rt, &out[..n], first)?;
     }
     Ok(())
@@ -125,10 +92,8 @@ fn binary(operator: u8, left: u8, right: u8) -> Frame {
 fn put_rows(frames: &mut [u8], n: usize, rows: u8, operator: u8, left: u8)
     requires { n ≤ 700 }
 {
-    let mut right = 0;
-    while right < rows {
+    for right in 0..rows {
         put_frame(frames, n + right as usize, binary(operator, left, right));
-        right += 1;
     }
 }
 
@@ -151,30 +116,14 @@ fn print_line(
     rt.println("")
 }
 
-fn print_operator(
-    rt: &impl Print,
-    frames: &mut [u8],
-    n: usize,
-    rows: u8,
-    operator: u8,
-) -> io::Result<()>
-    requires { n ≤ 700 }
-{
-    let mut left = 0;
-    while left < rows {
-        print_line(rt, frames, n, rows, operator, left)?;
-        left += 1;
-    }
-    Ok(())
-}
-
+// Prints the line of each operator and each left row.
 fn print_operators(rt: &impl Print, frames: &mut [u8], n: usize, rows: u8) -> io::Result<()>
     requires { n ≤ 700 }
 {
-    let mut operator = 0;
-    while operator < 18 {
-        print_operator(rt, frames, n, rows, operator)?;
-        operator += 1;
+    for operator in 0..18 {
+        for left in 0..rows {
+            print_line(rt, frames, n, rows, operator, left)?;
+        }
     }
     Ok(())
 }
@@ -184,25 +133,21 @@ fn print_table(rt: &impl Print, text: &[u8], rows: u8) -> io::Result<()>
     requires { length text.now ≤ 20000 }
 {
     let mut frames = [0u8; MAX_FRAME_BYTES];
-    read_text(text, MAX_LIMIT, &mut frames, AnswerRoom::NotLent);
+    let _ = read_text(text, MAX_LIMIT, &mut frames, AnswerRoom::NotLent);
     let n = text.len() / 33;
     let e = 16 * (n + rows as usize);
     print_operators(rt, &mut frames[..e], n, rows)
 }
 
 // Prints the lines of a worked file by a pass.
-fn print_lines(rt: &impl Print, text: &[u8], pass: Pass) -> io::Result<()> {
-    let mut out = [0u8; MAX_LINE_BYTES];
-    if let Printed::Bytes(n) = type_text(text, MAX_LIMIT, pass, &mut out) {
-        rt.write_all(&out[..n])?;
-    }
-    Ok(())
+fn print_types(rt: &impl Print, text: &[u8], pass: Pass) -> io::Result<()> {
+    print_lines::<MAX_LINE_BYTES, _, _>(rt, |lines| type_text(text, MAX_LIMIT, pass, lines))
 }
 
 fn print_worked(rt: &impl Print, text: &[u8]) -> io::Result<()> {
-    print_lines(rt, text, Pass::First)?;
+    print_types(rt, text, Pass::First)?;
     rt.println("second")?;
-    print_lines(rt, text, Pass::Second)
+    print_types(rt, text, Pass::Second)
 }
 
 // Fills `text` with a case's text, and replays the case.
@@ -223,8 +168,8 @@ fn one<R: Read>(rt: &impl Print, cases: &mut R) -> io::Result<bool> {
     if read_full(cases, &mut line)? < 53 {
         return Ok(false);
     }
-    let rows = number(&line, 41);
-    let n = number(&line, 47);
+    let rows = number_of(&line[41..46]);
+    let n = number_of(&line[47..52]);
     if 255 < rows {
         return Ok(false);
     }
@@ -237,15 +182,12 @@ fn one<R: Read>(rt: &impl Print, cases: &mut R) -> io::Result<bool> {
     Ok(true)
 }
 
-fn all<R: Read>(rt: &impl Print, cases: &mut R) -> io::Result<()> {
-    let mut turns = u64::MAX;
-    while turns > 0 && one(rt, cases)? {
-        turns -= 1;
-    }
-    Ok(())
-}
-
 fn main(rt: HostRuntime) -> io::Result<()> {
     let mut cases = File::open(&rt, "cases")?;
-    all(&rt, &mut cases)
+    for _ in 0..u64::MAX {
+        if !one(&rt, &mut cases)? {
+            break;
+        }
+    }
+    Ok(())
 }

@@ -5,7 +5,7 @@ ghost use Rattle.rule_rows.specs.Access.{access_component, access_into, access_t
 ghost use Rattle.rule_rows.specs.Answered.{to_result};
 
 use answers::Answer;
-use ir::{AddressSpace, OptionVectorSize, RowNumber, Scalar, TypeInner, TypeNumber, VectorSize};
+use ir::{AddressSpace, RowNumber, Scalar, TypeInner, TypeNumber, VectorSize};
 use row_operands::values::{
     invalid_access, invalid_scalar, invalid_sub_access, invalid_vector, numbered, pointer_type,
     scalar_type, value_pointer_type, vector_type,
@@ -16,13 +16,13 @@ fn access_component(
     base: RowNumber,
     scalar: Scalar,
     space: AddressSpace,
-    size: OptionVectorSize,
+    size: Option<VectorSize>,
 ) -> Answer
     ensures { to_result result ≡ told (access_component base scalar space size) }
 {
     match size {
-        OptionVectorSize::Some(_) => value_pointer_type(OptionVectorSize::None, scalar, space),
-        OptionVectorSize::None => invalid_access(base, false),
+        Some(_) => value_pointer_type(None, scalar, space),
+        None => invalid_access(base, false),
     }
 }
 
@@ -57,16 +57,12 @@ pub fn access_through(ty: TypeNumber, space: AddressSpace, t: TypeInner) -> Answ
     ensures { to_result result ≡ told (access_through ty space t) }
 {
     match t {
-        TypeInner::Vector { size: _, scalar } => value_pointer_type(
-            OptionVectorSize::None,
-            scalar,
-            space,
-        ),
+        TypeInner::Vector { size: _, scalar } => value_pointer_type(None, scalar, space),
         TypeInner::Matrix {
             columns: _,
             rows,
             scalar,
-        } => value_pointer_type(OptionVectorSize::Some(rows), scalar, space),
+        } => value_pointer_type(Some(rows), scalar, space),
         TypeInner::Array {
             base,
             size: _,

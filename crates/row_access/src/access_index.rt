@@ -12,10 +12,7 @@ ghost use Rattle.rule_rows.specs.ForProofs.{members_in};
 use answers::Answer;
 use archive::Starts;
 use archive_access::families::member_at;
-use ir::{
-    AddressSpace, MemberNumber, OptionVectorSize, RowNumber, Scalar, TypeInner, TypeNumber,
-    VectorSize,
-};
+use ir::{AddressSpace, MemberNumber, RowNumber, Scalar, TypeInner, TypeNumber, VectorSize};
 use row_operands::values::{
     invalid_access, invalid_sub_access, numbered, out_of_bounds, pointer_type, scalar_type,
     value_pointer_type, vector_type,
@@ -26,7 +23,7 @@ fn component(base: RowNumber, index: u32, size: VectorSize, scalar: Scalar) -> A
     ensures { to_result result
         ≡ told (bounded base index (vector_size_number size) (value (TypeInner.Scalar scalar))) }
 {
-    if index < (size.number() as u32) {
+    if index < u32::from(size) {
         scalar_type(scalar)
     } else {
         out_of_bounds(base, index)
@@ -44,7 +41,7 @@ fn column(
     ensures { to_result result
         ≡ told (bounded base index (vector_size_number columns) (value (TypeInner.Vector rows scalar))) }
 {
-    if index < (columns.number() as u32) {
+    if index < u32::from(columns) {
         vector_type(rows, scalar)
     } else {
         out_of_bounds(base, index)
@@ -56,14 +53,14 @@ fn part_pointer(
     base: RowNumber,
     index: u32,
     bound: VectorSize,
-    size: OptionVectorSize,
+    size: Option<VectorSize>,
     scalar: Scalar,
     space: AddressSpace,
 ) -> Answer
     ensures { to_result result
         ≡ told (bounded base index (vector_size_number bound) (value (TypeInner.ValuePointer size scalar space))) }
 {
-    if index < (bound.number() as u32) {
+    if index < u32::from(bound) {
         value_pointer_type(size, scalar, space)
     } else {
         out_of_bounds(base, index)
@@ -119,20 +116,13 @@ fn index_component(
     index: u32,
     scalar: Scalar,
     space: AddressSpace,
-    size: OptionVectorSize,
+    size: Option<VectorSize>,
 ) -> Answer
     ensures { to_result result ≡ told (index_component base index scalar space size) }
 {
     match size {
-        OptionVectorSize::Some(size) => part_pointer(
-            base,
-            index,
-            size,
-            OptionVectorSize::None,
-            scalar,
-            space,
-        ),
-        OptionVectorSize::None => invalid_access(base, true),
+        Some(size) => part_pointer(base, index, size, None, scalar, space),
+        None => invalid_access(base, true),
     }
 }
 
@@ -180,26 +170,12 @@ pub fn index_through(
     ensures { to_result result ≡ told (index_through base index ty space (member_types frames.now s t) t) }
 {
     match t {
-        TypeInner::Vector { size, scalar } => part_pointer(
-            base,
-            index,
-            size,
-            OptionVectorSize::None,
-            scalar,
-            space,
-        ),
+        TypeInner::Vector { size, scalar } => part_pointer(base, index, size, None, scalar, space),
         TypeInner::Matrix {
             columns,
             rows,
             scalar,
-        } => part_pointer(
-            base,
-            index,
-            columns,
-            OptionVectorSize::Some(rows),
-            scalar,
-            space,
-        ),
+        } => part_pointer(base, index, columns, Some(rows), scalar, space),
         TypeInner::Array {
             base: to,
             size: _,

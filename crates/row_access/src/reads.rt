@@ -1,134 +1,97 @@
 // Access, AccessIndex, Splat, Swizzle, Load and CooperativeLoad: each reads its operand, looks into its type, and ends
 // by the form.
 ghost use Rattle.std.specs.Prelude.{◌≡◌};
+ghost use Rattle.row_operands.specs.Context.{rules};
 ghost use Rattle.rule_rows.specs.Access.{access, access_index, splat, swizzle};
 ghost use Rattle.rule_rows.specs.Variables.{load};
 ghost use Rattle.rule_rows.specs.Results.{cooperative_load};
 ghost use Rattle.rule_rows.specs.Answered.{to_result};
-ghost use Rattle.rule_rows.specs.OverBuffer.{ruled};
 
 use super::access::{access_into, access_through, splat_of, swizzle_of};
 use super::access_index::{index_into, index_through};
-use answers::Answer;
-use archive::Starts;
+use answers::{Answer, Unresolved};
 use archive_access::families::type_at;
-use ir::{CooperativeRole, CooperativeSize, RowNumber, TypeForm, TypeInner, VectorSize};
-use row_operands::Looked;
-use row_operands::past::{ended, look_into};
+use ir::{CooperativeRole, CooperativeSize, RowNumber, TypeInner, VectorSize};
+use row_operands::ResolveContext;
+use row_operands::past::look_into;
 use row_variables::results::{base_scalar, cooperative_of};
 use row_variables::variables::{load_into, load_through};
 
-pub fn access(
-    frames: &[u8],
-    s: Starts,
-    answers: &[u8],
-    places: &[u16],
-    here: RowNumber,
-    base: RowNumber,
-) -> Answer
+pub fn access(ctx: &ResolveContext<'_>, here: RowNumber, base: RowNumber) -> Answer
     ensures { to_result result
-        ≡ ruled frames.now s answers.now places.now (access here base) }
+        ≡ rules ctx.now (access here base) }
 {
-    match look_into(frames, s, answers, places, here, base) {
-        Looked::Seen(t) => match t {
-            TypeInner::Pointer { base: ty, space } => match type_at(frames, s, ty) {
-                TypeForm::Known(inner) => access_through(ty, space, inner),
-                TypeForm::Unknown => Answer::Newer { row: here },
-            },
-            _ => access_into(base, t),
+    let t = look_into(ctx, here, base)?;
+    match t {
+        TypeInner::Pointer { base: ty, space } => match type_at(ctx.frames, ctx.starts, ty) {
+            Some(inner) => access_through(ty, space, inner),
+            None => Err(Unresolved::Newer { row: here }),
         },
-        Looked::Ended(end) => ended(end),
+        _ => access_into(base, t),
     }
 }
 
 pub fn access_index(
-    frames: &[u8],
-    s: Starts,
-    answers: &[u8],
-    places: &[u16],
+    ctx: &ResolveContext<'_>,
     here: RowNumber,
     base: RowNumber,
     index: u32,
 ) -> Answer
     ensures { to_result result
-        ≡ ruled frames.now s answers.now places.now (access_index here base index) }
+        ≡ rules ctx.now (access_index here base index) }
 {
-    match look_into(frames, s, answers, places, here, base) {
-        Looked::Seen(t) => match t {
-            TypeInner::Pointer { base: ty, space } => match type_at(frames, s, ty) {
-                TypeForm::Known(inner) => index_through(frames, s, base, index, ty, space, inner),
-                TypeForm::Unknown => Answer::Newer { row: here },
-            },
-            _ => index_into(frames, s, base, index, t),
+    let t = look_into(ctx, here, base)?;
+    match t {
+        TypeInner::Pointer { base: ty, space } => match type_at(ctx.frames, ctx.starts, ty) {
+            Some(inner) => index_through(ctx.frames, ctx.starts, base, index, ty, space, inner),
+            None => Err(Unresolved::Newer { row: here }),
         },
-        Looked::Ended(end) => ended(end),
+        _ => index_into(ctx.frames, ctx.starts, base, index, t),
     }
 }
 
 pub fn splat(
-    frames: &[u8],
-    s: Starts,
-    answers: &[u8],
-    places: &[u16],
+    ctx: &ResolveContext<'_>,
     here: RowNumber,
     size: VectorSize,
     value: RowNumber,
 ) -> Answer
     ensures { to_result result
-        ≡ ruled frames.now s answers.now places.now (splat here size value) }
+        ≡ rules ctx.now (splat here size value) }
 {
-    match look_into(frames, s, answers, places, here, value) {
-        Looked::Seen(inner) => splat_of(size, value, inner),
-        Looked::Ended(end) => ended(end),
-    }
+    let inner = look_into(ctx, here, value)?;
+    splat_of(size, value, inner)
 }
 
 pub fn swizzle(
-    frames: &[u8],
-    s: Starts,
-    answers: &[u8],
-    places: &[u16],
+    ctx: &ResolveContext<'_>,
     here: RowNumber,
     size: VectorSize,
     vector: RowNumber,
 ) -> Answer
     ensures { to_result result
-        ≡ ruled frames.now s answers.now places.now (swizzle here size vector) }
+        ≡ rules ctx.now (swizzle here size vector) }
 {
-    match look_into(frames, s, answers, places, here, vector) {
-        Looked::Seen(inner) => swizzle_of(size, vector, inner),
-        Looked::Ended(end) => ended(end),
-    }
+    let inner = look_into(ctx, here, vector)?;
+    swizzle_of(size, vector, inner)
 }
 
-pub fn load(
-    frames: &[u8],
-    s: Starts,
-    answers: &[u8],
-    places: &[u16],
-    here: RowNumber,
-    pointer: RowNumber,
-) -> Answer
+pub fn load(ctx: &ResolveContext<'_>, here: RowNumber, pointer: RowNumber) -> Answer
     ensures { to_result result
-        ≡ ruled frames.now s answers.now places.now (load here pointer) }
+        ≡ rules ctx.now (load here pointer) }
 {
-    match look_into(frames, s, answers, places, here, pointer) {
-        Looked::Seen(t) => match t {
-            TypeInner::Pointer { base: ty, space: _ } => match type_at(frames, s, ty) {
-                TypeForm::Known(inner) => load_through(ty, inner),
-                TypeForm::Unknown => Answer::Newer { row: here },
-            },
-            _ => load_into(pointer, t),
+    let t = look_into(ctx, here, pointer)?;
+    match t {
+        TypeInner::Pointer { base: ty, space: _ } => match type_at(ctx.frames, ctx.starts, ty) {
+            Some(inner) => load_through(ty, inner),
+            None => Err(Unresolved::Newer { row: here }),
         },
-        Looked::Ended(end) => ended(end),
+        _ => load_into(pointer, t),
     }
 }
 
 pub fn cooperative_load(
-    frames: &[u8],
-    s: Starts,
-    answers: &[u8],
-    places: &[u16],
+    ctx: &ResolveContext<'_>,
     here: RowNumber,
     columns: CooperativeSize,
     rows: CooperativeSize,
@@ -136,29 +99,21 @@ pub fn cooperative_load(
     pointer: RowNumber,
 ) -> Answer
     ensures { to_result result
-        ≡ ruled frames.now s answers.now places.now
+        ≡ rules ctx.now
         (cooperative_load here columns rows role pointer) }
 {
-    match look_into(frames, s, answers, places, here, pointer) {
-        Looked::Seen(t) => match t {
-            TypeInner::Pointer { base: ty, space: _ } => match type_at(frames, s, ty) {
-                TypeForm::Known(inner) => cooperative_of(
-                    columns,
-                    rows,
-                    role,
-                    pointer,
-                    inner.scalar(),
-                ),
-                TypeForm::Unknown => Answer::Newer { row: here },
-            },
-            _ => cooperative_of(
-                columns,
-                rows,
-                role,
-                pointer,
-                base_scalar(t.pointer_base_type()),
-            ),
+    let t = look_into(ctx, here, pointer)?;
+    match t {
+        TypeInner::Pointer { base: ty, space: _ } => match type_at(ctx.frames, ctx.starts, ty) {
+            Some(inner) => cooperative_of(columns, rows, role, pointer, inner.scalar()),
+            None => Err(Unresolved::Newer { row: here }),
         },
-        Looked::Ended(end) => ended(end),
+        _ => cooperative_of(
+            columns,
+            rows,
+            role,
+            pointer,
+            base_scalar(t.pointer_base_type()),
+        ),
     }
 }

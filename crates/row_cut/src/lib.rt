@@ -9,28 +9,16 @@ ghost use Rattle.frames_numbers.specs.Spots.{counted_of, spot_of};
 use frames::Frame;
 use frames_numbers::{Counted, Numbers, Spot, row_numbers, with_b2, with_b4, with_b8, with_b12};
 
-fn one_if(marked: bool) -> usize
-    ensures { result ≡ cond marked 1 0 }
-{
-    if marked { 1 } else { 0 }
-}
-
 // How many of the first k rows are marked: row k's number in the cut.
 fn rank(marks: &[bool], k: usize) -> usize
     requires { k ≤ length marks.now }
     ensures { result ≡ rank marks.now k }
 {
-    let mut i = 0;
-    let mut n = 0;
-    while i < k {
-        n += one_if(marks[i]);
-        i += 1;
-    }
-    n
+    marks[..k].iter().filter(|marked| **marked).count()
 }
 
 // What becomes of a row's number: 0 for a row without a mark.
-fn cut_number(marks: &[bool], k: usize) -> usize
+fn row_number(marks: &[bool], k: usize) -> usize
     ensures { result ≡ cut_row marks.now k }
 {
     if k < marks.len() {
@@ -40,40 +28,22 @@ fn cut_number(marks: &[bool], k: usize) -> usize
     }
 }
 
-// What becomes of a number of two bytes, and of four.
-fn cut_two(marks: &[bool], counted: Counted, n: u16) -> u16
-    ensures { result ≡ move_of (cut_moves marks.now) (counted_of counted) n }
+// What becomes of a number: never a higher one.
+fn cut_number(marks: &[bool], counted: Counted, n: usize) -> usize
+    ensures moved { result ≡ move_of (cut_moves marks.now) (counted_of counted) n }
+    ensures lower { result ≤ n }
 {
     match counted {
-        Counted::Types => n,
-        Counted::Members => n,
-        Counted::Constants => n,
-        Counted::Overrides => n,
-        Counted::Globals => n,
-        Counted::Arguments => n,
-        Counted::Locals => n,
-        Counted::Functions => n,
-        Counted::Rows => cut_number(marks, n as usize) as u16,
-        Counted::Components => 0,
-        Counted::Counts => 0,
-    }
-}
-
-fn cut_four(marks: &[bool], counted: Counted, n: u32) -> u32
-    ensures { result ≡ move_of (cut_moves marks.now) (counted_of counted) n }
-{
-    match counted {
-        Counted::Types => n,
-        Counted::Members => n,
-        Counted::Constants => n,
-        Counted::Overrides => n,
-        Counted::Globals => n,
-        Counted::Arguments => n,
-        Counted::Locals => n,
-        Counted::Functions => n,
-        Counted::Rows => cut_number(marks, n as usize) as u32,
-        Counted::Components => 0,
-        Counted::Counts => 0,
+        Counted::Types
+        | Counted::Members
+        | Counted::Constants
+        | Counted::Overrides
+        | Counted::Globals
+        | Counted::Arguments
+        | Counted::Locals
+        | Counted::Functions => n,
+        Counted::Rows => row_number(marks, n),
+        Counted::Components | Counted::Counts => 0,
     }
 }
 
@@ -82,10 +52,10 @@ fn cut_spot(marks: &[bool], spot: Spot, f: Frame) -> Frame
     ensures { result ≡ moved_at (cut_moves marks.now) (spot_of spot) f }
 {
     match spot {
-        Spot::B2(counted) => with_b2(f, cut_two(marks, counted, f.named())),
-        Spot::B4(counted) => with_b4(f, cut_two(marks, counted, f.count())),
-        Spot::B8(counted) => with_b8(f, cut_four(marks, counted, f.third())),
-        Spot::B12(counted) => with_b12(f, cut_four(marks, counted, f.last())),
+        Spot::B2(counted) => with_b2(f, cut_number(marks, counted, f.named() as usize) as u16),
+        Spot::B4(counted) => with_b4(f, cut_number(marks, counted, f.count() as usize) as u16),
+        Spot::B8(counted) => with_b8(f, cut_number(marks, counted, f.third() as usize) as u32),
+        Spot::B12(counted) => with_b12(f, cut_number(marks, counted, f.last() as usize) as u32),
     }
 }
 

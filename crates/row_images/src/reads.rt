@@ -1,105 +1,71 @@
 // ImageSample, ImageLoad and ImageQuery.
 ghost use Rattle.std.specs.Prelude.{◌≡◌};
+ghost use Rattle.row_operands.specs.Context.{rules};
 ghost use Rattle.rule_rows.specs.Steps.{by_type};
 ghost use Rattle.rule_rows.specs.Images.{gathered, sampled, image_sample, image_size_of, image_query};
 ghost use Rattle.rule_rows.specs.Answered.{to_result};
-ghost use Rattle.rule_rows.specs.OverBuffer.{ruled};
 
 use super::by_form::{gathered_of, image_size_of, sampled_from};
 use answers::Answer;
-use archive::Starts;
 use ir::{ImageQuery, RowNumber, Scalar};
-use row_operands::Looked;
-use row_operands::past::{ended, look_into};
+use row_operands::ResolveContext;
+use row_operands::past::look_into;
 use row_operands::values::scalar_type;
 
-fn gathered(
-    frames: &[u8],
-    s: Starts,
-    answers: &[u8],
-    places: &[u16],
-    here: RowNumber,
-    image: RowNumber,
-) -> Answer
+fn gathered(ctx: &ResolveContext<'_>, here: RowNumber, image: RowNumber) -> Answer
     ensures { to_result result
-        ≡ ruled frames.now s answers.now places.now (gathered here image) }
+        ≡ rules ctx.now (gathered here image) }
 {
-    match look_into(frames, s, answers, places, here, image) {
-        Looked::Seen(inner) => gathered_of(image, inner),
-        Looked::Ended(end) => ended(end),
-    }
+    let inner = look_into(ctx, here, image)?;
+    gathered_of(image, inner)
 }
 
 // A sample without gather, and a load.
-pub fn sampled(
-    frames: &[u8],
-    s: Starts,
-    answers: &[u8],
-    places: &[u16],
-    here: RowNumber,
-    image: RowNumber,
-) -> Answer
+pub fn sampled(ctx: &ResolveContext<'_>, here: RowNumber, image: RowNumber) -> Answer
     ensures { to_result result
-        ≡ ruled frames.now s answers.now places.now (sampled here image) }
+        ≡ rules ctx.now (sampled here image) }
 {
-    match look_into(frames, s, answers, places, here, image) {
-        Looked::Seen(inner) => sampled_from(image, inner),
-        Looked::Ended(end) => ended(end),
-    }
+    let inner = look_into(ctx, here, image)?;
+    sampled_from(image, inner)
 }
 
 pub fn image_sample(
-    frames: &[u8],
-    s: Starts,
-    answers: &[u8],
-    places: &[u16],
+    ctx: &ResolveContext<'_>,
     here: RowNumber,
     image: RowNumber,
     gather: bool,
 ) -> Answer
     ensures { to_result result
-        ≡ ruled frames.now s answers.now places.now (image_sample here image gather) }
+        ≡ rules ctx.now (image_sample here image gather) }
 {
     if gather {
-        gathered(frames, s, answers, places, here, image)
+        gathered(ctx, here, image)
     } else {
-        sampled(frames, s, answers, places, here, image)
+        sampled(ctx, here, image)
     }
 }
 
-fn image_size(
-    frames: &[u8],
-    s: Starts,
-    answers: &[u8],
-    places: &[u16],
-    here: RowNumber,
-    image: RowNumber,
-) -> Answer
+fn image_size(ctx: &ResolveContext<'_>, here: RowNumber, image: RowNumber) -> Answer
     ensures { to_result result
-        ≡ ruled frames.now s answers.now places.now
+        ≡ rules ctx.now
         (by_type here image (image_size_of image)) }
 {
-    match look_into(frames, s, answers, places, here, image) {
-        Looked::Seen(inner) => image_size_of(image, inner),
-        Looked::Ended(end) => ended(end),
-    }
+    let inner = look_into(ctx, here, image)?;
+    image_size_of(image, inner)
 }
 
 // A size reads the image; the other queries read nothing.
 pub fn image_query(
-    frames: &[u8],
-    s: Starts,
-    answers: &[u8],
-    places: &[u16],
+    ctx: &ResolveContext<'_>,
     here: RowNumber,
     image: RowNumber,
     query: ImageQuery,
 ) -> Answer
     ensures { to_result result
-        ≡ ruled frames.now s answers.now places.now (image_query here image query) }
+        ≡ rules ctx.now (image_query here image query) }
 {
     match query {
-        ImageQuery::Size => image_size(frames, s, answers, places, here, image),
+        ImageQuery::Size => image_size(ctx, here, image),
         ImageQuery::NumLevels | ImageQuery::NumLayers | ImageQuery::NumSamples => scalar_type(
             Scalar::U32,
         ),

@@ -1,13 +1,13 @@
 -- The sweep, turn by turn.
-use mathlib.Core.Path.{◌≡◌, refl, sym, ap, ◌∙◌}
-use Prim.Native.Nat.{ℕ, zero, suc, ◌+◌, ◌-◌, ◌<◌, ◌≤◌}
+use mathlib.Core.Path.{◌≡◌, refl, ap, ◌∙◌}
+use Prim.Native.Nat.{ℕ, zero, suc, ◌-◌, ◌<◌, ◌≤◌}
 use native.Mathlib.Omega.{arith}
-use mathlib.Core.Bool.{Bool, true, false, cond}
+use mathlib.Core.Bool.{Bool, true, false}
 use mathlib.Core.List.{List}
 use lib.ListN.{get_or, set, replicate}
 use Rattle.archive.specs.declared.Starts.{Starts}
 use Rattle.archive.specs.Access.{row_in}
-use Rattle.law_cut.specs.Marks.{set_each, spread, sweep, marks_by}
+use Rattle.law_cut.specs.Marks.{set_each, sweep, marks_by}
 use Rattle.row_marks.specs.declared.Operands.{Operands}
 use Rattle.row_marks.specs.Reads.{of_row, read_in, list_of, reads_in}
 

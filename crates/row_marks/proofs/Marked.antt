@@ -1,8 +1,10 @@
 -- The marks of the code are those of the definition, over an answer buffer that holds the answers of the rows before
 -- the named one.
-use Prim.Native.Nat.{ℕ, zero, suc, ◌+◌, ◌-◌, ◌<◌, ◌≤◌}
+use Rattle.std.specs.Prelude.{Ok, Err, Option as CodeOption, Some, None}
+use Rattle.answers.specs.declared.Unresolved.TheVariants as Un
+use Prim.Native.Nat.{ℕ, zero, suc, ◌+◌, ◌-◌, ◌<◌}
 use native.Mathlib.Omega.{arith}
-use mathlib.Core.Path.{◌≡◌, refl, sym, ap, ◌∙◌, subst}
+use mathlib.Core.Path.{◌≡◌, refl, sym, ap, ◌∙◌}
 use mathlib.Core.Bool.{Bool, true, false}
 use mathlib.Core.List.{List, [], ◌∷◌}
 use mathlib.Core.Option.{Option, none, some}
@@ -17,10 +19,7 @@ use Rattle.ir.specs.declared.RelationalFunction.{RelationalFunction}
 use Rattle.ir.specs.declared.RelationalFunction.TheVariants as Rl
 use Rattle.ir.specs.declared.Expression.{Expression}
 use Rattle.ir.specs.declared.Expression.TheVariants as Ex
-use Rattle.ir.specs.declared.RowForm.{RowForm}
-use Rattle.ir.specs.declared.RowForm.TheVariants as Ro
-use Rattle.answers.specs.declared.Answer.{Answer}
-use Rattle.answers.specs.declared.Answer.TheVariants as An
+use Rattle.answers.specs.Answer.{Answer}
 use Rattle.archive.specs.declared.Starts.{Starts}
 use Rattle.archive.specs.Starts.{starts_of, row_count}
 use Rattle.archive.specs.Access.{row_in}
@@ -29,18 +28,16 @@ use Rattle.rule.specs.Things.{Shown, kind, shown, see_row, see}
 use Rattle.rule.specs.Rule.{Answers}
 use Rattle.law_rows.specs.Reads.{reads, sample_reads, query_reads, binary_reads, relational_reads}
 use Rattle.rule_rows.specs.declared.Pass.TheVariants as Pa
-use Rattle.rule_rows.specs.Answered.{to_result}
 use Rattle.rule_rows.specs.OverBuffer.{answer_in, past_in}
 use Rattle.rule_answers.specs.Outputs.{row_answer}
 use Rattle.law_rows.proofs.Good.{Good}
-use Rattle.law_rows.proofs.Ranged.{Each}
 use Rattle.law_rows.proofs.Range.{row-there}
 use Rattle.law_rows.proofs.NoDefault.{Earlier, operands-earlier}
 use Rattle.law_cut.specs.Marks.{goes_on, read_to, operands_of, numbers, rows_read, spread, sweep, no_marks, marks_by}
 use Rattle.law_cut.specs.Marks.{max_marks, marks_of}
 use Rattle.row_marks.specs.declared.Operands.{Operands}
 use Rattle.row_marks.specs.declared.Operands.TheVariants as Op
-use Rattle.row_marks.specs.Reads.{of_binary, of_query, of_relational, of_expression, of_row, after, read_in, list_of}
+use Rattle.row_marks.specs.Reads.{of_binary, of_query, of_relational, of_expression, of_row, read_in, list_of}
 use Rattle.row_marks.specs.Reads.{reads_in}
 
 goes_none : (x : Result Typed) → goes_on x [] ≡ []
@@ -63,9 +60,9 @@ module _ (answers places : List ℕ) where
   two l r = go (answer_in answers places l) refl
     where
       go : (a : Answer) → answer_in answers places l ≡ a → Same (Op.Two l r) (l ∷ r ∷ [])
-      go (An.Resolved t) q = rw q (ap (λ (x : List RowNumber). l.0 ∷ r.0 ∷ numbers x) (sym (goes_none (us r))))
-      go (An.Refused e) q = rw q refl
-      go (An.Newer n) q = rw q refl
+      go (Ok t) q = rw q (ap (λ (x : List RowNumber). l.0 ∷ r.0 ∷ numbers x) (sym (goes_none (us r))))
+      go (Err (Un.Refused e)) q = rw q refl
+      go (Err (Un.Newer n)) q = rw q refl
 
   binary-same : (op : BinaryOperator) (l r : RowNumber) → Same (of_binary op l r) (binary_reads op l r).operands
   binary-same Bo.Add l r = one l
@@ -140,9 +137,9 @@ module _ (answers places : List ℕ) where
     expression-same (Ex.Binary o l r) = binary-same o l r
     expression-same (Ex.Relational f n) = relational-same f n
 
-    row_same : (r : RowForm) → Same (of_row r) (operands_of Pa.First (see_row fr s r))
-    row_same (Ro.Known e) = expression-same e
-    row_same Ro.Unknown = refl
+    row_same : (r : CodeOption Expression) → Same (of_row r) (operands_of Pa.First (see_row fr s r))
+    row_same (Some e) = expression-same e
+    row_same None = refl
 
 -- rows read over answers that agree on them
 read-agree : (us they : Answers) (n : RowNumber) (l : List RowNumber) → Earlier n l

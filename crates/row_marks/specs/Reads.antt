@@ -1,6 +1,7 @@
 -- Not part of any public statement: for proofs and code only. What the code of the marks goes by: the rows that a row
 -- reads, as the code holds them.
-use Rattle.std.specs.Prelude.{ℕ, List, [], ◌∷◌}
+use Rattle.answers.specs.declared.Unresolved.TheVariants as Un
+use Rattle.std.specs.Prelude.{ℕ, List, [], ◌∷◌, Ok, Err, Option, Some, None}
 use Rattle.ir.specs.declared.RowNumber.{RowNumber}
 use Rattle.ir.specs.declared.ImageQuery.{ImageQuery}
 use Rattle.ir.specs.declared.ImageQuery.TheVariants as Iq
@@ -10,10 +11,7 @@ use Rattle.ir.specs.declared.RelationalFunction.{RelationalFunction}
 use Rattle.ir.specs.declared.RelationalFunction.TheVariants as Rl
 use Rattle.ir.specs.declared.Expression.{Expression}
 use Rattle.ir.specs.declared.Expression.TheVariants as Ex
-use Rattle.ir.specs.declared.RowForm.{RowForm}
-use Rattle.ir.specs.declared.RowForm.TheVariants as Ro
-use Rattle.answers.specs.declared.Answer.{Answer}
-use Rattle.answers.specs.declared.Answer.TheVariants as An
+use Rattle.answers.specs.Answer.{Answer}
 use Rattle.archive.specs.declared.Starts.{Starts}
 use Rattle.archive.specs.Access.{row_in}
 use Rattle.rule_rows.specs.OverBuffer.{answer_in}
@@ -88,15 +86,15 @@ of_expression (Ex.SubgroupOperationResult t) = Op.Nothing
 of_expression (Ex.CooperativeLoad c r o n) = Op.One n
 of_expression (Ex.CooperativeMultiplyAdd n) = Op.One n
 
-abbrev pub of_row : RowForm → Operands
-of_row (Ro.Known e) = of_expression e
-of_row Ro.Unknown = Op.Nothing
+abbrev pub of_row : Option Expression → Operands
+of_row (Some e) = of_expression e
+of_row None = Op.Nothing
 
 -- right is read where left has a type
 abbrev pub after : Answer → RowNumber → RowNumber → Operands
-after (An.Resolved t) l r = Op.Two l r
-after (An.Refused e) l r = Op.One l
-after (An.Newer n) l r = Op.One l
+after (Ok t) l r = Op.Two l r
+after (Err (Un.Refused e)) l r = Op.One l
+after (Err (Un.Newer n)) l r = Op.One l
 
 abbrev pub read_in : List ℕ → List ℕ → Operands → Operands
 read_in answers places Op.Nothing = Op.Nothing

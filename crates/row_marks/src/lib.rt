@@ -20,7 +20,8 @@ ghost use Rattle.row_marks.specs.Reads.{
 use answers::Answer;
 use archive::Starts;
 use archive_access::families::row_at;
-use ir::{BinaryOperator, Expression, ImageQuery, RelationalFunction, RowForm, RowNumber};
+use ir::{BinaryOperator, Expression, ImageQuery, RelationalFunction, RowNumber};
+use row_operands::ResolveContext;
 use row_operands::past::past;
 
 // What a row reads: no row, one, or left and then right.
@@ -137,9 +138,8 @@ fn after_left(a: Answer, left: RowNumber, right: RowNumber) -> Operands
     ensures { result ≡ after a left right }
 {
     match a {
-        Answer::Resolved(_) => Operands::Two(left, right),
-        Answer::Refused(_) => Operands::One(left),
-        Answer::Newer { row: _ } => Operands::One(left),
+        Ok(_) => Operands::Two(left, right),
+        Err(_) => Operands::One(left),
     }
 }
 
@@ -148,19 +148,19 @@ fn row_operands(frames: &[u8], s: Starts, row: RowNumber) -> Operands
     ensures { result ≡ of_row (row_in frames.now s row) }
 {
     match row_at(frames, s, row) {
-        RowForm::Known(e) => expression_operands(e),
-        RowForm::Unknown => Operands::Nothing,
+        Some(e) => expression_operands(e),
+        None => Operands::Nothing,
     }
 }
 
 // Of a row's operands those that are read: in order, up to the first without a type.
-fn read(answers: &[u8], places: &[u16], o: Operands) -> Operands
-    ensures { result ≡ read_in answers.now places.now o }
+fn read(ctx: &ResolveContext<'_>, o: Operands) -> Operands
+    ensures { result ≡ read_in ctx.now.answers.now ctx.now.places.now o }
 {
     match o {
         Operands::Nothing => Operands::Nothing,
         Operands::One(n) => Operands::One(n),
-        Operands::Two(left, right) => after_left(past(answers, places, left), left, right),
+        Operands::Two(left, right) => after_left(past(ctx, left), left, right),
     }
 }
 
@@ -189,26 +189,15 @@ fn set_marks(marks: [bool; 1024], o: Operands) -> [bool; 1024]
 
 // The marks of the rows that the reading of a row follows, over the answers of a file: from the last row down, a marked
 // row marks what it reads.
-pub fn follow_marks(
-    frames: &[u8],
-    s: Starts,
-    answers: &[u8],
-    places: &[u16],
-    row: RowNumber,
-) -> [bool; 1024]
+pub fn follow_marks(ctx: &ResolveContext<'_>, row: RowNumber) -> [bool; 1024]
     ensures { result
-        ≡ marks_by (reads_in frames.now s answers.now places.now) row.0 }
+        ≡ marks_by (reads_in ctx.now.frames.now ctx.now.starts ctx.now.answers.now ctx.now.places.now) row.0 }
 {
     let mut marks = set_mark([false; 1024], row);
-    let mut k = 1024;
-    while 0 < k {
-        let i = k - 1;
+    for i in (0..1024).rev() {
         if marks[i] {
-            let o = row_operands(frames, s, RowNumber(i as u16));
-            marks = set_marks(marks, read(answers, places, o));
-            k = i;
-        } else {
-            k = i;
+            let o = row_operands(ctx.frames, ctx.starts, RowNumber(i as u16));
+            marks = set_marks(marks, read(ctx, o));
         }
     }
     marks

@@ -1,6 +1,6 @@
 -- Not part of any public statement: for proofs and code only. What a product is, as the code hands it on: the type of
 -- the left or the right operand, as the operand has it, a value, or number 18.
-use Rattle.answers.specs.declared.Answer.{Answer}
+use Rattle.answers.specs.Answer.{Answer}
 use Rattle.answers.specs.declared.Refusal.TheVariants.{IncompatibleOperands}
 use Rattle.rule.specs.Answers.{TypeAnswer, value, Typed, given, refused, Result, told}
 use Rattle.rule_rows.specs.Answered.{to_result}

@@ -1,5 +1,7 @@
 -- What the frame of an operand's answer shows of its type, before any look, is what a look sees. By the cases of the
 -- answer's family and of the kind. And a look goes by three of the places where families begin.
+use Rattle.answers.specs.declared.Unresolved.TheVariants as Un
+use Rattle.std.specs.Prelude.{Option, Some, None, Ok, Err}
 use Prim.Native.Nat.{ℕ}
 use mathlib.Core.Path.{◌≡◌, refl, sym, ap, ◌∙◌}
 use mathlib.Core.Bool.{Bool, true, false, cond, ◌||◌}
@@ -12,12 +14,9 @@ use Rattle.ir.specs.declared.RowNumber.{RowNumber}
 use Rattle.ir.specs.declared.ArraySize.TheVariants as As
 use Rattle.ir.specs.declared.TypeInner.{TypeInner}
 use Rattle.ir.specs.declared.TypeInner.TheVariants as Ti
-use Rattle.ir.specs.declared.TypeForm.{TypeForm}
-use Rattle.ir.specs.declared.TypeForm.TheVariants as Tf
 use Rattle.ir.specs.declared.TypeResolution.TheVariants as Tr
 use Rattle.ir.specs.Numbers.{type_kind_of, vector_size_of, cooperative_size_of, cooperative_role_of}
-use Rattle.answers.specs.declared.Answer.{Answer}
-use Rattle.answers.specs.declared.Answer.TheVariants as An
+use Rattle.answers.specs.Answer.{Answer}
 use Rattle.answers.specs.declared.Refusal.TheVariants.{MissingSpecialType}
 use Rattle.frames.specs.declared.Frame.{Frame}
 use Rattle.frames.specs.Bytes.{byte, half, zero_frame, frame_at}
@@ -30,7 +29,6 @@ use Rattle.archive.specs.Access.{type_in}
 use Rattle.rule.specs.declared.Fault.TheVariants as Fa
 use Rattle.rule.specs.Things.{sound_form, value_fault}
 use Rattle.rule_types.proofs.Seen.{never}
-use Rattle.row_operands.specs.declared.Looked.TheVariants as Lo
 use Rattle.rule_rows.specs.OverBuffer.{answer_in}
 use Rattle.row_operands.specs.Past.{looked_at, looked_by, looked_in, look_starts}
 use Rattle.row_operands.specs.Plain.{past_frame, type_frame_in, typed_frame, is_plain, plain_of}
@@ -41,7 +39,7 @@ unfolding answer_in answer_of unresolved_of
 past-frame an pl n = go (ltb n.0 (length pl))
   where
     go : (b : Bool)
-        → cond b (answer_of (frame_at an (get_or pl n.0 0))) (An.Refused MissingSpecialType)
+        → cond b (answer_of (frame_at an (get_or pl n.0 0))) (Err (Un.Refused MissingSpecialType))
         ≡ answer_of (cond b (frame_at an (get_or pl n.0 0)) zero_frame)
     go true = refl
     go false = refl
@@ -51,29 +49,29 @@ pub type-frame : (fr : List ℕ) (s : Starts) (n : TypeNumber) → type_in fr s 
 unfolding type_in type_of
 type-frame fr s n = go (is_type s n)
   where
-    go : (b : Bool) → cond b (type_of (frame_at fr n.0)) Tf.Unknown ≡ type_of (cond b (frame_at fr n.0) zero_frame)
+    go : (b : Bool) → cond b (type_of (frame_at fr n.0)) None ≡ type_of (cond b (frame_at fr n.0) zero_frame)
     go true = refl
     go false = refl
 
 -- SCALARS, VECTORS AND MATRICES
 
-pub scalar-form : (f : Frame) → byte f 1 ≡ 1 → type_of f ≡ Tf.Known (Ti.Scalar (read scalar f))
+pub scalar-form : (f : Frame) → byte f 1 ≡ 1 → type_of f ≡ Some (Ti.Scalar (read scalar f))
 unfolding type_of
 scalar-form f e = ap (λ (k : ℕ). type_as (type_kind_of k) f) e
 
 pub vector-form : (f : Frame) → byte f 1 ≡ 2
-    → type_of f ≡ Tf.Known (Ti.Vector (vector_size_of (byte f 2)) (read scalar f))
+    → type_of f ≡ Some (Ti.Vector (vector_size_of (byte f 2)) (read scalar f))
 unfolding type_of
 vector-form f e = ap (λ (k : ℕ). type_as (type_kind_of k) f) e
 
 pub matrix-form : (f : Frame) → byte f 1 ≡ 3
-    → type_of f ≡ Tf.Known (Ti.Matrix (vector_size_of (byte f 2)) (vector_size_of (byte f 3)) (read scalar f))
+    → type_of f ≡ Some (Ti.Matrix (vector_size_of (byte f 2)) (vector_size_of (byte f 3)) (read scalar f))
 unfolding type_of
 matrix-form f e = ap (λ (k : ℕ). type_as (type_kind_of k) f) e
 
 pub cooperative-form : (f : Frame) → byte f 1 ≡ 4
     → type_of f
-    ≡ Tf.Known (Ti.CooperativeMatrix (cooperative_size_of (byte f 2)) (cooperative_size_of (byte f 3)) (read scalar f)
+    ≡ Some (Ti.CooperativeMatrix (cooperative_size_of (byte f 2)) (cooperative_size_of (byte f 3)) (read scalar f)
     (cooperative_role_of (byte f 6)))
 unfolding type_of
 cooperative-form f e = ap (λ (k : ℕ). type_as (type_kind_of k) f) e
@@ -81,7 +79,7 @@ cooperative-form f e = ap (λ (k : ℕ). type_as (type_kind_of k) f) e
 -- a form that holds no number: it is sound as a value
 pub record Plain (s : Starts) (f : Frame) : Type 0 where
   pub inner : TypeInner
-  pub is : type_of f ≡ Tf.Known inner
+  pub is : type_of f ≡ Some inner
   pub sound : value_fault s inner ≡ Fa.Sound
 
 plain-kind : (s : Starts) (f : Frame) → is_plain f ≡ true → Plain s f
@@ -97,38 +95,38 @@ plain-kind s f h = go (eqb (byte f 1) 1) (eqb (byte f 1) 2) (eqb (byte f 1) 3) (
 
 -- what a frame shows is the type that it is of, and sound as a value
 pub record Shown (s : Starts) (f : Frame) (t : TypeInner) : Type 0 where
-  pub is : type_of f ≡ Tf.Known t
+  pub is : type_of f ≡ Some t
   pub sound : value_fault s t ≡ Fa.Sound
 
-abbrev inner_or : TypeInner → TypeForm → TypeInner
-inner_or x (Tf.Known t) = t
-inner_or x Tf.Unknown = x
+abbrev inner_or : TypeInner → Option TypeInner → TypeInner
+inner_or x (Some t) = t
+inner_or x None = x
 
-pub plain-shown : (s : Starts) (f : Frame) (t : TypeInner) → plain_of f ≡ Tf.Known t → Shown s f t
+pub plain-shown : (s : Starts) (f : Frame) (t : TypeInner) → plain_of f ≡ Some t → Shown s f t
 unfolding plain_of
 plain-shown s f t e = go (is_plain f) refl e
   where
-    go : (b : Bool) → is_plain f ≡ b → cond b (type_of f) Tf.Unknown ≡ Tf.Known t → Shown s f t
+    go : (b : Bool) → is_plain f ≡ b → cond b (type_of f) None ≡ Some t → Shown s f t
     go true p q =
         let w = plain-kind s f p in
         let same : w.inner ≡ t = ap (inner_or t) (sym w.is ∙ q) in
         record { is = q; sound = ap (value_fault s) (sym same) ∙ w.sound }
     go false p q = never (cc)
 
-zero-plain : (t : TypeInner) {X : Type 0} → plain_of zero_frame ≡ Tf.Known t → X
+zero-plain : (t : TypeInner) {X : Type 0} → plain_of zero_frame ≡ Some t → X
 unfolding plain_of
 zero-plain t e = never (cc)
 
 module _ (fr : List ℕ) (s : Starts) (here : RowNumber) where
-  shown_by : (f : Frame) (t : TypeInner) → plain_of (typed_frame fr s f) ≡ Tf.Known t
+  shown_by : (f : Frame) (t : TypeInner) → plain_of (typed_frame fr s f) ≡ Some t
       → looked_by fr s here (answer_of f)
-      ≡ Lo.Seen t
+      ≡ Ok t
   unfolding answer_of
   shown_by f t e = go (eqb (byte f 0) 8) (eqb (byte f 0) 9) refl refl e
     where
       go : (a b : Bool) → eqb (byte f 0) 8 ≡ a → eqb (byte f 0) 9 ≡ b
-          → plain_of (cond a (type_frame_in fr s (record { 0 = half f 2 })) (cond b f zero_frame)) ≡ Tf.Known t
-          → looked_by fr s here (answer_of f) ≡ Lo.Seen t
+          → plain_of (cond a (type_frame_in fr s (record { 0 = half f 2 })) (cond b f zero_frame)) ≡ Some t
+          → looked_by fr s here (answer_of f) ≡ Ok t
       go true b p q h =
           let n : TypeNumber = record { 0 = half f 2 } in
           rw p (ap (looked_at here) (type-frame fr s n ∙ (plain-shown s (type_frame_in fr s n) t h).is))
@@ -139,16 +137,16 @@ module _ (fr : List ℕ) (s : Starts) (here : RowNumber) where
 
   -- where the frame of row n's answer shows a form, a look sees it
   pub plain-seen : (an pl : List ℕ) (n : RowNumber) (t : TypeInner) → plain_of (typed_frame fr s (past_frame an pl n))
-      ≡ Tf.Known t
-      → looked_in fr s an pl here n ≡ Lo.Seen t
+      ≡ Some t
+      → looked_in fr s an pl here n ≡ Ok t
   unfolding looked_in
   plain-seen an pl n t e = ap (looked_by fr s here) (past-frame an pl n) ∙ shown_by (past_frame an pl n) t e
 
   -- and so it does where the code has these frames and this form
-  pub shown-seen : (an pl : List ℕ) (n : RowNumber) {f g : Frame} {p : TypeForm} {t : TypeInner}
+  pub shown-seen : (an pl : List ℕ) (n : RowNumber) {f g : Frame} {p : Option TypeInner} {t : TypeInner}
       → f ≡ past_frame an pl n
       → g ≡ typed_frame fr s f
-      → p ≡ plain_of g → p ≡ Tf.Known t → looked_in fr s an pl here n ≡ Lo.Seen t
+      → p ≡ plain_of g → p ≡ Some t → looked_in fr s an pl here n ≡ Ok t
   shown-seen an pl n {f} {g} {p} {t} a b c e =
       plain-seen an pl n t (ap (λ x. plain_of (typed_frame fr s x)) (sym a) ∙ ap plain_of (sym b) ∙ sym c ∙ e)
 
@@ -180,10 +178,10 @@ module _ (fr : List ℕ) (s : Starts) where
 
   few-by : (here : RowNumber) (x : Answer) → looked_by fr few here x ≡ looked_by fr s here x
   unfolding type_in
-  few-by here (An.Resolved (Tr.Handle n)) = refl
-  few-by here (An.Resolved (Tr.Value t)) = ap (λ e. looked_at here (sound_form t e)) (few-fault t)
-  few-by here (An.Refused e) = refl
-  few-by here (An.Newer r) = refl
+  few-by here (Ok (Tr.Handle n)) = refl
+  few-by here (Ok (Tr.Value t)) = ap (λ e. looked_at here (sound_form t e)) (few-fault t)
+  few-by here (Err (Un.Refused e)) = refl
+  few-by here (Err (Un.Newer r)) = refl
 
   pub few-look : (an pl : List ℕ) (here n : RowNumber) → looked_in fr few an pl here n ≡ looked_in fr s an pl here n
   unfolding looked_in

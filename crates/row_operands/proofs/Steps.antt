@@ -1,5 +1,7 @@
 -- What a rule gives, step by step, by what the code found there: the answer in the buffer, the form of a type, a
 -- pointer's base, an image's class. For any frames and answers. By the cases of each.
+use Rattle.answers.specs.declared.Unresolved.TheVariants as Un
+use Rattle.std.specs.Prelude.{Option as CodeOption, Some, None, Ok, Err}
 use Prim.Native.Nat.{ℕ}
 use mathlib.Core.Path.{◌≡◌, refl, sym, ap, ◌∙◌}
 use mathlib.Core.List.{List, [], ◌∷◌}
@@ -14,19 +16,15 @@ use Rattle.ir.specs.declared.TypeInner.{TypeInner}
 use Rattle.ir.specs.declared.TypeInner.TheVariants as Ti
 use Rattle.ir.specs.contracts.TypeInner as TypeInner'
 use Rattle.ir.proofs.Others.{Others, kinds_but, of-each}
-use Rattle.ir.specs.declared.TypeForm.{TypeForm}
-use Rattle.ir.specs.declared.TypeForm.TheVariants as Tf
 use Rattle.ir.specs.declared.TypeResolution.{TypeResolution}
-use Rattle.answers.specs.declared.Answer.{Answer}
-use Rattle.answers.specs.declared.Answer.TheVariants as An
+use Rattle.answers.specs.Answer.{Answer}
 use Rattle.archive.specs.declared.Starts.{Starts}
 use Rattle.archive.specs.Access.{type_in, row_in}
 use Rattle.rule.specs.Answers.{TypeAnswer, number, resolved, Typed, row, Result, told, newer}
 use Rattle.rule.specs.Things.{Form, form_in, Shown, see_row}
 use Rattle.rule.specs.Rule.{Rule, done, run}
 use Rattle.answers.specs.declared.Unresolved.{Unresolved}
-use Rattle.row_operands.specs.declared.Looked.{Looked}
-use Rattle.row_operands.specs.declared.Looked.TheVariants as Lo
+use Rattle.row_operands.specs.Looked.{Looked}
 use Rattle.rule_rows.specs.declared.Pass.{Pass}
 use Rattle.rule_rows.specs.Steps.{operand, look, same_as, by_type, by_both, through_base, by_base}
 use Rattle.rule_rows.specs.Images.{sampled_from, sampled}
@@ -38,18 +36,18 @@ use Rattle.row_operands.specs.Past.{ruled_shown, formed, ended_by, looked_at, lo
 use Rattle.row_operands.specs.Past.{left_by, right_read, left_read}
 
 -- by what was found
-abbrev on_form : {X : Type 0} → TypeForm → (TypeInner → X) → X → X
-on_form (Tf.Known t) f rest = f t
-on_form Tf.Unknown f rest = rest
+abbrev on_form : {X : Type 0} → CodeOption TypeInner → (TypeInner → X) → X → X
+on_form (Some t) f rest = f t
+on_form None f rest = rest
 
 abbrev on_answer : Answer → (TypeResolution → Result Typed) → Result Typed
-on_answer (An.Resolved t) f = f t
-on_answer (An.Refused e) f = to_result (An.Refused e)
-on_answer (An.Newer r) f = to_result (An.Newer r)
+on_answer (Ok t) f = f t
+on_answer (Err (Un.Refused e)) f = to_result (Err (Un.Refused e))
+on_answer (Err (Un.Newer r)) f = to_result (Err (Un.Newer r))
 
 abbrev on_looked : Looked → (TypeInner → Result Typed) → Result Typed
-on_looked (Lo.Seen i) f = f i
-on_looked (Lo.Ended u) f = ended_by u
+on_looked (Ok i) f = f i
+on_looked (Err u) f = ended_by u
 
 module _ (fr : List ℕ) (s : Starts) (an pl : List ℕ) where
   abbrev ran : Rule Typed → Result Typed
@@ -64,9 +62,9 @@ module _ (fr : List ℕ) (s : Starts) (an pl : List ℕ) where
   read : (n : RowNumber) (k : TypeAnswer → Rule Typed) (x : Answer) → answer_in an pl n ≡ x
       → ran (operand n k) ≡ on_answer x (λ t. ran (k (resolved t)))
   unfolding ruled
-  read n k (An.Resolved t) q = rw (q, run)
-  read n k (An.Refused e) q = rw (q, run)
-  read n k (An.Newer r) q = rw (q, run)
+  read n k (Ok t) q = rw (q, run)
+  read n k (Err (Un.Refused e)) q = rw (q, run)
+  read n k (Err (Un.Newer r)) q = rw (q, run)
 
   -- and its answer is the row's
   pub same-run : (n : RowNumber) → ran (same_as n) ≡ to_result (answer_in an pl n)
@@ -74,31 +72,31 @@ module _ (fr : List ℕ) (s : Starts) (an pl : List ℕ) where
   same-run n = go (answer_in an pl n) refl
     where
       go : (x : Answer) → answer_in an pl n ≡ x → ran (same_as n) ≡ to_result x
-      go (An.Resolved t) q = rw (q, run)
-      go (An.Refused e) q = rw (q, run)
-      go (An.Newer r) q = rw (q, run)
+      go (Ok t) q = rw (q, run)
+      go (Err (Un.Refused e)) q = rw (q, run)
+      go (Err (Un.Newer r)) q = rw (q, run)
 
   module _ (here : RowNumber) where
     -- A TYPE is looked into
 
-    into : (a : TypeAnswer) (k : Form → Rule Typed) (f : TypeForm) → form_in fr s a ≡ f
+    into : (a : TypeAnswer) (k : Form → Rule Typed) (f : CodeOption TypeInner) → form_in fr s a ≡ f
         → ran (look here a k) ≡ on_form f (λ i. ran (k (formed fr s i))) (newer (row here))
     unfolding ruled
-    into a k (Tf.Known i) q = rw (q, run)
-    into a k Tf.Unknown q = rw (q, run)
+    into a k (Some i) q = rw (q, run)
+    into a k None q = rw (q, run)
 
-    looked-form : (f : TypeForm) (g : TypeInner → Result Typed) → on_form f g (newer (row here))
+    looked-form : (f : CodeOption TypeInner) (g : TypeInner → Result Typed) → on_form f g (newer (row here))
         ≡ on_looked (looked_at here f) g
-    looked-form (Tf.Known i) g = refl
-    looked-form Tf.Unknown g = refl
+    looked-form (Some i) g = refl
+    looked-form None g = refl
 
     looked-answer : (k : Form → Rule Typed) (x : Answer)
         → on_answer x (λ t. ran (look here (resolved t) k))
         ≡ on_looked (looked_by fr s here x) (λ i. ran (k (formed fr s i)))
-    looked-answer k (An.Resolved t) = into (resolved t) k (form_in fr s (resolved t)) refl
+    looked-answer k (Ok t) = into (resolved t) k (form_in fr s (resolved t)) refl
         ∙ looked-form (form_in fr s (resolved t)) _
-    looked-answer k (An.Refused e) = refl
-    looked-answer k (An.Newer r) = refl
+    looked-answer k (Err (Un.Refused e)) = refl
+    looked-answer k (Err (Un.Newer r)) = refl
 
     look-run : (n : RowNumber) (k : Form → Rule Typed)
         → ran (operand n (λ a. look here a k)) ≡ on_looked (looked_in fr s an pl here n) (λ i. ran (k (formed fr s i)))
@@ -107,12 +105,12 @@ module _ (fr : List ℕ) (s : Starts) (an pl : List ℕ) where
 
     module _ (n : RowNumber) where
       -- the answer follows from the inner form
-      pub type-seen : (f : TypeInner → Typed) {i : TypeInner} → looked_in fr s an pl here n ≡ Lo.Seen i → told (f i)
+      pub type-seen : (f : TypeInner → Typed) {i : TypeInner} → looked_in fr s an pl here n ≡ Ok i → told (f i)
           ≡ ran (by_type here n f)
       unfolding ruled
       type-seen f q = sym (look-run n _ ∙ ap (λ (l : Looked). on_looked l (λ j. told (f j))) q)
 
-      pub type-ended : (f : TypeInner → Typed) {u : Unresolved} → looked_in fr s an pl here n ≡ Lo.Ended u
+      pub type-ended : (f : TypeInner → Typed) {u : Unresolved} → looked_in fr s an pl here n ≡ Err u
           → ended_by u ≡ ran (by_type here n f)
       unfolding ruled
       type-ended f q = sym (look-run n _ ∙ ap (λ (l : Looked). on_looked l (λ j. told (f j))) q)
@@ -136,12 +134,12 @@ module _ (fr : List ℕ) (s : Starts) (an pl : List ℕ) where
       class-run (Ti.RayQuery x0) = refl
       class-run (Ti.BindingArray x0 x1) = refl
 
-      pub sampled-seen : {i : TypeInner} → looked_in fr s an pl here n ≡ Lo.Seen i → told (sampled_in n i)
+      pub sampled-seen : {i : TypeInner} → looked_in fr s an pl here n ≡ Ok i → told (sampled_in n i)
           ≡ ran (sampled here n)
       sampled-seen {i} q = sym
           (look-run n _ ∙ ap (λ (l : Looked). on_looked l (λ j. ran (sampled_from here n j))) q ∙ class-run i)
 
-      pub sampled-ended : {u : Unresolved} → looked_in fr s an pl here n ≡ Lo.Ended u
+      pub sampled-ended : {u : Unresolved} → looked_in fr s an pl here n ≡ Err u
           → ended_by u ≡ ran (sampled here n)
       sampled-ended q = sym (look-run n _ ∙ ap (λ (l : Looked). on_looked l (λ j. ran (sampled_from here n j))) q)
 
@@ -155,14 +153,14 @@ module _ (fr : List ℕ) (s : Starts) (an pl : List ℕ) where
             ∙ ap (λ (l : Looked). on_looked l (λ i. ran (through_base here th f (formed fr s i)))) q
 
         pub base-through : {b : TypeNumber} {p : AddressSpace} {t : TypeInner} → looked_in fr s an pl here n
-            ≡ Lo.Seen (Ti.Pointer b p)
-            → type_in fr s b ≡ Tf.Known t → told (th b p (formed fr s t)) ≡ ran (by_base here n th f)
+            ≡ Ok (Ti.Pointer b p)
+            → type_in fr s b ≡ Some t → told (th b p (formed fr s t)) ≡ ran (by_base here n th f)
         unfolding ruled
-        base-through {b} {p} {t} q e = sym (base-looked q ∙ into (number b) (λ c. done (th b p c)) (Tf.Known t) e)
+        base-through {b} {p} {t} q e = sym (base-looked q ∙ into (number b) (λ c. done (th b p c)) (Some t) e)
 
-        pub base-unknown : {b : TypeNumber} {p : AddressSpace} → looked_in fr s an pl here n ≡ Lo.Seen (Ti.Pointer b p)
-            → type_in fr s b ≡ Tf.Unknown → newer (row here) ≡ ran (by_base here n th f)
-        base-unknown {b} {p} q e = sym (base-looked q ∙ into (number b) (λ c. done (th b p c)) Tf.Unknown e)
+        pub base-unknown : {b : TypeNumber} {p : AddressSpace} → looked_in fr s an pl here n ≡ Ok (Ti.Pointer b p)
+            → type_in fr s b ≡ None → newer (row here) ≡ ran (by_base here n th f)
+        base-unknown {b} {p} q e = sym (base-looked q ∙ into (number b) (λ c. done (th b p c)) None e)
 
         other-run : Others (kinds_but (5 ∷ []))
             (λ t. told (f (formed fr s t)) ≡ ran (through_base here th f (formed fr s t)))
@@ -170,48 +168,48 @@ module _ (fr : List ℕ) (s : Starts) (an pl : List ℕ) where
         other-run = of-each (search rules)
 
         -- every kind but a pointer is looked into as it is
-        pub base-into : {t : TypeInner} → looked_in fr s an pl here n ≡ Lo.Seen t
+        pub base-into : {t : TypeInner} → looked_in fr s an pl here n ≡ Ok t
             → OneOf (kinds_but (5 ∷ [])) (tag_of TypeInner'.the_type t)
             → told (f (formed fr s t)) ≡ ran (by_base here n th f)
         base-into {t} q k = other-run.at t k ∙ sym (base-looked q)
 
-        pub base-ended : {u : Unresolved} → looked_in fr s an pl here n ≡ Lo.Ended u → ended_by u
+        pub base-ended : {u : Unresolved} → looked_in fr s an pl here n ≡ Err u → ended_by u
             ≡ ran (by_base here n th f)
         base-ended q = sym (base-looked q)
 
     -- TWO OPERANDS
 
     module _ (f : OfBoth) where
-      right-form : (a b : TypeAnswer) (x : TypeInner) (c : TypeForm)
+      right-form : (a b : TypeAnswer) (x : TypeInner) (c : CodeOption TypeInner)
           → on_form c (λ y. told (f a b x y)) (newer (row here)) ≡ right_by f here a x b c
-      right-form a b x (Tf.Known y) = refl
-      right-form a b x Tf.Unknown = refl
+      right-form a b x (Some y) = refl
+      right-form a b x None = refl
 
-      left-form : (a b : TypeAnswer) (c : TypeForm)
+      left-form : (a b : TypeAnswer) (c : CodeOption TypeInner)
           → on_form c (λ x. ran (look here b (λ y. done (f a b x y.inner)))) (newer (row here))
           ≡ left_by f fr s here a b c
       unfolding ruled
-      left-form a b (Tf.Known x) = into b (λ y. done (f a b x y.inner)) (form_in fr s b) refl
+      left-form a b (Some x) = into b (λ y. done (f a b x y.inner)) (form_in fr s b) refl
           ∙ right-form a b x (form_in fr s b)
-      left-form a b Tf.Unknown = refl
+      left-form a b None = refl
 
       abbrev both : TypeAnswer → TypeAnswer → Rule Typed
       both a b = look here a (λ x. look here b (λ y. done (f a b x.inner y.inner)))
 
       right_answer : (a : TypeAnswer) (y : Answer) → on_answer y (λ b. ran (both a (resolved b)))
           ≡ right_read f fr s here a y
-      right_answer a (An.Resolved b) =
+      right_answer a (Ok b) =
           into a (λ x. look here (resolved b) (λ y. done (f a (resolved b) x.inner y.inner))) (form_in fr s a) refl
           ∙ left-form a (resolved b) (form_in fr s a)
-      right_answer a (An.Refused e) = refl
-      right_answer a (An.Newer r) = refl
+      right_answer a (Err (Un.Refused e)) = refl
+      right_answer a (Err (Un.Newer r)) = refl
 
       left-answer : (r : RowNumber) (x : Answer)
           → on_answer x (λ a. ran (operand r (both (resolved a)))) ≡ left_read f fr s here (answer_in an pl r) x
-      left-answer r (An.Resolved a) = read r (both (resolved a)) (answer_in an pl r) refl
+      left-answer r (Ok a) = read r (both (resolved a)) (answer_in an pl r) refl
           ∙ right_answer (resolved a) (answer_in an pl r)
-      left-answer r (An.Refused e) = refl
-      left-answer r (An.Newer q) = refl
+      left-answer r (Err (Un.Refused e)) = refl
+      left-answer r (Err (Un.Newer q)) = refl
 
       pub both_run : (l r : RowNumber) → ran (by_both here l r f)
           ≡ left_read f fr s here (answer_in an pl r) (answer_in an pl l)

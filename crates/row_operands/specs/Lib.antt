@@ -1,2 +1,4 @@
+pub mod Looked
 pub mod Past
+pub mod Context
 pub mod Plain

@@ -1,22 +1,18 @@
 -- Not part of any public statement: for proofs and code only. What the code of a row's rule goes by: earlier answers as
 -- they stand in the answer buffer, and the forms of its operands' types (document 01, "What must change shape": the
 -- `past` closure is a part of the answer buffer).
-use Rattle.std.specs.Prelude.{ℕ, List}
+use Rattle.std.specs.Prelude.{ℕ, List, Option as CodeOption, Some, None, Ok, Err}
 use Rattle.std.proofs.Math.Option.{Option, none, some}
 use Rattle.ir.specs.declared.RowNumber.{RowNumber}
 use Rattle.ir.specs.declared.TypeInner.{TypeInner}
-use Rattle.ir.specs.declared.TypeForm.{TypeForm}
-use Rattle.ir.specs.declared.TypeForm.TheVariants as Tf
-use Rattle.answers.specs.declared.Answer.{Answer}
-use Rattle.answers.specs.declared.Answer.TheVariants as An
+use Rattle.answers.specs.Answer.{Answer}
 use Rattle.answers.specs.declared.Refusal.TheVariants.{MissingSpecialType}
 use Rattle.archive.specs.declared.Starts.{Starts}
 use Rattle.rule.specs.Answers.{TypeAnswer, resolved, Typed, refused, row, Result, told, newer}
 use Rattle.rule.specs.Things.{Form, member_types, sound_form, value_fault, form_in, Shown}
 use Rattle.answers.specs.declared.Unresolved.{Unresolved}
 use Rattle.answers.specs.declared.Unresolved.TheVariants as Un
-use Rattle.row_operands.specs.declared.Looked.{Looked}
-use Rattle.row_operands.specs.declared.Looked.TheVariants as Lo
+use Rattle.row_operands.specs.Looked.{Looked}
 use Rattle.rule_rows.specs.declared.Pass.{Pass}
 use Rattle.rule_rows.specs.Typed.{resolve}
 use Rattle.rule_rows.specs.OverBuffer.{answer_in, ruled}
@@ -37,19 +33,19 @@ ended_by (Un.Newer r) = newer (row r)
 
 -- AN OPERAND IS READ AND ITS TYPE LOOKED INTO: the form, or the answer that the row ends with
 
-abbrev pub looked_at : RowNumber → TypeForm → Looked
-looked_at here (Tf.Known i) = Lo.Seen i
-looked_at here Tf.Unknown = Lo.Ended (Un.Newer here)
+abbrev pub looked_at : RowNumber → CodeOption TypeInner → Looked
+looked_at here (Some i) = Ok i
+looked_at here None = Err (Un.Newer here)
 
 -- a value that an answer's frame holds
-abbrev pub seen_by : Starts → RowNumber → TypeForm → Looked
-seen_by s here (Tf.Known t) = looked_at here (sound_form t (value_fault s t))
-seen_by s here Tf.Unknown = Lo.Ended (Un.Refused MissingSpecialType)
+abbrev pub seen_by : Starts → RowNumber → CodeOption TypeInner → Looked
+seen_by s here (Some t) = looked_at here (sound_form t (value_fault s t))
+seen_by s here None = Err (Un.Refused MissingSpecialType)
 
 abbrev pub looked_by : List ℕ → Starts → RowNumber → Answer → Looked
-looked_by fr s here (An.Resolved t) = looked_at here (form_in fr s (resolved t))
-looked_by fr s here (An.Refused e) = Lo.Ended (Un.Refused e)
-looked_by fr s here (An.Newer r) = Lo.Ended (Un.Newer r)
+looked_by fr s here (Ok t) = looked_at here (form_in fr s (resolved t))
+looked_by fr s here (Err (Un.Refused e)) = Err (Un.Refused e)
+looked_by fr s here (Err (Un.Newer r)) = Err (Un.Newer r)
 
 unfoldable pub looked_in : List ℕ → Starts → List ℕ → List ℕ → RowNumber → RowNumber → Looked
 looked_in fr s answers places here n = looked_by fr s here (answer_in answers places n)
@@ -78,32 +74,33 @@ look_starts types overrides globals =
 abbrev pub OfBoth : Type 0
 OfBoth = TypeAnswer → TypeAnswer → TypeInner → TypeInner → Typed
 
-abbrev pub right_by : OfBoth → RowNumber → TypeAnswer → TypeInner → TypeAnswer → TypeForm → Result Typed
-right_by f here a x b (Tf.Known y) = told (f a b x y)
-right_by f here a x b Tf.Unknown = newer (row here)
+abbrev pub right_by : OfBoth → RowNumber → TypeAnswer → TypeInner → TypeAnswer → CodeOption TypeInner → Result Typed
+right_by f here a x b (Some y) = told (f a b x y)
+right_by f here a x b None = newer (row here)
 
-abbrev pub left_by : OfBoth → List ℕ → Starts → RowNumber → TypeAnswer → TypeAnswer → TypeForm → Result Typed
-left_by f fr s here a b (Tf.Known x) = right_by f here a x b (form_in fr s b)
-left_by f fr s here a b Tf.Unknown = newer (row here)
+abbrev pub left_by : OfBoth → List ℕ → Starts → RowNumber → TypeAnswer → TypeAnswer → CodeOption TypeInner
+    → Result Typed
+left_by f fr s here a b (Some x) = right_by f here a x b (form_in fr s b)
+left_by f fr s here a b None = newer (row here)
 
 abbrev pub right_read : OfBoth → List ℕ → Starts → RowNumber → TypeAnswer → Answer → Result Typed
-right_read f fr s here a (An.Resolved b) = left_by f fr s here a (resolved b) (form_in fr s a)
-right_read f fr s here a (An.Refused e) = told (refused e)
-right_read f fr s here a (An.Newer r) = newer (row r)
+right_read f fr s here a (Ok b) = left_by f fr s here a (resolved b) (form_in fr s a)
+right_read f fr s here a (Err (Un.Refused e)) = told (refused e)
+right_read f fr s here a (Err (Un.Newer r)) = newer (row r)
 
 abbrev pub left_read : OfBoth → List ℕ → Starts → RowNumber → Answer → Answer → Result Typed
-left_read f fr s here right (An.Resolved a) = right_read f fr s here (resolved a) right
-left_read f fr s here right (An.Refused e) = told (refused e)
-left_read f fr s here right (An.Newer r) = newer (row r)
+left_read f fr s here right (Ok a) = right_read f fr s here (resolved a) right
+left_read f fr s here right (Err (Un.Refused e)) = told (refused e)
+left_read f fr s here right (Err (Un.Newer r)) = newer (row r)
 
 -- the left type is of unknown kind: the right answer where it holds no type, or a newer thing here
 abbrev pub right_end : RowNumber → Answer → Result Typed
-right_end here (An.Resolved b) = newer (row here)
-right_end here (An.Refused e) = told (refused e)
-right_end here (An.Newer r) = newer (row r)
+right_end here (Ok b) = newer (row here)
+right_end here (Err (Un.Refused e)) = told (refused e)
+right_end here (Err (Un.Newer r)) = newer (row r)
 
 -- the left shows no form: its answer where it holds no type, else by the right answer
 abbrev pub left_end : RowNumber → Answer → Answer → Result Typed
-left_end here right (An.Resolved a) = right_end here right
-left_end here right (An.Refused e) = told (refused e)
-left_end here right (An.Newer r) = newer (row r)
+left_end here right (Ok a) = right_end here right
+left_end here right (Err (Un.Refused e)) = told (refused e)
+left_end here right (Err (Un.Newer r)) = newer (row r)

@@ -1,10 +1,9 @@
 -- Not part of any public statement: for proofs and code only. What the frame of an operand's answer shows of its type,
 -- before any look.
-use Rattle.std.specs.Prelude.{ℕ, Bool, cond, ◌||◌, List, ltb, eqb, length, get_or}
+use Rattle.ir.specs.declared.TypeInner.{TypeInner}
+use Rattle.std.specs.Prelude.{ℕ, Bool, cond, ◌||◌, List, ltb, eqb, length, get_or, Option, None}
 use Rattle.ir.specs.declared.TypeNumber.{TypeNumber}
 use Rattle.ir.specs.declared.RowNumber.{RowNumber}
-use Rattle.ir.specs.declared.TypeForm.{TypeForm}
-use Rattle.ir.specs.declared.TypeForm.TheVariants as Tf
 use Rattle.frames.specs.declared.Frame.{Frame}
 use Rattle.frames.specs.Bytes.{byte, half, zero_frame, frame_at}
 use Rattle.frames.specs.Forms.{type_of}
@@ -29,5 +28,5 @@ abbrev pub is_plain : Frame → Bool
 is_plain f = eqb (byte f 1) 1 || (eqb (byte f 1) 2 || (eqb (byte f 1) 3 || eqb (byte f 1) 4))
 
 -- the type that such a frame is of; unknown of any other
-unfoldable pub plain_of : Frame → TypeForm
-plain_of f = cond (is_plain f) (type_of f) Tf.Unknown
+unfoldable pub plain_of : Frame → Option TypeInner
+plain_of f = cond (is_plain f) (type_of f) None

@@ -1,42 +1,42 @@
 // What ends a row that reads two operands, left and then right, and looks into left and then right, where the left
 // shows no form.
 ghost use Rattle.std.specs.Prelude.{◌≡◌};
+ghost use Rattle.row_operands.specs.Context.{earlier};
 ghost use Rattle.rule_rows.specs.Answered.{to_result};
-ghost use Rattle.rule_rows.specs.OverBuffer.{answer_in};
 ghost use Rattle.row_operands.specs.Past.{right_end, left_end};
 
+use super::ResolveContext;
 use super::past::past;
-use answers::Answer;
+use answers::{Answer, Unresolved};
 use ir::RowNumber;
 
 // The left type is of unknown kind: the right's refusal, if it has one, comes first.
-fn right_end(answers: &[u8], places: &[u16], here: RowNumber, right: RowNumber) -> Answer
-    ensures { to_result result ≡ right_end here (answer_in answers.now places.now right) }
+fn right_end(ctx: &ResolveContext<'_>, here: RowNumber, right: RowNumber) -> Answer
+    ensures { to_result result ≡ right_end here (earlier ctx.now right) }
 {
-    let answer = past(answers, places, right);
+    let answer = past(ctx, right);
     match answer {
-        Answer::Resolved(_) => Answer::Newer { row: here },
-        Answer::Refused(_) => answer,
-        Answer::Newer { row: _ } => answer,
+        Ok(_) => Err(Unresolved::Newer { row: here }),
+        Err(Unresolved::Refused(_)) => answer,
+        Err(Unresolved::Newer { row: _ }) => answer,
     }
 }
 
 // The left operand shows no form.
 pub fn left_end(
-    answers: &[u8],
-    places: &[u16],
+    ctx: &ResolveContext<'_>,
     here: RowNumber,
     left: RowNumber,
     right: RowNumber,
 ) -> Answer
     ensures { to_result result
-        ≡ left_end here (answer_in answers.now places.now right)
-        (answer_in answers.now places.now left) }
+        ≡ left_end here (earlier ctx.now right)
+        (earlier ctx.now left) }
 {
-    let answer = past(answers, places, left);
+    let answer = past(ctx, left);
     match answer {
-        Answer::Resolved(_) => right_end(answers, places, here, right),
-        Answer::Refused(_) => answer,
-        Answer::Newer { row: _ } => answer,
+        Ok(_) => right_end(ctx, here, right),
+        Err(Unresolved::Refused(_)) => answer,
+        Err(Unresolved::Newer { row: _ }) => answer,
     }
 }

@@ -8,11 +8,18 @@ pub mod plain;
 pub mod values;
 
 use answers::Unresolved;
+use archive::Starts;
 use ir::TypeInner;
 
-// An operand that was read and looked into: the inner form of its type, or the answer that the row ends with.
+// What the rule of a row reads: the frames of a file and where its families begin, and the answers of the rows before
+// it with their places in the answer buffer: the source's ResolveContext, and its `past`.
 #[derive(Clone, Copy)]
-pub enum Looked {
-    Seen(TypeInner),
-    Ended(Unresolved),
+pub struct ResolveContext<'a> {
+    pub frames: &'a [u8],
+    pub starts: Starts,
+    pub answers: &'a [u8],
+    pub places: &'a [u16],
 }
+
+// An operand that was read and looked into: the inner form of its type, or the answer that the row ends with.
+pub type Looked = Result<TypeInner, Unresolved>;

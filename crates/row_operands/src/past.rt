@@ -1,33 +1,33 @@
 // What a rule reads: earlier answers, and the types of operands.
 ghost use Rattle.std.specs.Prelude.{◌≡◌};
+ghost use Rattle.row_operands.specs.Context.{earlier, looks};
 ghost use Rattle.frames.specs.ForProofs.{answer_of};
 ghost use Rattle.rule.specs.Things.{sound_form};
 ghost use Rattle.rule_rows.specs.Answered.{to_result};
-ghost use Rattle.rule_rows.specs.OverBuffer.{answer_in};
 ghost use Rattle.row_operands.specs.Past.{ended_by, looked_at, seen_by, looked_by, looked_in, look_starts};
 
-use super::Looked;
+use super::{Looked, ResolveContext};
 use answers::{Answer, Refusal, Unresolved};
 use archive::Starts;
 use archive_access::families::type_at;
 use frames::{Frame, frame_at};
 use frames_answers::read::{answer, unresolved};
-use ir::{RowNumber, TypeForm, TypeInner, TypeNumber};
+use ir::{RowNumber, TypeInner, TypeNumber};
 use rule::Fault;
 use type_methods::forms::value_fault;
 
 // The answer of row n, at the frame of the answer buffer that `places` has for it; of a row that is not typed yet the
 // fixed refusal.
 #[tactic(auto, unfolding(rule_rows::specs::OverBuffer::answer_in))]
-pub fn past(answers: &[u8], places: &[u16], n: RowNumber) -> Answer
-    ensures { result ≡ answer_in answers.now places.now n }
+pub fn past(ctx: &ResolveContext<'_>, n: RowNumber) -> Answer
+    ensures { result ≡ earlier ctx.now n }
 {
     let i = n.0 as usize;
-    if i < places.len() {
-        let at = places[i] as usize;
-        answer(frame_at(answers, at))
+    if i < ctx.places.len() {
+        let at = ctx.places[i] as usize;
+        answer(frame_at(ctx.answers, at))
     } else {
-        Answer::Refused(Refusal::MissingSpecialType)
+        Err(Unresolved::Refused(Refusal::MissingSpecialType))
     }
 }
 
@@ -38,12 +38,12 @@ pub fn ended(end: Unresolved) -> Answer
     end.answer()
 }
 
-fn look_at(here: RowNumber, form: TypeForm) -> Looked
+fn look_at(here: RowNumber, form: Option<TypeInner>) -> Looked
     ensures { result ≡ looked_at here form }
 {
     match form {
-        TypeForm::Known(inner) => Looked::Seen(inner),
-        TypeForm::Unknown => Looked::Ended(Unresolved::Newer { row: here }),
+        Some(inner) => Ok(inner),
+        None => Err(Unresolved::Newer { row: here }),
     }
 }
 
@@ -52,19 +52,19 @@ fn sound_seen(here: RowNumber, t: TypeInner, fault: Fault) -> Looked
     ensures { result ≡ looked_at here (sound_form t fault) }
 {
     match fault {
-        Fault::Sound => Looked::Seen(t),
-        Fault::Field => Looked::Ended(Unresolved::Newer { row: here }),
-        Fault::Index => Looked::Ended(Unresolved::Newer { row: here }),
+        Fault::Sound => Ok(t),
+        Fault::Field => Err(Unresolved::Newer { row: here }),
+        Fault::Index => Err(Unresolved::Newer { row: here }),
     }
 }
 
 // A value that was read from the frame of an answer, looked into.
-fn value_seen(s: Starts, here: RowNumber, form: TypeForm) -> Looked
+fn value_seen(s: Starts, here: RowNumber, form: Option<TypeInner>) -> Looked
     ensures { result ≡ seen_by s here form }
 {
     match form {
-        TypeForm::Known(t) => sound_seen(here, t, value_fault(s, t)),
-        TypeForm::Unknown => Looked::Ended(Unresolved::Refused(Refusal::MissingSpecialType)),
+        Some(t) => sound_seen(here, t, value_fault(s, t)),
+        None => Err(Unresolved::Refused(Refusal::MissingSpecialType)),
     }
 }
 
@@ -80,7 +80,7 @@ fn look_by(frames: &[u8], s: Starts, here: RowNumber, f: Frame) -> Looked
             look_at(here, type_at(frames, s, TypeNumber(n)))
         }
         9 => value_seen(s, here, f.type_form()),
-        _ => Looked::Ended(unresolved(f)),
+        _ => Err(unresolved(f)),
     }
 }
 
@@ -121,50 +121,37 @@ fn look_in(
         let at = places[i] as usize;
         look_by(frames, s, here, frame_at(answers, at))
     } else {
-        Looked::Ended(Unresolved::Refused(Refusal::MissingSpecialType))
+        Err(Unresolved::Refused(Refusal::MissingSpecialType))
     }
 }
 
 // Reads operand n and looks into its type: the source's `past(n)?.inner_with(types)`.
-pub fn look_into(
-    frames: &[u8],
-    s: Starts,
-    answers: &[u8],
-    places: &[u16],
-    here: RowNumber,
-    n: RowNumber,
-) -> Looked
-    ensures { result ≡ looked_in frames.now s answers.now places.now here n }
+pub fn look_into(ctx: &ResolveContext<'_>, here: RowNumber, n: RowNumber) -> Looked
+    ensures { result ≡ looks ctx.now here n }
 {
     look_in(
-        frames,
-        s.members,
-        s.overrides,
-        s.globals,
-        answers,
-        places,
+        ctx.frames,
+        ctx.starts.members,
+        ctx.starts.overrides,
+        ctx.starts.globals,
+        ctx.answers,
+        ctx.places,
         here,
         n,
     )
 }
 
 // The same for a component. Where its look ends says nothing of a verdict's place, so its own row will do for it.
-pub fn look_component(
-    frames: &[u8],
-    s: Starts,
-    answers: &[u8],
-    places: &[u16],
-    n: RowNumber,
-) -> Looked
-    ensures { result ≡ looked_in frames.now s answers.now places.now n n }
+pub fn look_component(ctx: &ResolveContext<'_>, n: RowNumber) -> Looked
+    ensures { result ≡ looks ctx.now n n }
 {
     look_in(
-        frames,
-        s.members,
-        s.overrides,
-        s.globals,
-        answers,
-        places,
+        ctx.frames,
+        ctx.starts.members,
+        ctx.starts.overrides,
+        ctx.starts.globals,
+        ctx.answers,
+        ctx.places,
         n,
         n,
     )

@@ -4,21 +4,20 @@
 ghost use Rattle.std.specs.Prelude.{◌≡◌};
 ghost use Rattle.row_operands.specs.Plain.{past_frame, type_frame_in, typed_frame, plain_of};
 
+use super::ResolveContext;
 use archive::Starts;
 use archive_access::families::is_type;
 use frames::{Frame, frame_at, no_frame};
-use ir::{
-    CooperativeRole, CooperativeSize, RowNumber, TypeForm, TypeInner, TypeNumber, VectorSize,
-};
+use ir::{CooperativeRole, CooperativeSize, RowNumber, TypeInner, TypeNumber, VectorSize};
 
 // The frame of row n's answer; zeros, which read as the fixed refusal, of a row that is not typed yet.
-pub fn past_frame(answers: &[u8], places: &[u16], n: RowNumber) -> Frame
-    ensures { result ≡ past_frame answers.now places.now n }
+pub fn past_frame(ctx: &ResolveContext<'_>, n: RowNumber) -> Frame
+    ensures { result ≡ past_frame ctx.now.answers.now ctx.now.places.now n }
 {
     let i = n.0 as usize;
-    if i < places.len() {
-        let at = places[i] as usize;
-        frame_at(answers, at)
+    if i < ctx.places.len() {
+        let at = ctx.places[i] as usize;
+        frame_at(ctx.answers, at)
     } else {
         no_frame()
     }
@@ -52,37 +51,37 @@ pub fn typed_frame(frames: &[u8], s: Starts, f: Frame) -> Frame
 
 // The scalar, vector, matrix or cooperative matrix that a frame is of; unknown of any other.
 #[tactic(auto, unfolding(crate::specs::Plain::plain_of, frames::specs::Forms::type_of))]
-pub fn plain_form(f: Frame) -> TypeForm
+pub fn plain_form(f: Frame) -> Option<TypeInner>
     ensures { result ≡ plain_of f }
 {
     let scalar = f.scalar();
     let kind = f.b1;
     match kind {
-        1 => TypeForm::Known(TypeInner::Scalar(scalar)),
+        1 => Some(TypeInner::Scalar(scalar)),
         2 => {
-            let size = VectorSize::from_number(f.b2);
-            TypeForm::Known(TypeInner::Vector { size, scalar })
+            let size = VectorSize::from(f.b2);
+            Some(TypeInner::Vector { size, scalar })
         }
         3 => {
-            let columns = VectorSize::from_number(f.b2);
-            let rows = VectorSize::from_number(f.b3);
-            TypeForm::Known(TypeInner::Matrix {
+            let columns = VectorSize::from(f.b2);
+            let rows = VectorSize::from(f.b3);
+            Some(TypeInner::Matrix {
                 columns,
                 rows,
                 scalar,
             })
         }
         4 => {
-            let columns = CooperativeSize::from_number(f.b2);
-            let rows = CooperativeSize::from_number(f.b3);
-            let role = CooperativeRole::from_number(f.b6);
-            TypeForm::Known(TypeInner::CooperativeMatrix {
+            let columns = CooperativeSize::from(f.b2);
+            let rows = CooperativeSize::from(f.b3);
+            let role = CooperativeRole::from(f.b6);
+            Some(TypeInner::CooperativeMatrix {
                 columns,
                 rows,
                 scalar,
                 role,
             })
         }
-        _ => TypeForm::Unknown,
+        _ => None,
     }
 }

@@ -5,7 +5,7 @@ ghost use Rattle.rule_rows.specs.Operators.{bools_of, logical_of, width_or, cast
 ghost use Rattle.rule_rows.specs.Answered.{to_result};
 
 use answers::Answer;
-use ir::{OptionBytes, Scalar, ScalarKind, TypeInner, Width};
+use ir::{Scalar, ScalarKind, TypeInner, Width};
 use row_operands::values::{incompatible_operands, matrix_type, scalar_type, vector_type};
 
 // A bool for each component.
@@ -25,7 +25,7 @@ pub fn logical_of(t: TypeInner) -> Answer
 {
     match t {
         TypeInner::Scalar(scalar) => {
-            if scalar.equals(Scalar::BOOL) {
+            if scalar == Scalar::BOOL {
                 scalar_type(Scalar::BOOL)
             } else {
                 incompatible_operands()
@@ -36,17 +36,17 @@ pub fn logical_of(t: TypeInner) -> Answer
 }
 
 // The width converted to, or the own one.
-fn width_or(convert: OptionBytes, own: Width) -> Width
+fn width_or(convert: Option<Width>, own: Width) -> Width
     ensures { result ≡ width_or convert own }
 {
     match convert {
-        OptionBytes::Some(width) => width,
-        OptionBytes::None => own,
+        Some(width) => width,
+        None => own,
     }
 }
 
 // A scalar or a vector takes the kind, a matrix keeps its own.
-pub fn cast_of(kind: ScalarKind, convert: OptionBytes, t: TypeInner) -> Answer
+pub fn cast_of(kind: ScalarKind, convert: Option<Width>, t: TypeInner) -> Answer
     ensures { to_result result ≡ told (cast_of kind convert t) }
 {
     match t {

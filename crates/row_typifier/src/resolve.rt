@@ -1,17 +1,17 @@
 // ResolveContext::resolve (proc/typifier.rs, lines 265 to 826): the rule of every row.
 ghost use Rattle.std.specs.Prelude.{◌≡◌};
+ghost use Rattle.row_operands.specs.Context.{rules};
 ghost use Rattle.rule.specs.Things.{shown};
 ghost use Rattle.rule_rows.specs.Typed.{typed};
 ghost use Rattle.rule_rows.specs.Answered.{to_result};
-ghost use Rattle.rule_rows.specs.OverBuffer.{ruled};
 ghost use Rattle.row_operands.specs.Past.{ruled_shown};
 
-use answers::Answer;
-use archive::Starts;
+use answers::{Answer, Unresolved};
 use archive_access::families::row_at;
-use ir::{Expression, RowForm, RowNumber, Scalar, VectorSize};
+use ir::{Expression, RowNumber, Scalar, VectorSize};
 use row_access::reads::{access, access_index, cooperative_load, load, splat, swizzle};
 use row_images::reads::{image_query, image_sample, sampled};
+use row_operands::ResolveContext;
 use row_operands::past::past;
 use row_operands::values::{numbered, scalar_type, vector_type};
 use row_operators::by_operator::{binary_by, relational};
@@ -24,98 +24,77 @@ use rule_rows::Pass;
 
 // The type of the row `here`, whose expression is e, by the rules of a pass, in the order of the source's arms. Math is
 // newer.
-pub fn resolve(
-    pass: Pass,
-    frames: &[u8],
-    s: Starts,
-    answers: &[u8],
-    places: &[u16],
-    here: RowNumber,
-    e: Expression,
-) -> Answer
+pub fn resolve(pass: Pass, ctx: &ResolveContext<'_>, here: RowNumber, e: Expression) -> Answer
     ensures { to_result result
-        ≡ ruled_shown pass frames.now s answers.now places.now here
-        (shown frames.now s e) }
+        ≡ ruled_shown pass ctx.now.frames.now ctx.now.starts ctx.now.answers.now ctx.now.places.now here
+        (shown ctx.now.frames.now ctx.now.starts e) }
 {
     match e {
-        Expression::Access { base } => access(frames, s, answers, places, here, base),
-        Expression::AccessIndex { base, index } => access_index(
-            frames, s, answers, places, here, base, index,
-        ),
-        Expression::Splat { size, value } => splat(frames, s, answers, places, here, size, value),
-        Expression::Swizzle { size, vector } => swizzle(
-            frames, s, answers, places, here, size, vector,
-        ),
+        Expression::Access { base } => access(ctx, here, base),
+        Expression::AccessIndex { base, index } => access_index(ctx, here, base, index),
+        Expression::Splat { size, value } => splat(ctx, here, size, value),
+        Expression::Swizzle { size, vector } => swizzle(ctx, here, size, vector),
         Expression::Literal(l) => literal(l),
-        Expression::Constant(n) => declared(frames, s.constants, n),
-        Expression::Override(n) => declared(frames, s.overrides, n),
+        Expression::Constant(n) => declared(ctx.frames, ctx.starts.constants, n),
+        Expression::Override(n) => declared(ctx.frames, ctx.starts.overrides, n),
         Expression::ZeroValue(ty) => numbered(ty),
         Expression::Compose {
             ty,
             count: _,
             first: _,
         } => numbered(ty),
-        Expression::FunctionArgument(index) => function_argument(frames, s, index),
-        Expression::GlobalVariable(n) => global_variable(frames, s, n),
-        Expression::LocalVariable(n) => local_variable(frames, s, n),
-        Expression::Load { pointer } => load(frames, s, answers, places, here, pointer),
-        Expression::ImageSample { image, gather } => image_sample(
-            frames, s, answers, places, here, image, gather,
-        ),
-        Expression::ImageLoad { image } => sampled(frames, s, answers, places, here, image),
-        Expression::ImageQuery { image, query } => image_query(
-            frames, s, answers, places, here, image, query,
-        ),
-        Expression::Unary { expr } => past(answers, places, expr),
-        Expression::Binary { op, left, right } => binary_by(
-            pass, frames, s, answers, places, here, op, left, right,
-        ),
+        Expression::FunctionArgument(index) => function_argument(ctx.frames, ctx.starts, index),
+        Expression::GlobalVariable(n) => global_variable(ctx.frames, ctx.starts, n),
+        Expression::LocalVariable(n) => local_variable(ctx.frames, ctx.starts, n),
+        Expression::Load { pointer } => load(ctx, here, pointer),
+        Expression::ImageSample { image, gather } => image_sample(ctx, here, image, gather),
+        Expression::ImageLoad { image } => sampled(ctx, here, image),
+        Expression::ImageQuery { image, query } => image_query(ctx, here, image, query),
+        Expression::Unary { expr } => past(ctx, expr),
+        Expression::Binary { op, left, right } => binary_by(pass, ctx, here, op, left, right),
         Expression::AtomicResult { ty } => numbered(ty),
         Expression::SubgroupOperationResult { ty } => numbered(ty),
         Expression::WorkGroupUniformLoadResult { ty } => numbered(ty),
-        Expression::Select { accept } => past(answers, places, accept),
-        Expression::Derivative { expr } => past(answers, places, expr),
-        Expression::Relational { fun, argument } => relational(
-            frames, s, answers, places, here, fun, argument,
-        ),
-        Expression::Math => Answer::Newer { row: here },
+        Expression::Select { accept } => past(ctx, accept),
+        Expression::Derivative { expr } => past(ctx, expr),
+        Expression::Relational { fun, argument } => relational(ctx, here, fun, argument),
+        Expression::Math => Err(Unresolved::Newer { row: here }),
         Expression::As {
             expr,
             kind,
             convert,
-        } => cast(frames, s, answers, places, here, expr, kind, convert),
-        Expression::CallResult(n) => call_result(frames, s, n),
+        } => cast(ctx, here, expr, kind, convert),
+        Expression::CallResult(n) => call_result(ctx.frames, ctx.starts, n),
         Expression::ArrayLength => scalar_type(Scalar::U32),
         Expression::RayQueryProceedResult => scalar_type(Scalar::BOOL),
-        Expression::RayQueryGetIntersection => special(frames, s.intersections, s.vertex_returns),
-        Expression::RayQueryVertexPositions => special(frames, s.vertex_returns, s.rows),
+        Expression::RayQueryGetIntersection => special(
+            ctx.frames,
+            ctx.starts.intersections,
+            ctx.starts.vertex_returns,
+        ),
+        Expression::RayQueryVertexPositions => special(
+            ctx.frames,
+            ctx.starts.vertex_returns,
+            ctx.starts.rows,
+        ),
         Expression::SubgroupBallotResult => vector_type(VectorSize::Quad, Scalar::U32),
         Expression::CooperativeLoad {
             columns,
             rows,
             role,
             pointer,
-        } => cooperative_load(
-            frames, s, answers, places, here, columns, rows, role, pointer,
-        ),
-        Expression::CooperativeMultiplyAdd { c } => past(answers, places, c),
+        } => cooperative_load(ctx, here, columns, rows, role, pointer),
+        Expression::CooperativeMultiplyAdd { c } => past(ctx, c),
     }
 }
 
 // The type of a row, by its frame and the answers so far; an unknown kind is newer.
-pub fn type_row(
-    pass: Pass,
-    frames: &[u8],
-    s: Starts,
-    answers: &[u8],
-    places: &[u16],
-    row: RowNumber,
-) -> Answer
+pub fn type_row(pass: Pass, ctx: &ResolveContext<'_>, row: RowNumber) -> Answer
     ensures { to_result result
-        ≡ ruled frames.now s answers.now places.now (typed pass row) }
+        ≡ rules ctx.now (typed pass row) }
 {
-    match row_at(frames, s, row) {
-        RowForm::Known(e) => resolve(pass, frames, s, answers, places, row, e),
-        RowForm::Unknown => Answer::Newer { row },
+    match row_at(ctx.frames, ctx.starts, row) {
+        Some(e) => resolve(pass, ctx, row, e),
+        None => Err(Unresolved::Newer { row }),
     }
 }

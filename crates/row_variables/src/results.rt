@@ -7,38 +7,38 @@ ghost use Rattle.rule_rows.specs.Results.{result_of, special, cooperative_of, va
 ghost use Rattle.rule_rows.specs.Answered.{to_result};
 
 use super::variables::item_type;
-use answers::{Answer, Refusal};
+use answers::{Answer, Refusal, Unresolved};
 use archive::Starts;
 use archive_access::families::{is_item, item_at};
 use ir::{
-    CooperativeRole, CooperativeSize, FunctionResult, Item, ItemNumber, OptionScalar,
-    OptionTypeResolution, RowNumber, TypeResolution,
+    CooperativeRole, CooperativeSize, Item, ItemNumber, RowNumber, Scalar, TypeNumber,
+    TypeResolution,
 };
 use row_operands::values::{cooperative_type, invalid_pointer, numbered};
 
 // A function's result.
-fn item_result(item: Item) -> FunctionResult
+fn item_result(item: Item) -> Option<TypeNumber>
     ensures { result ≡ item_result item }
 {
     match item {
-        Item::Unknown => FunctionResult::None,
-        Item::Constant { ty: _ } => FunctionResult::None,
-        Item::Override { ty: _ } => FunctionResult::None,
-        Item::GlobalVariable { ty: _, space: _ } => FunctionResult::None,
-        Item::FunctionArgument { ty: _ } => FunctionResult::None,
-        Item::LocalVariable { ty: _ } => FunctionResult::None,
+        Item::Unknown => None,
+        Item::Constant { ty: _ } => None,
+        Item::Override { ty: _ } => None,
+        Item::GlobalVariable { ty: _, space: _ } => None,
+        Item::FunctionArgument { ty: _ } => None,
+        Item::LocalVariable { ty: _ } => None,
         Item::Function { result } => result,
-        Item::RayIntersection { ty: _ } => FunctionResult::None,
-        Item::RayVertexReturn { ty: _ } => FunctionResult::None,
+        Item::RayIntersection { ty: _ } => None,
+        Item::RayVertexReturn { ty: _ } => None,
     }
 }
 
-fn result_of(res: FunctionResult) -> Answer
+fn result_of(res: Option<TypeNumber>) -> Answer
     ensures { to_result result ≡ told (result_of res) }
 {
     match res {
-        FunctionResult::Some(ty) => numbered(ty),
-        FunctionResult::None => Answer::Refused(Refusal::FunctionReturnsVoid),
+        Some(ty) => numbered(ty),
+        None => Err(Unresolved::Refused(Refusal::FunctionReturnsVoid)),
     }
 }
 
@@ -55,7 +55,7 @@ pub fn special(frames: &[u8], first: usize, last: usize) -> Answer
     if is_item(first, last, ItemNumber(0)) {
         numbered(item_type(item_at(frames, first, ItemNumber(0))))
     } else {
-        Answer::Refused(Refusal::MissingSpecialType)
+        Err(Unresolved::Refused(Refusal::MissingSpecialType))
     }
 }
 
@@ -65,31 +65,31 @@ pub fn cooperative_of(
     rows: CooperativeSize,
     role: CooperativeRole,
     pointer: RowNumber,
-    scalar: OptionScalar,
+    scalar: Option<Scalar>,
 ) -> Answer
     ensures { to_result result ≡ told (cooperative_of columns rows role pointer scalar) }
 {
     match scalar {
-        OptionScalar::Some(scalar) => cooperative_type(columns, rows, scalar, role),
-        OptionScalar::None => invalid_pointer(pointer),
+        Some(scalar) => cooperative_type(columns, rows, scalar, role),
+        None => invalid_pointer(pointer),
     }
 }
 
 // The scalar of what a value pointer points at.
-pub fn base_scalar(base: OptionTypeResolution) -> OptionScalar
+pub fn base_scalar(base: Option<TypeResolution>) -> Option<Scalar>
     ensures { result ≡ base_scalar base }
 {
     match base {
-        OptionTypeResolution::Some(ty) => value_scalar(ty),
-        OptionTypeResolution::None => OptionScalar::None,
+        Some(ty) => value_scalar(ty),
+        None => None,
     }
 }
 
-fn value_scalar(ty: TypeResolution) -> OptionScalar
+fn value_scalar(ty: TypeResolution) -> Option<Scalar>
     ensures { result ≡ value_scalar ty }
 {
     match ty {
-        TypeResolution::Handle(_) => OptionScalar::None,
+        TypeResolution::Handle(_) => None,
         TypeResolution::Value(t) => t.scalar(),
     }
 }

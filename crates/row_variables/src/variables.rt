@@ -6,13 +6,10 @@ ghost use Rattle.rule.specs.Things.{item_type, item_space, maybe_item};
 ghost use Rattle.rule_rows.specs.Variables.{literal_scalar, argument, variable, load_through, load_into};
 ghost use Rattle.rule_rows.specs.Answered.{to_result};
 
-use answers::{Answer, Refusal};
+use answers::{Answer, Refusal, Unresolved};
 use archive::Starts;
 use archive_access::families::{is_item, item_at};
-use ir::{
-    AddressSpace, Item, ItemNumber, Literal, OptionTypeResolution, RowNumber, Scalar, TypeInner,
-    TypeNumber,
-};
+use ir::{AddressSpace, Item, ItemNumber, Literal, RowNumber, Scalar, TypeInner, TypeNumber};
 use row_operands::values::{invalid_pointer, numbered, pointer_type, scalar_type};
 
 // The source's Literal::scalar (proc/mod.rs).
@@ -89,7 +86,7 @@ pub fn function_argument(frames: &[u8], s: Starts, index: u32) -> Answer
     if is_item(s.arguments, s.locals, ItemNumber(index)) {
         numbered(item_type(item_at(frames, s.arguments, ItemNumber(index))))
     } else {
-        Answer::Refused(Refusal::FunctionArgumentNotFound(index))
+        Err(Unresolved::Refused(Refusal::FunctionArgumentNotFound(index)))
     }
 }
 
@@ -144,7 +141,7 @@ pub fn load_into(pointer: RowNumber, t: TypeInner) -> Answer
     ensures { to_result result ≡ told (load_into pointer t) }
 {
     match t.pointer_base_type() {
-        OptionTypeResolution::Some(ty) => Answer::Resolved(ty),
-        OptionTypeResolution::None => invalid_pointer(pointer),
+        Some(ty) => Ok(ty),
+        None => invalid_pointer(pointer),
     }
 }

@@ -1,7 +1,8 @@
 -- The three parts of what the second pass gives of two scalars or vectors make the whole. Operator by operator. Assumes
 -- nothing.
+use Rattle.std.specs.Prelude.{Option}
+use Rattle.ir.specs.declared.VectorSize.{VectorSize}
 use mathlib.Core.Path.{◌≡◌, refl}
-use Rattle.ir.specs.declared.OptionVectorSize.{OptionVectorSize}
 use Rattle.ir.specs.declared.Scalar.{Scalar}
 use Rattle.ir.specs.declared.BinaryOperator.{BinaryOperator}
 use Rattle.ir.specs.declared.BinaryOperator.TheVariants as Bo
@@ -9,7 +10,7 @@ use Rattle.rule_rows.specs.WgslTables.{plain}
 use Rattle.rule_rows.specs.Wgsl.{when, plain_result}
 use Rattle.row_wgsl.specs.ForProofs.{test_of, size_of, scalar_of}
 
-pub in_parts : (op : BinaryOperator) (n : OptionVectorSize) (s : Scalar) (m : OptionVectorSize) (r : Scalar)
+pub in_parts : (op : BinaryOperator) (n : Option VectorSize) (s : Scalar) (m : Option VectorSize) (r : Scalar)
     → when (test_of op n s m r) (plain (size_of op n m) (scalar_of op s)) ≡ plain_result op n s m r
 in_parts Bo.Add n s m r = refl
 in_parts Bo.Subtract n s m r = refl

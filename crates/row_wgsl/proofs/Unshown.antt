@@ -1,5 +1,6 @@
 -- Where the frame of an operand's answer shows no scalar, vector, matrix or cooperative matrix, a look sees no scalar,
 -- vector or matrix, so no line of WGSL's tables has its type. By the cases of the answer's family and of the kind.
+use Rattle.std.specs.Prelude.{Option, Some, None, Ok, Err}
 use Prim.Native.Nat.{ℕ, ◌≤◌}
 use native.Mathlib.Omega.{arith}
 use native.Mathlib.Decide.{dec_le}
@@ -15,14 +16,11 @@ use Rattle.ir.specs.declared.BinaryOperator.{BinaryOperator}
 use Rattle.ir.specs.declared.TypeKind.{TypeKind}
 use Rattle.ir.specs.declared.TypeKind.TheVariants as Tk
 use Rattle.ir.specs.declared.TypeInner.{TypeInner}
-use Rattle.ir.specs.declared.TypeForm.{TypeForm}
-use Rattle.ir.specs.declared.TypeForm.TheVariants as Tf
 use Rattle.ir.specs.Numbers.{type_kind_of, type_kind_number}
 use Rattle.ir.proofs.Numbered.{type_kind-number, unknown-type}
 use Rattle.answers.specs.declared.Unresolved.{Unresolved}
 use Rattle.answers.specs.declared.Unresolved.TheVariants as Un
 use Rattle.answers.specs.ForProofs.{answered}
-use Rattle.answers.specs.declared.Answer.TheVariants as An
 use Rattle.ir.specs.declared.TypeResolution.TheVariants as Tr
 use Rattle.frames.specs.declared.Frame.{Frame}
 use Rattle.frames.specs.Bytes.{byte, half, zero_frame}
@@ -36,8 +34,7 @@ use Rattle.rule.specs.Things.{sound_form, value_fault}
 use Rattle.rule_rows.specs.declared.Shape.{Shape}
 use Rattle.rule_rows.specs.declared.Shape.TheVariants as Sh
 use Rattle.rule_rows.specs.Wgsl.{shape_of, shapes_result}
-use Rattle.row_operands.specs.declared.Looked.{Looked}
-use Rattle.row_operands.specs.declared.Looked.TheVariants as Lo
+use Rattle.row_operands.specs.Looked.{Looked}
 use Rattle.row_operands.specs.Past.{looked_at, looked_by, looked_in}
 use Rattle.row_operands.specs.Plain.{past_frame, type_frame_in, typed_frame, is_plain, plain_of}
 use Rattle.row_operands.proofs.ByFrame.{past-frame, type-frame}
@@ -47,9 +44,9 @@ never z = absurd (omega arith)
 
 -- BY THE KIND
 
-abbrev form_shape : TypeForm → Shape
-form_shape (Tf.Known t) = shape_of t
-form_shape Tf.Unknown = Sh.Other
+abbrev form_shape : Option TypeInner → Shape
+form_shape (Some t) = shape_of t
+form_shape None = Sh.Other
 
 -- a kind that is known has its number
 number_of : (n : ℕ) (k : TypeKind) → type_kind_of n ≡ k → 1 ≤ type_kind_number k → n ≡ type_kind_number k
@@ -85,43 +82,43 @@ module _ (g : Frame) (h : is_plain g ≡ false) where
   by_kind Tk.BindingArray e = refl
 
 -- a frame that shows nothing, and the type that it is of
-other-shape : (g : Frame) (t : TypeInner) → plain_of g ≡ Tf.Unknown → type_of g ≡ Tf.Known t → shape_of t ≡ Sh.Other
+other-shape : (g : Frame) (t : TypeInner) → plain_of g ≡ None → type_of g ≡ Some t → shape_of t ≡ Sh.Other
 unfolding plain_of type_of
 other-shape g t u e = go (is_plain g) refl u
   where
-    go : (b : Bool) → is_plain g ≡ b → cond b (type_of g) Tf.Unknown ≡ Tf.Unknown → shape_of t ≡ Sh.Other
+    go : (b : Bool) → is_plain g ≡ b → cond b (type_of g) None ≡ None → shape_of t ≡ Sh.Other
     go true p q = never (cc)
     go false p q = ap form_shape (sym e) ∙ by_kind g p (type_kind_of (byte g 1)) refl
 
 -- BY THE FAMILY
 
 abbrev seen_or : TypeInner → Looked → TypeInner
-seen_or x (Lo.Seen i) = i
-seen_or x (Lo.Ended u) = x
+seen_or x (Ok i) = i
+seen_or x (Err u) = x
 
-known : (here : RowNumber) (x : TypeForm) {t : TypeInner} → looked_at here x ≡ Lo.Seen t → x ≡ Tf.Known t
-known here (Tf.Known i) {t} p = ap Tf.Known (ap (seen_or t) p)
-known here Tf.Unknown p = never (cc)
+known : (here : RowNumber) (x : Option TypeInner) {t : TypeInner} → looked_at here x ≡ Ok t → x ≡ Some t
+known here (Some i) {t} p = ap Some (ap (seen_or t) p)
+known here None p = never (cc)
 
-sound-known : (x : Fault) {u t : TypeInner} → sound_form u x ≡ Tf.Known t → Tf.Known u ≡ Tf.Known t
+sound-known : (x : Fault) {u t : TypeInner} → sound_form u x ≡ Some t → Some u ≡ Some t
 sound-known Fa.Sound p = p
 sound-known Fa.Field p = never (cc)
 sound-known Fa.Index p = never (cc)
 
 module _ (fr : List ℕ) (s : Starts) (here : RowNumber) where
-  of-value : (f : Frame) (t : TypeInner) → plain_of f ≡ Tf.Unknown → (x : TypeForm) → type_of f ≡ x
-      → looked_by fr s here (value_of x) ≡ Lo.Seen t → shape_of t ≡ Sh.Other
-  of-value f t u (Tf.Known i) e q = other-shape f t u
+  of-value : (f : Frame) (t : TypeInner) → plain_of f ≡ None → (x : Option TypeInner) → type_of f ≡ x
+      → looked_by fr s here (value_of x) ≡ Ok t → shape_of t ≡ Sh.Other
+  of-value f t u (Some i) e q = other-shape f t u
       (e ∙ sound-known (value_fault s i) (known here (sound_form i (value_fault s i)) q))
-  of-value f t u Tf.Unknown e q = never (cc)
+  of-value f t u None e q = never (cc)
 
-  of_end : (u : Unresolved) (t : TypeInner) → looked_by fr s here (answered u) ≡ Lo.Seen t → shape_of t ≡ Sh.Other
+  of_end : (u : Unresolved) (t : TypeInner) → looked_by fr s here (answered u) ≡ Ok t → shape_of t ≡ Sh.Other
   of_end (Un.Refused e) t q = never (cc)
   of_end (Un.Newer r) t q = never (cc)
 
-  of-frame : (f : Frame) (t : TypeInner) → plain_of (typed_frame fr s f) ≡ Tf.Unknown
+  of-frame : (f : Frame) (t : TypeInner) → plain_of (typed_frame fr s f) ≡ None
       → looked_by fr s here (answer_of f)
-      ≡ Lo.Seen t
+      ≡ Ok t
       → shape_of t ≡ Sh.Other
   unfolding answer_of
   of-frame f t u e = go (eqb (byte f 0) 8) (eqb (byte f 0) 9) u e
@@ -129,24 +126,25 @@ module _ (fr : List ℕ) (s : Starts) (here : RowNumber) where
       n : TypeNumber
       n = record { 0 = half f 2 }
 
-      go : (a b : Bool) → plain_of (cond a (type_frame_in fr s n) (cond b f zero_frame)) ≡ Tf.Unknown
-          → looked_by fr s here (cond a (An.Resolved (Tr.Handle n))
-          (cond b (value_of (type_of f)) (answered (unresolved_of f)))) ≡ Lo.Seen t
+      go : (a b : Bool) → plain_of (cond a (type_frame_in fr s n) (cond b f zero_frame)) ≡ None
+          → looked_by fr s here (cond a (Ok (Tr.Handle n))
+          (cond b (value_of (type_of f)) (answered (unresolved_of f)))) ≡ Ok t
           → shape_of t ≡ Sh.Other
       go true b h q = other-shape (type_frame_in fr s n) t h (sym (type-frame fr s n) ∙ known here (type_in fr s n) q)
       go false true h q = of-value f t h (type_of f) refl q
       go false false h q = of_end (unresolved_of f) t q
 
   unseen : (an pl : List ℕ) (n : RowNumber) (t : TypeInner)
-      → plain_of (typed_frame fr s (past_frame an pl n)) ≡ Tf.Unknown
-      → looked_in fr s an pl here n ≡ Lo.Seen t → shape_of t ≡ Sh.Other
+      → plain_of (typed_frame fr s (past_frame an pl n)) ≡ None
+      → looked_in fr s an pl here n ≡ Ok t → shape_of t ≡ Sh.Other
   unfolding looked_in
   unseen an pl n t u e = of-frame (past_frame an pl n) t u (sym (ap (looked_by fr s here) (past-frame an pl n)) ∙ e)
 
   -- the same where the code has these frames and this form
-  pub unshown : (an pl : List ℕ) (n : RowNumber) {f g : Frame} {p : TypeForm} (t : TypeInner) → f ≡ past_frame an pl n
+  pub unshown : (an pl : List ℕ) (n : RowNumber) {f g : Frame} {p : Option TypeInner} (t : TypeInner)
+      → f ≡ past_frame an pl n
       → g ≡ typed_frame fr s f
-      → p ≡ plain_of g → p ≡ Tf.Unknown → looked_in fr s an pl here n ≡ Lo.Seen t → shape_of t ≡ Sh.Other
+      → p ≡ plain_of g → p ≡ None → looked_in fr s an pl here n ≡ Ok t → shape_of t ≡ Sh.Other
   unshown an pl n {f} {g} {p} t a b c e =
       unseen an pl n t (ap (λ x. plain_of (typed_frame fr s x)) (sym a) ∙ ap plain_of (sym b) ∙ sym c ∙ e)
 

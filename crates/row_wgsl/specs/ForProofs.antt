@@ -1,10 +1,9 @@
 -- Not part of any public statement: for proofs and code only. What the second pass gives of two scalars or vectors
 -- (`plain_result`, rule_rows/specs/Wgsl.antt), in three parts: whether an operator takes them, and the components and
 -- the scalar of the result.
-use Rattle.std.specs.Prelude.{◌≡◌, Bool, List, ℕ}
+use Rattle.ir.specs.declared.VectorSize.{VectorSize}
+use Rattle.std.specs.Prelude.{◌≡◌, Bool, List, ℕ, Option, None, Ok}
 use Rattle.std.proofs.Math.Option.{none}
-use Rattle.ir.specs.declared.OptionVectorSize.{OptionVectorSize}
-use Rattle.ir.specs.declared.OptionVectorSize.TheVariants as Ov
 use Rattle.ir.specs.declared.RowNumber.{RowNumber}
 use Rattle.ir.specs.declared.Scalar.{Scalar}
 use Rattle.ir.specs.declared.BinaryOperator.{BinaryOperator}
@@ -14,11 +13,10 @@ use Rattle.ir.specs.Scalars.{BOOL}
 use Rattle.archive.specs.declared.Starts.{Starts}
 use Rattle.rule_rows.specs.Wgsl.{shape_of, mixed, arithmetic_test, equality_test, ordering_test, and_or_test, xor_test}
 use Rattle.rule_rows.specs.Wgsl.{shift_test, logicals_test, shapes_result}
-use Rattle.row_operands.specs.declared.Looked.TheVariants as Lo
 use Rattle.row_operands.specs.Past.{looked_in}
 
 -- whether an operator takes two scalars or vectors
-abbrev pub test_of : BinaryOperator → OptionVectorSize → Scalar → OptionVectorSize → Scalar → Bool
+abbrev pub test_of : BinaryOperator → Option VectorSize → Scalar → Option VectorSize → Scalar → Bool
 test_of Bo.Add = arithmetic_test
 test_of Bo.Subtract = arithmetic_test
 test_of Bo.Multiply = arithmetic_test
@@ -39,7 +37,7 @@ test_of Bo.ShiftLeft = shift_test
 test_of Bo.ShiftRight = shift_test
 
 -- the components of the result: arithmetic takes a scalar and a vector too, logical operators take no vectors
-abbrev pub size_of : BinaryOperator → OptionVectorSize → OptionVectorSize → OptionVectorSize
+abbrev pub size_of : BinaryOperator → Option VectorSize → Option VectorSize → Option VectorSize
 size_of Bo.Add n m = mixed n m
 size_of Bo.Subtract n m = mixed n m
 size_of Bo.Multiply n m = mixed n m
@@ -54,8 +52,8 @@ size_of Bo.GreaterEqual n m = n
 size_of Bo.And n m = n
 size_of Bo.ExclusiveOr n m = n
 size_of Bo.InclusiveOr n m = n
-size_of Bo.LogicalAnd n m = Ov.None
-size_of Bo.LogicalOr n m = Ov.None
+size_of Bo.LogicalAnd n m = None
+size_of Bo.LogicalOr n m = None
 size_of Bo.ShiftLeft n m = n
 size_of Bo.ShiftRight n m = n
 
@@ -83,5 +81,5 @@ scalar_of Bo.ShiftRight s = s
 -- where a look sees both operands, no line of the tables has their types
 abbrev pub NoLine : List ℕ → Starts → List ℕ → List ℕ → RowNumber → BinaryOperator → RowNumber → RowNumber → Type 0
 NoLine fr s an pl here op left right =
-    (x y : TypeInner) → looked_in fr s an pl here left ≡ Lo.Seen x → looked_in fr s an pl here right ≡ Lo.Seen y
+    (x y : TypeInner) → looked_in fr s an pl here left ≡ Ok x → looked_in fr s an pl here right ≡ Ok y
     → shapes_result op (shape_of x) (shape_of y) ≡ none

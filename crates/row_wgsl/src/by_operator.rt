@@ -11,28 +11,26 @@ ghost use Rattle.rule_rows.specs.Wgsl.{plain_result};
 ghost use Rattle.rule_rows.specs.Wgsl.{matrices_result, if_multiply, shapes_result};
 ghost use Rattle.row_wgsl.specs.ForProofs.{test_of, size_of, scalar_of};
 
-use super::tests::{
-    equal_counts, equal_sizes, is_float, is_integer, is_numeric, like_or_mixed, mixed,
-};
-use answers::{Answer, Refusal};
-use ir::{BinaryOperator, OptionVectorSize, Scalar, TypeInner, VectorSize};
+use super::tests::{is_float, is_integer, is_numeric, like_or_mixed, mixed};
+use answers::{Answer, Refusal, Unresolved};
+use ir::{BinaryOperator, Scalar, TypeInner, VectorSize};
 use row_operands::values::{matrix_type, scalar_type, vector_type};
 use rule_rows::Shape;
 
 pub fn mismatch() -> Answer
     ensures { to_result result ≡ told (refused Refusal.Mismatch) }
 {
-    Answer::Refused(Refusal::Mismatch)
+    Err(Unresolved::Refused(Refusal::Mismatch))
 }
 
 // A scalar, or a vector of it, where a test holds.
-fn plain_when(test: bool, size: OptionVectorSize, scalar: Scalar) -> Answer
+fn plain_when(test: bool, size: Option<VectorSize>, scalar: Scalar) -> Answer
     ensures { to_result result ≡ told (or_mismatch (when test (plain size scalar))) }
 {
     if test {
         match size {
-            OptionVectorSize::None => scalar_type(scalar),
-            OptionVectorSize::Some(n) => vector_type(n, scalar),
+            None => scalar_type(scalar),
+            Some(n) => vector_type(n, scalar),
         }
     } else {
         mismatch()
@@ -50,11 +48,12 @@ fn matrix_when(test: bool, columns: VectorSize, rows: VectorSize, scalar: Scalar
 }
 
 // Whether an operator takes two scalars or vectors.
+#[tactic(auto, using(ir::proofs::Equal::scalars_equal, ir::proofs::Equal::sizes_equal))]
 fn plain_test(
     op: BinaryOperator,
-    n: OptionVectorSize,
+    n: Option<VectorSize>,
     s: Scalar,
-    m: OptionVectorSize,
+    m: Option<VectorSize>,
     r: Scalar,
 ) -> bool
     ensures { result ≡ test_of op n s m r }
@@ -65,31 +64,33 @@ fn plain_test(
         | BinaryOperator::Subtract
         | BinaryOperator::Multiply
         | BinaryOperator::Divide
-        | BinaryOperator::Modulo => is_numeric(kind) & (s.equals(r) & like_or_mixed(n, m)),
+        | BinaryOperator::Modulo => is_numeric(kind) & ((s == r) & like_or_mixed(n, m)),
         BinaryOperator::Equal | BinaryOperator::NotEqual => {
-            (is_numeric(kind) | s.equals(Scalar::BOOL)) & (s.equals(r) & equal_counts(n, m))
+            (is_numeric(kind) | (s == Scalar::BOOL)) & ((s == r) & (n == m))
         }
         BinaryOperator::Less
         | BinaryOperator::LessEqual
         | BinaryOperator::Greater
-        | BinaryOperator::GreaterEqual => is_numeric(kind) & (s.equals(r) & equal_counts(n, m)),
+        | BinaryOperator::GreaterEqual => is_numeric(kind) & ((s == r) & (n == m)),
         BinaryOperator::And | BinaryOperator::InclusiveOr => {
-            (is_integer(kind) | s.equals(Scalar::BOOL)) & (s.equals(r) & equal_counts(n, m))
+            (is_integer(kind) | (s == Scalar::BOOL)) & ((s == r) & (n == m))
         }
-        BinaryOperator::ExclusiveOr => is_integer(kind) & (s.equals(r) & equal_counts(n, m)),
+        BinaryOperator::ExclusiveOr => is_integer(kind) & ((s == r) & (n == m)),
         BinaryOperator::LogicalAnd | BinaryOperator::LogicalOr => {
-            (s.equals(Scalar::BOOL) & r.equals(Scalar::BOOL))
-                & (equal_counts(n, OptionVectorSize::None)
-                    & equal_counts(m, OptionVectorSize::None))
+            ((s == Scalar::BOOL) & (r == Scalar::BOOL)) & ((n == None) & (m == None))
         }
         BinaryOperator::ShiftLeft | BinaryOperator::ShiftRight => {
-            is_integer(kind) & (r.equals(Scalar::U32) & equal_counts(n, m))
+            is_integer(kind) & ((r == Scalar::U32) & (n == m))
         }
     }
 }
 
 // The components of the result: arithmetic takes a scalar and a vector too, logical operators take no vectors.
-fn plain_size(op: BinaryOperator, n: OptionVectorSize, m: OptionVectorSize) -> OptionVectorSize
+fn plain_size(
+    op: BinaryOperator,
+    n: Option<VectorSize>,
+    m: Option<VectorSize>,
+) -> Option<VectorSize>
     ensures { result ≡ size_of op n m }
 {
     match op {
@@ -98,7 +99,7 @@ fn plain_size(op: BinaryOperator, n: OptionVectorSize, m: OptionVectorSize) -> O
         | BinaryOperator::Multiply
         | BinaryOperator::Divide
         | BinaryOperator::Modulo => mixed(n, m),
-        BinaryOperator::LogicalAnd | BinaryOperator::LogicalOr => OptionVectorSize::None,
+        BinaryOperator::LogicalAnd | BinaryOperator::LogicalOr => None,
         _ => n,
     }
 }
@@ -123,9 +124,9 @@ fn plain_scalar(op: BinaryOperator, s: Scalar) -> Scalar
 // Two scalars or vectors.
 fn plain_result(
     op: BinaryOperator,
-    n: OptionVectorSize,
+    n: Option<VectorSize>,
     s: Scalar,
-    m: OptionVectorSize,
+    m: Option<VectorSize>,
     r: Scalar,
 ) -> Answer
     ensures { to_result result ≡ told (or_mismatch (plain_result op n s m r)) }
@@ -138,35 +139,30 @@ fn plain_result(
 }
 
 // A matrix times a scalar or a vector.
-fn matrix_times(c: VectorSize, r: VectorSize, s: Scalar, n: OptionVectorSize, t: Scalar) -> Answer
+#[tactic(auto, using(ir::proofs::Equal::scalars_equal, ir::proofs::Equal::sizes_equal))]
+fn matrix_times(c: VectorSize, r: VectorSize, s: Scalar, n: Option<VectorSize>, t: Scalar) -> Answer
     ensures { to_result result ≡ told (or_mismatch (matrix_times_of c r s n t)) }
 {
     let kind = s.kind;
     match n {
-        OptionVectorSize::None => matrix_when(is_float(kind) & s.equals(t), c, r, s),
-        OptionVectorSize::Some(size) => plain_when(
-            is_float(kind) & (s.equals(t) & equal_sizes(size, c)),
-            OptionVectorSize::Some(r),
-            s,
-        ),
+        None => matrix_when(is_float(kind) & (s == t), c, r, s),
+        Some(size) => plain_when(is_float(kind) & ((s == t) & (size == c)), Some(r), s),
     }
 }
 
 // A scalar or a vector times a matrix.
-fn times_matrix(n: OptionVectorSize, s: Scalar, c: VectorSize, r: VectorSize, t: Scalar) -> Answer
+#[tactic(auto, using(ir::proofs::Equal::scalars_equal, ir::proofs::Equal::sizes_equal))]
+fn times_matrix(n: Option<VectorSize>, s: Scalar, c: VectorSize, r: VectorSize, t: Scalar) -> Answer
     ensures { to_result result ≡ told (or_mismatch (times_matrix_of n s c r t)) }
 {
     let kind = s.kind;
     match n {
-        OptionVectorSize::None => matrix_when(is_float(kind) & s.equals(t), c, r, s),
-        OptionVectorSize::Some(size) => plain_when(
-            is_float(kind) & (s.equals(t) & equal_sizes(size, r)),
-            OptionVectorSize::Some(c),
-            s,
-        ),
+        None => matrix_when(is_float(kind) & (s == t), c, r, s),
+        Some(size) => plain_when(is_float(kind) & ((s == t) & (size == r)), Some(c), s),
     }
 }
 
+#[tactic(auto, using(ir::proofs::Equal::scalars_equal, ir::proofs::Equal::sizes_equal))]
 fn matrices_times(
     c: VectorSize,
     r: VectorSize,
@@ -178,9 +174,10 @@ fn matrices_times(
     ensures { to_result result ≡ told (or_mismatch (matrices_times_of c r s d q t)) }
 {
     let kind = s.kind;
-    matrix_when(is_float(kind) & (s.equals(t) & equal_sizes(c, q)), d, r, s)
+    matrix_when(is_float(kind) & ((s == t) & (c == q)), d, r, s)
 }
 
+#[tactic(auto, using(ir::proofs::Equal::scalars_equal, ir::proofs::Equal::sizes_equal))]
 fn matrices_sum(
     c: VectorSize,
     r: VectorSize,
@@ -192,12 +189,7 @@ fn matrices_sum(
     ensures { to_result result ≡ told (or_mismatch (matrices_sum_of c r s d q t)) }
 {
     let kind = s.kind;
-    matrix_when(
-        is_float(kind) & (s.equals(t) & (equal_sizes(c, d) & equal_sizes(r, q))),
-        c,
-        r,
-        s,
-    )
+    matrix_when(is_float(kind) & ((s == t) & ((c == d) & (r == q))), c, r, s)
 }
 
 fn matrices_result(
@@ -221,7 +213,7 @@ fn matrices_result(
 // What Multiply gives of a matrix and a scalar or vector; every other operator is number 41.
 fn if_multiply_plain(
     op: BinaryOperator,
-    n: OptionVectorSize,
+    n: Option<VectorSize>,
     s: Scalar,
     c: VectorSize,
     r: VectorSize,
@@ -240,7 +232,7 @@ fn if_multiply_matrix(
     c: VectorSize,
     r: VectorSize,
     s: Scalar,
-    n: OptionVectorSize,
+    n: Option<VectorSize>,
     t: Scalar,
 ) -> Answer
     ensures { to_result result ≡ told (or_mismatch (if_multiply op (matrix_times_of c r s n t))) }
@@ -252,7 +244,7 @@ fn if_multiply_matrix(
 }
 
 // The left is a scalar or a vector.
-fn plain_left(op: BinaryOperator, n: OptionVectorSize, s: Scalar, y: Shape) -> Answer
+fn plain_left(op: BinaryOperator, n: Option<VectorSize>, s: Scalar, y: Shape) -> Answer
     ensures { to_result result ≡ told (or_mismatch (shapes_result op (Shape.Plain n s) y)) }
 {
     match y {

@@ -4,19 +4,16 @@ ghost use Rattle.rule_rows.specs.Wgsl.{shape_of, is_integer, is_float, is_numeri
 ghost use Rattle.rule_rows.specs.Wgsl.{like_or_mixed};
 ghost use Rattle.rule_rows.specs.Wgsl.{mixed};
 
-use ir::{OptionVectorSize, ScalarKind, TypeInner, VectorSize};
+use ir::{ScalarKind, TypeInner, VectorSize};
 use rule_rows::Shape;
 
 pub fn shape_of(t: TypeInner) -> Shape
     ensures { result ≡ shape_of t }
 {
     match t {
-        TypeInner::Scalar(scalar) => Shape::Plain {
-            size: OptionVectorSize::None,
-            scalar,
-        },
+        TypeInner::Scalar(scalar) => Shape::Plain { size: None, scalar },
         TypeInner::Vector { size, scalar } => Shape::Plain {
-            size: OptionVectorSize::Some(size),
+            size: Some(size),
             scalar,
         },
         TypeInner::Matrix {
@@ -64,47 +61,25 @@ pub fn is_numeric(kind: ScalarKind) -> bool
     is_integer(kind) | is_float(kind)
 }
 
-pub fn equal_sizes(a: VectorSize, b: VectorSize) -> bool
-    ensures { result ≡ equal_sizes a b }
-{
-    a.number() == b.number()
-}
-
-// Two scalars, or two vectors of as many components.
-pub fn equal_counts(n: OptionVectorSize, m: OptionVectorSize) -> bool
-    ensures { result ≡ equal_counts n m }
-{
-    match n {
-        OptionVectorSize::None => match m {
-            OptionVectorSize::None => true,
-            OptionVectorSize::Some(_) => false,
-        },
-        OptionVectorSize::Some(a) => match m {
-            OptionVectorSize::None => false,
-            OptionVectorSize::Some(b) => equal_sizes(a, b),
-        },
-    }
-}
-
 // The same, or a scalar and a vector in either order.
-pub fn like_or_mixed(n: OptionVectorSize, m: OptionVectorSize) -> bool
+pub fn like_or_mixed(n: Option<VectorSize>, m: Option<VectorSize>) -> bool
     ensures { result ≡ like_or_mixed n m }
 {
     match n {
-        OptionVectorSize::None => true,
-        OptionVectorSize::Some(a) => match m {
-            OptionVectorSize::None => true,
-            OptionVectorSize::Some(b) => equal_sizes(a, b),
+        None => true,
+        Some(a) => match m {
+            None => true,
+            Some(b) => a == b,
         },
     }
 }
 
 // The components of such a result.
-pub fn mixed(n: OptionVectorSize, m: OptionVectorSize) -> OptionVectorSize
+pub fn mixed(n: Option<VectorSize>, m: Option<VectorSize>) -> Option<VectorSize>
     ensures { result ≡ mixed n m }
 {
     match n {
-        OptionVectorSize::None => m,
-        OptionVectorSize::Some(_) => n,
+        None => m,
+        Some(_) => n,
     }
 }

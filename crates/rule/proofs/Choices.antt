@@ -1,5 +1,7 @@
 -- Every frame of family 8, 9, 10 or 11 is a choice of a later reader: the answer that it stands for is written as that
 -- frame again. What a rule looks into is read from it and written back; the rest stays as it stands.
+use Rattle.std.specs.Prelude.{Option, Some, None}
+use Rattle.ir.specs.declared.TypeInner.{TypeInner}
 use Prim.Native.Nat.{ℕ}
 use native.Mathlib.Omega.{arith}
 use mathlib.Core.Path.{◌≡◌, refl, sym, ap, ◌∙◌}
@@ -10,8 +12,6 @@ use borrow.Author.Tests.{eqb-true, eq-eqb, ne_eqb}
 use Rattle.ir.specs.declared.RowNumber.{RowNumber}
 use Rattle.ir.specs.declared.TypeKind.{TypeKind}
 use Rattle.ir.specs.declared.TypeKind.TheVariants as Tk
-use Rattle.ir.specs.declared.TypeForm.{TypeForm}
-use Rattle.ir.specs.declared.TypeForm.TheVariants as Tf
 use Rattle.ir.specs.Numbers.{type_kind_of}
 use Rattle.scan.proofs.Laws.{by-test, and_first, and_second}
 use Rattle.frames.specs.declared.Frame.{Frame}
@@ -38,18 +38,18 @@ module _ (f : Frame) (below : Below f) where
       ∙ laid-back (number 2 ∷ []) f below (and_second (eqb (byte f 1) 0) _ r)
 
   -- a value
-  value-again : (eqb (byte f 0) 9 && fits_all (type_layout (type_kind_of (byte f 1))) f) ≡ true → (t : TypeForm)
+  value-again : (eqb (byte f 0) 9 && fits_all (type_layout (type_kind_of (byte f 1))) f) ≡ true → (t : Option TypeInner)
       → type_of f
       ≡ t
       → type_answer_frame (A.valued f t) ≡ f
   unfolding type_of
-  value-again h (Tf.Known t) q =
+  value-again h (Some t) q =
       let e : byte f 0 ≡ 9 = eqb-true _ _ (and_first _ (fits_all (type_layout (type_kind_of (byte f 1))) f) h) in
       let known : type_kind_of (byte f 1) ≡ Tk.Unknown → ⊥ =
       λ u. (let z : ◌≡◌ {A = ℕ} 0 1 = cc (ap (λ (k : TypeKind). type_as k f) u) in omega arith) in
       ap (form_frame 9) (sym q) ∙ ap (λ (b : ℕ). form_frame b (type_of f)) (sym e)
       ∙ type-again f below known (and_second (eqb (byte f 0) 9) _ h)
-  value-again h Tf.Unknown q = refl
+  value-again h None q = refl
 
   -- any frame, as a type answer
   pub type-choice : type_answer_frame (type_answer_of f) ≡ f

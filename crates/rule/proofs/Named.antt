@@ -16,8 +16,6 @@ use lib.Seq.{get_or-append_seam}
 use Rattle.ir.specs.declared.TypeNumber.{TypeNumber}
 use Rattle.ir.specs.declared.RowNumber.{RowNumber}
 use Rattle.ir.specs.declared.Item.{Item}
-use Rattle.ir.specs.declared.RowForm.{RowForm}
-use Rattle.ir.specs.declared.TypeForm.{TypeForm}
 use Rattle.ir.specs.declared.TypeInner.TheVariants as Ti
 use Rattle.ir.specs.Numbers.{type_kind_of, item_kind_of, row_kind_of, space_of}
 use Rattle.scan.proofs.Laws.{and_first, and_second}

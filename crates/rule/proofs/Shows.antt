@@ -1,5 +1,6 @@
 -- What `see` shows nothing of, by the bytes of a file: exactly a type of unknown kind, a row of unknown kind and row
 -- kind 22; and how `first_see` parts from it, at the class of a storage image. By the cases of what a frame reads as.
+use Rattle.std.specs.Prelude.{Option, Some, None}
 use Prim.Native.Nat.{ℕ, ◌+◌, ◌≤◌, ◌<◌}
 use native.Mathlib.Decide.{dec_lt}
 use native.Mathlib.Omega.{arith}
@@ -17,14 +18,10 @@ use Rattle.ir.specs.declared.ImageClass.{ImageClass}
 use Rattle.ir.specs.declared.ImageClass.TheVariants as Ic
 use Rattle.ir.specs.declared.TypeInner.{TypeInner}
 use Rattle.ir.specs.declared.TypeInner.TheVariants as Ti
-use Rattle.ir.specs.declared.TypeForm.{TypeForm}
-use Rattle.ir.specs.declared.TypeForm.TheVariants as Tf
 use Rattle.ir.specs.declared.RowKind.{RowKind}
 use Rattle.ir.specs.declared.RowKind.TheVariants as Rk
 use Rattle.ir.specs.declared.Expression.{Expression}
 use Rattle.ir.specs.declared.Expression.TheVariants as Ex
-use Rattle.ir.specs.declared.RowForm.{RowForm}
-use Rattle.ir.specs.declared.RowForm.TheVariants as Ro
 use Rattle.ir.specs.Numbers.{row_kind_of, row_kind_number}
 use Rattle.ir.proofs.Numbered.{row_kind-number, unknown-row}
 use Rattle.frames.specs.declared.Frame.{Frame}
@@ -48,9 +45,10 @@ never z = absurd (omega arith)
 module _ (fr : List ℕ) where
   -- TYPES
 
-  type-none : (n : TypeNumber) (t : TypeForm) → type_at fr n ≡ t → (see fr (form (number n)) ≡ none) ↔ (t ≡ Tf.Unknown)
-  type-none n (Tf.Known t) e = (λ h. never (let q = rw e at h in cc), λ h. never (cc))
-  type-none n Tf.Unknown e = (λ h. refl, λ h. rw e)
+  type-none : (n : TypeNumber) (t : Option TypeInner) → type_at fr n ≡ t
+      → (see fr (form (number n)) ≡ none) ↔ (t ≡ None)
+  type-none n (Some t) e = (λ h. never (let q = rw e at h in cc), λ h. never (cc))
+  type-none n None e = (λ h. refl, λ h. rw e)
 
   -- a type of the file shows nothing exactly when byte 1 is outside 1 to 14
   pub type-newer : (n : TypeNumber) → is_type (starts_of fr) n ≡ true
@@ -148,7 +146,7 @@ module _ (fr : List ℕ) where
   shown-none s (Ex.CooperativeLoad x0 x1 x2 x3) h = never (cc)
   shown-none s (Ex.CooperativeMultiplyAdd x0) h = never (cc)
 
-  only-math : (k : RowKind) (f : Frame) → row_as k f ≡ Ro.Known Ex.Math → k ≡ Rk.Math
+  only-math : (k : RowKind) (f : Frame) → row_as k f ≡ Some Ex.Math → k ≡ Rk.Math
   only-math Rk.Unknown f e = never (cc)
   only-math Rk.Literal f e = never (cc)
   only-math Rk.Constant f e = never (cc)
@@ -186,7 +184,7 @@ module _ (fr : List ℕ) where
   only-math Rk.CooperativeMultiplyAdd f e = never (cc)
 
   -- a row is a Math row exactly when byte 1 is 22
-  pub math-frame : (f : Frame) → (row_of f ≡ Ro.Known Ex.Math) ↔ (byte f 1 ≡ 22)
+  pub math-frame : (f : Frame) → (row_of f ≡ Some Ex.Math) ↔ (byte f 1 ≡ 22)
   unfolding row_of
   math-frame f = (
     λ e. go (only-math (row_kind_of (byte f 1)) f e) (dec_lt (byte f 1) 35),
@@ -199,14 +197,14 @@ module _ (fr : List ℕ) where
           (unknown-row (byte f 1)).1 (inr (omega arith)) in
           cc)
 
-  row-none : (n : RowNumber) (r : RowForm) → row_at fr n ≡ r
-      → (see fr (kind n) ≡ none) ↔ ((r ≡ Ro.Unknown) ⊎ (r ≡ Ro.Known Ex.Math))
-  row-none n (Ro.Known e) q = (λ h. inr (ap Ro.Known (shown-none (starts_of fr) e (rw q at h))), back)
+  row-none : (n : RowNumber) (r : Option Expression) → row_at fr n ≡ r
+      → (see fr (kind n) ≡ none) ↔ ((r ≡ None) ⊎ (r ≡ Some Ex.Math))
+  row-none n (Some e) q = (λ h. inr (ap Some (shown-none (starts_of fr) e (rw q at h))), back)
     where
-      back : (Ro.Known e ≡ Ro.Unknown) ⊎ (Ro.Known e ≡ Ro.Known Ex.Math) → see fr (kind n) ≡ none
+      back : (Some e ≡ None) ⊎ (Some e ≡ Some Ex.Math) → see fr (kind n) ≡ none
       back (inl h) = never (cc)
       back (inr h) = let m : e ≡ Ex.Math = cc in rw (q, m)
-  row-none n Ro.Unknown q = (λ h. inl refl, λ h. rw q)
+  row-none n None q = (λ h. inl refl, λ h. rw q)
 
   -- a row of the file shows nothing exactly when byte 1 is outside 1 to 34, or 22
   pub row-newer : (n : RowNumber) → is_row (starts_of fr) n ≡ true
@@ -218,13 +216,13 @@ module _ (fr : List ℕ) where
       let e : row_at fr n ≡ row_of f = rw i in
       (λ h. there f ((row-none n (row_of f) e).0 h), λ h. (row-none n (row_of f) e).1 (back f h))
     where
-      there : (f : Frame) → (row_of f ≡ Ro.Unknown) ⊎ (row_of f ≡ Ro.Known Ex.Math) → ((byte f 1 ≡ 0) ⊎ (35 ≤ byte f 1))
+      there : (f : Frame) → (row_of f ≡ None) ⊎ (row_of f ≡ Some Ex.Math) → ((byte f 1 ≡ 0) ⊎ (35 ≤ byte f 1))
           ⊎ (byte f 1 ≡ 22)
       there f (inl h) = inl ((unknown-row-frame f).0 h)
       there f (inr h) = inr ((math-frame f).0 h)
 
-      back : (f : Frame) → ((byte f 1 ≡ 0) ⊎ (35 ≤ byte f 1)) ⊎ (byte f 1 ≡ 22) → (row_of f ≡ Ro.Unknown)
-          ⊎ (row_of f ≡ Ro.Known Ex.Math)
+      back : (f : Frame) → ((byte f 1 ≡ 0) ⊎ (35 ≤ byte f 1)) ⊎ (byte f 1 ≡ 22) → (row_of f ≡ None)
+          ⊎ (row_of f ≡ Some Ex.Math)
       back f (inl h) = inl ((unknown-row-frame f).1 h)
       back f (inr h) = inr ((math-frame f).1 h)
 

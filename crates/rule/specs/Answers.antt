@@ -1,17 +1,15 @@
 -- What a reader answers (document 01, "A row's type" and the end of "The file"). A later reader's choice is any frame
 -- of its family, so each kind of answer has a case for what a later reader chose and no rule of ours gives.
-use Rattle.std.specs.Prelude.{ℕ, Bool, true, false, cond, ◌&&◌, eqb}
+use Rattle.std.specs.Prelude.{ℕ, Bool, true, false, cond, ◌&&◌, eqb, Option, Some, None, Ok, Err}
 use Rattle.ir.specs.declared.TypeNumber.{TypeNumber}
 use Rattle.ir.specs.declared.RowNumber.{RowNumber}
 use Rattle.ir.specs.declared.TypeInner.{TypeInner}
-use Rattle.ir.specs.declared.TypeForm.{TypeForm}
-use Rattle.ir.specs.declared.TypeForm.TheVariants as Tf
 use Rattle.ir.specs.declared.TypeResolution.{TypeResolution}
 use Rattle.ir.specs.declared.TypeResolution.TheVariants as Tr
 use Rattle.ir.specs.Numbers.{type_kind_of}
 use Rattle.answers.specs.Numbers.{at, refusal_values}
 use Rattle.answers.specs.declared.Refusal.{Refusal}
-use Rattle.answers.specs.declared.Verdict.TheVariants as Vd
+use Rattle.answers.specs.declared.ComposeError.TheVariants as Co
 use Rattle.frames.specs.declared.Frame.{Frame}
 use Rattle.frames.specs.Bytes.{byte, half}
 use Rattle.frames.specs.Fields.{fits_all}
@@ -90,19 +88,19 @@ row_frame (newer p) = newer_frame p
 -- number 22 as a verdict; a verdict's place is a component or the composed type, and no rule of a verdict gives the
 -- first and fourth line
 abbrev pub newer_verdict : RowNumber → Place → Frame
-newer_verdict r (row m) = Out.verdict_frame r (Vd.NewerComponent 0)
-newer_verdict r (component i) = Out.verdict_frame r (Vd.NewerComponent i)
-newer_verdict r composed = Out.verdict_frame r Vd.NewerComposed
-newer_verdict r nowhere = Out.verdict_frame r (Vd.NewerComponent 0)
+newer_verdict r (row m) = Out.verdict_frame r (Err (Co.NewerComponent 0))
+newer_verdict r (component i) = Out.verdict_frame r (Err (Co.NewerComponent i))
+newer_verdict r composed = Out.verdict_frame r (Err Co.NewerComposed)
+newer_verdict r nowhere = Out.verdict_frame r (Err (Co.NewerComponent 0))
 newer_verdict r (chosen f) = f
 
 -- the numbers are those of `verdict_values` (answers/specs/Numbers.antt)
 abbrev pub judgement_frame : RowNumber → Judgement → Frame
-judgement_frame r passes = Out.verdict_frame r Vd.Passes
-judgement_frame r not_composed = Out.verdict_frame r Vd.ComposedType
-judgement_frame r (count e g) = Out.verdict_frame r (Vd.ComponentCount e g)
-judgement_frame r (part i) = Out.verdict_frame r (Vd.ComponentType i)
-judgement_frame r (broken i) = Out.verdict_frame r (Vd.ComponentRefused i)
+judgement_frame r passes = Out.verdict_frame r (Ok tt)
+judgement_frame r not_composed = Out.verdict_frame r (Err Co.ComposedType)
+judgement_frame r (count e g) = Out.verdict_frame r (Err (Co.ComponentCount e g))
+judgement_frame r (part i) = Out.verdict_frame r (Err (Co.ComponentType i))
+judgement_frame r (broken i) = Out.verdict_frame r (Err (Co.ComponentRefused i))
 judgement_frame r (chosen_verdict f) = f
 
 -- the verdict of compose row r, family 11
@@ -112,9 +110,9 @@ verdict_frame r (newer p) = newer_verdict r p
 
 -- FROM FRAMES, as a later reader may choose them or a caller may hand them in
 
-abbrev pub valued : Frame → TypeForm → TypeAnswer
-valued f (Tf.Known t) = value t
-valued f Tf.Unknown = malformed f
+abbrev pub valued : Frame → Option TypeInner → TypeAnswer
+valued f (Some t) = value t
+valued f None = malformed f
 
 -- a frame has the family and the bytes of a type's number, or of a value
 abbrev pub is_number : Frame → Bool

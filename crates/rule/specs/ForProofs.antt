@@ -1,19 +1,18 @@
 -- Not part of any public statement: for proofs and code only. An answer as the code's resolution, what the claim for
 -- any rules says of one outcome, and the outcome that a reading tells (proofs/Later.antt).
-use Rattle.std.specs.Prelude.{◌≡◌, ◌↔◌, List}
+use Rattle.ir.specs.declared.TypeResolution.{TypeResolution}
+use Rattle.std.specs.Prelude.{◌≡◌, ◌↔◌, List, Option as CodeOption, Some, None}
 use Rattle.std.proofs.Math.Option.{Option, none, some}
 use Rattle.ir.specs.declared.TypeResolution.TheVariants as Tr
-use Rattle.ir.specs.declared.OptionTypeResolution.{OptionTypeResolution}
-use Rattle.ir.specs.declared.OptionTypeResolution.TheVariants as Ot
 use Rattle.rule.specs.Answers.{TypeAnswer, number, value, malformed, Place, nowhere, Result, told, newer}
 use Rattle.rule.specs.Things.{Sight}
 use Rattle.rule.specs.Rule.{Step, Reading, met}
 
 -- the resolution that an answer is; none where it is malformed
-abbrev pub resolution : TypeAnswer → OptionTypeResolution
-resolution (number n) = Ot.Some (Tr.Handle n)
-resolution (value t) = Ot.Some (Tr.Value t)
-resolution (malformed f) = Ot.None
+abbrev pub resolution : TypeAnswer → CodeOption TypeResolution
+resolution (number n) = Some (Tr.Handle n)
+resolution (value t) = Some (Tr.Value t)
+resolution (malformed f) = None
 
 -- an outcome that a reader gives is right by the reading of the rule, against a later reader's
 pub record Right (sight : Sight) {A : Type 0} (steps : List Step) (ours theirs : Result A) : Type 0 where

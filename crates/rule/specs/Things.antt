@@ -1,6 +1,9 @@
 -- What a reading comes to, and what each thing shows in a file (document 01, "A row's type"). Newer are exactly a row
 -- of unknown kind, a Math row and a type of unknown kind (document 02, request 1).
+use Rattle.ir.specs.declared.Width.{Width}
 use Rattle.std.specs.Prelude.{ℕ, zero, suc, ◌+◌, ◌-◌, Bool, true, false, cond, not, List, [], ◌∷◌, ◌++◌, ltb, eqb}
+use Rattle.std.specs.Prelude.{Option as CodeOption, Some, None}
+use Rattle.std.specs.Prelude.{Option as CodeOption, Some, None}
 use Rattle.std.proofs.Math.Option.{Option, none, some}
 use Rattle.ir.specs.declared.TypeNumber.{TypeNumber}
 use Rattle.ir.specs.declared.ItemNumber.{ItemNumber}
@@ -15,23 +18,16 @@ use Rattle.ir.specs.declared.ArraySize.{ArraySize}
 use Rattle.ir.specs.declared.ArraySize.TheVariants as As
 use Rattle.ir.specs.declared.ImageClass.{ImageClass}
 use Rattle.ir.specs.declared.ImageClass.TheVariants as Ic
-use Rattle.ir.specs.declared.FunctionResult.{FunctionResult}
-use Rattle.ir.specs.declared.FunctionResult.TheVariants as Fr
 use Rattle.ir.specs.declared.Literal.{Literal}
 use Rattle.ir.specs.declared.BinaryOperator.{BinaryOperator}
 use Rattle.ir.specs.declared.RelationalFunction.{RelationalFunction}
 use Rattle.ir.specs.declared.ImageQuery.{ImageQuery}
-use Rattle.ir.specs.declared.OptionBytes.{OptionBytes}
 use Rattle.ir.specs.declared.TypeInner.{TypeInner}
 use Rattle.ir.specs.declared.TypeInner.TheVariants as Ti
-use Rattle.ir.specs.declared.TypeForm.{TypeForm}
-use Rattle.ir.specs.declared.TypeForm.TheVariants as Tf
 use Rattle.ir.specs.declared.Item.{Item}
 use Rattle.ir.specs.declared.Item.TheVariants as It
 use Rattle.ir.specs.declared.Expression.{Expression}
 use Rattle.ir.specs.declared.Expression.TheVariants as Ex
-use Rattle.ir.specs.declared.RowForm.{RowForm}
-use Rattle.ir.specs.declared.RowForm.TheVariants as Ro
 use Rattle.frames.specs.Bytes.{frame_at}
 use Rattle.frames.specs.Forms.{member_of, item_of, component_of}
 use Rattle.archive.specs.declared.Starts.{Starts}
@@ -78,16 +74,16 @@ item_space (It.Function r) = Sp.Function
 item_space It.Unknown = Sp.Function
 
 -- a function's result
-abbrev pub item_result : Item → FunctionResult
+abbrev pub item_result : Item → CodeOption TypeNumber
 item_result (It.Function r) = r
-item_result (It.GlobalVariable t p) = Fr.None
-item_result (It.Constant t) = Fr.None
-item_result (It.Override t) = Fr.None
-item_result (It.FunctionArgument t) = Fr.None
-item_result (It.LocalVariable t) = Fr.None
-item_result (It.RayIntersection t) = Fr.None
-item_result (It.RayVertexReturn t) = Fr.None
-item_result It.Unknown = Fr.None
+item_result (It.GlobalVariable t p) = None
+item_result (It.Constant t) = None
+item_result (It.Override t) = None
+item_result (It.FunctionArgument t) = None
+item_result (It.LocalVariable t) = None
+item_result (It.RayIntersection t) = None
+item_result (It.RayVertexReturn t) = None
+item_result It.Unknown = None
 
 -- the type of an item that may be missing: item n of those from frame `first` up to frame `last`
 abbrev pub maybe_item : List ℕ → ℕ → ℕ → ItemNumber → Option TypeNumber
@@ -114,8 +110,8 @@ pub data Shown : Type 0 where
   binary : BinaryOperator → RowNumber → RowNumber → Shown
   select derivative : RowNumber → Shown
   relational : RelationalFunction → RowNumber → Shown
-  cast : RowNumber → ScalarKind → OptionBytes → Shown
-  call_result : FunctionResult → Shown
+  cast : RowNumber → ScalarKind → CodeOption Width → Shown
+  call_result : CodeOption TypeNumber → Shown
   atomic_result work_group_uniform_load_result : TypeNumber → Shown
   array_length : Shown
   ray_query_vertex_positions : Option TypeNumber → Shown
@@ -256,26 +252,26 @@ fault_of s (malformed f) = Fa.Field
 -- WHAT EACH THING SHOWS
 
 -- a value is of unknown kind where a comparison would answer it with 5 or 6
-abbrev pub sound_form : TypeInner → Fault → TypeForm
-sound_form t Fa.Sound = Tf.Known t
-sound_form t Fa.Field = Tf.Unknown
-sound_form t Fa.Index = Tf.Unknown
+abbrev pub sound_form : TypeInner → Fault → CodeOption TypeInner
+sound_form t Fa.Sound = Some t
+sound_form t Fa.Field = None
+sound_form t Fa.Index = None
 
 -- the form of an answer that is looked into. A type that a comparison would answer with 5 or 6 counts as one of unknown
 -- kind.
-abbrev pub form_in : List ℕ → Starts → TypeAnswer → TypeForm
+abbrev pub form_in : List ℕ → Starts → TypeAnswer → CodeOption TypeInner
 form_in fr s (number n) = type_in fr s n
 form_in fr s (value t) = sound_form t (value_fault s t)
-form_in fr s (malformed f) = Tf.Unknown
+form_in fr s (malformed f) = None
 
 -- a form is shown with its members, unless its kind is unknown
-abbrev pub see_form : List ℕ → Starts → TypeForm → Option Form
-see_form fr s (Tf.Known t) = some (record { inner = t; members = member_types fr s t })
-see_form fr s Tf.Unknown = none
+abbrev pub see_form : List ℕ → Starts → CodeOption TypeInner → Option Form
+see_form fr s (Some t) = some (record { inner = t; members = member_types fr s t })
+see_form fr s None = none
 
-abbrev pub see_row : List ℕ → Starts → RowForm → Option Shown
-see_row fr s (Ro.Known e) = shown fr s e
-see_row fr s Ro.Unknown = none
+abbrev pub see_row : List ℕ → Starts → CodeOption Expression → Option Shown
+see_row fr s (Some e) = shown fr s e
+see_row fr s None = none
 
 -- an image's class by document 01's first rules: a storage image shows nothing
 abbrev first_texels : ImageClass → Option ImageClass
@@ -300,9 +296,9 @@ is_struct_inner (Ti.AccelerationStructure q) = false
 is_struct_inner (Ti.RayQuery q) = false
 is_struct_inner (Ti.BindingArray b z) = false
 
-abbrev pub is_struct_form : TypeForm → Bool
-is_struct_form (Tf.Known t) = is_struct_inner t
-is_struct_form Tf.Unknown = false
+abbrev pub is_struct_form : CodeOption TypeInner → Bool
+is_struct_form (Some t) = is_struct_inner t
+is_struct_form None = false
 
 -- whether an answer is the number of a struct
 abbrev pub is_struct : List ℕ → Starts → TypeAnswer → Bool

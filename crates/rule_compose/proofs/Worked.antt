@@ -1,11 +1,11 @@
 -- Every verdict of the file is what the definitions give: both sides compute to the same.
+use Rattle.std.specs.Prelude.{Ok}
 use Prim.Native.Nat.{ℕ, suc}
 use mathlib.Core.Path.{◌≡◌, refl}
 use mathlib.Core.List.{List, [], ◌∷◌}
 use mathlib.Core.Option.{Option, none, some}
 use Rattle.scan.specs.Lowest.{lowest, all_below}
 use Rattle.scan.specs.Lists.{build, sum_below}
-use Rattle.answers.specs.declared.Outcome.TheVariants.{Accepted}
 use Rattle.frames.specs.Bytes.{bytes_of, frame_at}
 use Rattle.frames.specs.Forms.{type_of, item_of, row_of, member_of, component_of, fields_fit}
 use Rattle.archive.specs.Order.{order_ok}
@@ -37,7 +37,7 @@ unfolding each_part vector_parts equal_types identical listed type_in row_in fra
 worked = refl
 
 -- the file passes checks 4 to 6
-accepted : check_frames compose_file ≡ Accepted 191
+accepted : check_frames compose_file ≡ Ok 191
 unfolding lowest all_below build sum_below frame_at type_of item_of row_of member_of component_of fields_fit order_ok
     start starts_of names_ok early_ok index_ok check_frames
 accepted = refl

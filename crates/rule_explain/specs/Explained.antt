@@ -1,8 +1,8 @@
 -- A file explained to people (docs/EXPLAIN.md): as the typing program prints (document 01, "Cases"), a line for each
 -- row and one more after a compose, and one line for a file that is not accepted, in words.
-use Rattle.std.specs.Prelude.{ℕ, zero, suc, ◌+◌, ◌*◌, cond, List, [], ◌++◌, eqb, leb, length}
+use Rattle.std.specs.Prelude.{ℕ, zero, suc, ◌+◌, ◌*◌, cond, List, [], ◌++◌, eqb, leb, length, Err}
 use Rattle.ir.specs.declared.RowNumber.{RowNumber}
-use Rattle.answers.specs.declared.Outcome.{Outcome}
+use Rattle.answers.specs.declared.FileError.{FileError}
 use Rattle.answers.specs.Limit.{max_frames, max_frame_bytes, max_answer_bytes}
 use Rattle.answers.specs.Numbers.{SaidOne, asked, instead, at}
 use Rattle.text.specs.declared.AnswerRoom.TheVariants.{Lent}
@@ -54,8 +54,8 @@ abbrev pub file_lines : Pass → List ℕ → Lines
 file_lines pass fr = answer_lines fr (output_bytes pass fr)
 
 -- that of a file that is not accepted
-abbrev pub fault_lines : Outcome → Lines
-fault_lines o = record { count = 1; line = λ (k : ℕ). fault_line (outcome_frame o) }
+abbrev pub fault_lines : FileError → Lines
+fault_lines e = record { count = 1; line = λ (k : ℕ). fault_line (outcome_frame (Err e)) }
 
 -- those of a text by a pass and within a limit, with buffers of the largest sizes that a file asks for
 unfoldable pub lines_of : Pass → (limit : ℕ) → List ℕ → Lines

@@ -1,9 +1,7 @@
 -- The sizes of a file's types for people, and their ranges between two tables of counts (docs/EXPLAIN.md; document
 -- 02, requests 5 and 6): a line for each type, with its spelling, alignment and size or its number in words, and one
 -- line for a file that is not accepted, or for number 45.
-use Rattle.std.specs.Prelude.{ℕ, ◌*◌, List}
-use Rattle.scan.specs.declared.Found.{Found}
-use Rattle.scan.specs.declared.Found.TheVariants.{At, Nothing}
+use Rattle.std.specs.Prelude.{ℕ, ◌*◌, List, Option, Some, None}
 use Rattle.answers.specs.Limit.{max_frames, max_frame_bytes}
 use Rattle.text.specs.declared.AnswerRoom.TheVariants.{NotLent}
 use Rattle.frames.specs.Bytes.{frame_count, frame_at}
@@ -13,8 +11,6 @@ use Rattle.rule_sizes.specs.Sizes.{frames_of, size_frames}
 use Rattle.rule_ranges.specs.Counts.{Counts}
 use Rattle.rule_ranges.specs.Ranges.{counts_of, faulty_span, range_frame}
 use Rattle.answers.specs.Numbers.{SaidOne, instead, at}
-use Rattle.answers.specs.declared.Printed.{Printed}
-use Rattle.answers.specs.declared.Printed.TheVariants.{Short}
 use Rattle.rule_file.specs.Printed.{printed, printed_after}
 use Rattle.rule_file_sizes.specs.Ranges.{by_tables}
 use Rattle.rule_file.specs.File.{over_file, read_file}
@@ -48,9 +44,9 @@ abbrev pub span_lines : ℕ → Lines
 span_lines o = record { count = 1; line = λ (k : ℕ). span_of o }
 
 -- it comes before any size
-abbrev pub or_span : Found → Lines → Lines
-or_span (At o) l = span_lines o
-or_span Nothing l = l
+abbrev pub or_span : Option ℕ → Lines → Lines
+or_span (Some o) l = span_lines o
+or_span None l = l
 
 abbrev pub ranges_in : List ℕ → Starts → Counts → Counts → Lines
 ranges_in fr s least greatest =
@@ -73,9 +69,9 @@ max_sized_bytes = 176 * max_frames
 -- OF TWO TABLES of counts: number 3, and the buffer as it was, where one has fewer than 1,024, as `size_range` has it;
 -- else the lines, where they have room
 
-abbrev pub ranges_printed : (limit : ℕ) → List ℕ → List ℕ → List ℕ → ℕ → Printed
+abbrev pub ranges_printed : (limit : ℕ) → List ℕ → List ℕ → List ℕ → ℕ → Option ℕ
 ranges_printed limit least greatest t o =
-    by_tables least greatest Short (printed (ranged limit (counts_of least) (counts_of greatest) t) o)
+    by_tables least greatest None (printed (ranged limit (counts_of least) (counts_of greatest) t) o)
 
 abbrev pub ranges_said : (limit : ℕ) → List ℕ → List ℕ → List ℕ → ℕ → SaidOne ℕ
 ranges_said limit least greatest t o =

@@ -2,8 +2,9 @@
 -- "Numbers handed back" and "Out" at the end of "The file"). A document's number has one byte in a frame; what is said
 -- in words has numbers above 255 (docs/DECISIONS.md).
 use Rattle.std.specs.Prelude.{ℕ, cond, List, ltb, eqb, length}
-use Rattle.answers.specs.declared.Outcome.{Outcome}
-use Rattle.answers.specs.Numbers.{no_refusal, outcome_values, Said, SaidOf, SaidOne, alike, different, numbered, type}
+use Rattle.answers.specs.Outcome.{Outcome}
+use Rattle.answers.specs.Numbers.{no_refusal, outcome_values, error_values, Said, SaidOf, SaidOne, alike, different}
+use Rattle.answers.specs.Numbers.{numbered, type}
 use Rattle.answers.specs.Numbers.{no_pointer, refused, asked, instead}
 use Rattle.text.specs.Room.{short_read}
 use Rattle.frames.specs.declared.Frame.{Frame}
@@ -21,7 +22,7 @@ outcome_number o = (outcome_values o).number
 
 -- what is returned then
 unfoldable pub no_room : ℕ → List ℕ → ℕ
-no_room limit t = outcome_number (short_read limit t)
+no_room limit t = (error_values (short_read limit t)).number
 
 -- what holds of an out-slice that is too small, else what holds of one that has room
 abbrev pub by_room : {A : Type 0} → List ℕ → A → A → A

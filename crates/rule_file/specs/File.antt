@@ -1,26 +1,21 @@
 -- Reading a file (document 01, "Numbers handed back"): checks 1 to 6, each over the whole file, in order.
-use Rattle.std.specs.Prelude.{ℕ, List, length}
-use Rattle.answers.specs.declared.Outcome.{Outcome}
-use Rattle.answers.specs.declared.Outcome.TheVariants.{Accepted, Long, Torn, Short, Order, Field, Index}
+use Rattle.std.specs.Prelude.{ℕ, List, length, Ok, Err}
+use Rattle.answers.specs.Outcome.{Outcome}
+use Rattle.answers.specs.declared.FileError.{FileError}
 use Rattle.answers.specs.Numbers.{Refused, outcome_values}
 use Rattle.text.specs.declared.AnswerRoom.{AnswerRoom}
 use Rattle.text.specs.Lines.{decoded}
 use Rattle.text.specs.Reading.{read_text, frames_read}
 use Rattle.archive.specs.Checks.{check_frames}
 
--- what follows on the frames of a text that was accepted; every other outcome is handed on
-abbrev pub over_file : {A : Type 0} → (Outcome → A) → (List ℕ → A) → List ℕ → Outcome → A
-over_file refused given t (Accepted n) = given (decoded t n)
-over_file refused given t (Long m) = refused (Long m)
-over_file refused given t (Torn k) = refused (Torn k)
-over_file refused given t Short = refused Short
-over_file refused given t (Order k) = refused (Order k)
-over_file refused given t (Field k) = refused (Field k)
-over_file refused given t (Index k) = refused (Index k)
+-- what follows on the frames of a text that was accepted; where it was not, why is handed on
+abbrev pub over_file : {A : Type 0} → (FileError → A) → (List ℕ → A) → List ℕ → Outcome → A
+over_file refused given t (Ok n) = given (decoded t n)
+over_file refused given t (Err e) = refused e
 
 -- checks 4 to 6 follow on the frames where checks 1 to 3 pass
 abbrev pub then_frames : List ℕ → Outcome → Outcome
-then_frames t o = over_file (λ (r : Outcome). r) check_frames t o
+then_frames t o = over_file Err check_frames t o
 
 -- what reading a text gives within a limit of frames, with a frame buffer of f bytes, and an answer buffer where one is
 -- lent

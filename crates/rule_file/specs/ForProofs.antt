@@ -1,9 +1,6 @@
--- Not part of any public statement: for proofs and code only. How many frames were accepted, and what the code asks for
--- before it answers.
-use Rattle.std.specs.Prelude.{ℕ, ◌*◌, ◌≤◌, ◌<◌, ◌≡◌, List, ◌++◌, length, take, drop}
+-- Not part of any public statement: for proofs and code only. What the code asks for before it answers.
+use Rattle.std.specs.Prelude.{ℕ, ◌*◌, ◌≤◌, ◌<◌, ◌≡◌, List, ◌++◌, length, take, drop, Ok}
 use Rattle.ir.specs.declared.RowNumber.{RowNumber}
-use Rattle.answers.specs.declared.Outcome.{Outcome}
-use Rattle.answers.specs.declared.Outcome.TheVariants.{Accepted, Long, Torn, Short, Order, Field, Index}
 use Rattle.answers.specs.Limit.{max_frames}
 use Rattle.frames.specs.Bytes.{frame_count}
 use Rattle.archive.specs.declared.Starts.{Starts}
@@ -13,18 +10,6 @@ use Rattle.rule.specs.Things.{see}
 use Rattle.rule_rows.specs.declared.Pass.{Pass}
 use Rattle.rule_answers.specs.Outputs.{outputs, frames_bytes, output_bytes}
 use Rattle.rule_answers.specs.ForProofs.{places_of, AllHeld}
-use Rattle.rule_file.specs.declared.OptionUsize.{OptionUsize}
-use Rattle.rule_file.specs.declared.OptionUsize.TheVariants as Ou
-
--- how many frames an outcome says were accepted
-abbrev pub frames_in : Outcome → OptionUsize
-frames_in (Accepted n) = Ou.Some n
-frames_in (Long m) = Ou.None
-frames_in (Torn k) = Ou.None
-frames_in Short = Ou.None
-frames_in (Order k) = Ou.None
-frames_in (Field k) = Ou.None
-frames_in (Index k) = Ou.None
 
 -- no more frames than a file may have, and an answer buffer of a bytes that has room for what is handed back
 pub record Room (pass : Pass) (fr : List ℕ) (a : ℕ) : Type 0 where
@@ -33,7 +18,7 @@ pub record Room (pass : Pass) (fr : List ℕ) (a : ℕ) : Type 0 where
 
 -- the frames of an accepted file, and such a buffer
 abbrev pub Ready : Pass → List ℕ → ℕ → Type 0
-Ready pass fr a = (check_frames fr ≡ Accepted (frame_count fr)) × Room pass fr a
+Ready pass fr a = (check_frames fr ≡ Ok (frame_count fr)) × Room pass fr a
 
 -- WHAT THE CODE THAT ANSWERS ROWS KNOWS at each row
 

@@ -2,10 +2,8 @@
 -- paragraph): the file is checked first, and one that is not accepted gives its number and place.
 use Rattle.std.specs.Prelude.{ℕ, List}
 use Rattle.ir.specs.declared.TypeNumber.{TypeNumber}
-use Rattle.answers.specs.declared.PointerBase.{PointerBase}
-use Rattle.answers.specs.declared.PointerBase.TheVariants as Pb
-use Rattle.answers.specs.declared.CanonicalType.{CanonicalType}
-use Rattle.answers.specs.declared.CanonicalType.TheVariants as Ct
+use Rattle.answers.specs.Asked.{PointerBase, base_error, canonical_error}
+use Rattle.answers.specs.Asked.{CanonicalType}
 use Rattle.text.specs.declared.AnswerRoom.TheVariants.{NotLent}
 use Rattle.archive.specs.Starts.{starts_of}
 use Rattle.rule_types.specs.Canonical.{pointer_base_in, canonical_type_in}
@@ -13,10 +11,10 @@ use Rattle.rule_file.specs.File.{over_file, read_file}
 
 -- the canonical form of type n: the value pointer, or the number where the source gives None; 22 or 6
 unfoldable pub canonical_type : ℕ → List ℕ → ℕ → TypeNumber → CanonicalType
-canonical_type limit t f n = over_file Ct.NotAccepted (λ (fr : List ℕ). canonical_type_in fr (starts_of fr) n) t
+canonical_type limit t f n = over_file canonical_error (λ (fr : List ℕ). canonical_type_in fr (starts_of fr) n) t
     (read_file limit t f NotLent)
 
 -- the base of type n: a number or a value, or that type n is no pointer; 22 or 6
 unfoldable pub pointer_base_type : ℕ → List ℕ → ℕ → TypeNumber → PointerBase
-pointer_base_type limit t f n = over_file Pb.NotAccepted (λ (fr : List ℕ). pointer_base_in fr (starts_of fr) n) t
+pointer_base_type limit t f n = over_file base_error (λ (fr : List ℕ). pointer_base_in fr (starts_of fr) n) t
     (read_file limit t f NotLent)

@@ -2,18 +2,9 @@
 // file_* the code.
 #![tactic(auto)]
 
-use answers::Outcome;
-
-// The number of frames that were accepted, or none.
-#[derive(Clone, Copy)]
-pub enum OptionUsize {
-    None,
-    Some(usize),
-}
-
-// What typing a file gives: the outcome, and how many frames are handed back.
+// What typing an accepted file gives: how many frames it has, and how many are handed back.
 #[derive(Clone, Copy)]
 pub struct TypedFile {
-    pub outcome: Outcome,
+    pub frames: usize,
     pub outputs: usize,
 }

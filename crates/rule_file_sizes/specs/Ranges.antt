@@ -1,16 +1,14 @@
 -- Least and greatest size of a type of a file, over the file's text (document 02, request 6): the file is checked
 -- first, and one that is not accepted gives its number and place.
-use Rattle.std.specs.Prelude.{ℕ, Bool, cond, ◌||◌, List, ltb, length}
-use Rattle.scan.specs.declared.Found.{Found}
-use Rattle.scan.specs.declared.Found.TheVariants.{At, Nothing}
+use Rattle.rule_ranges.specs.declared.RangeError.TheVariants as Ge
+use Rattle.std.specs.Prelude.{ℕ, Bool, cond, ◌||◌, List, ltb, length, Option, Some, None, Err}
 use Rattle.ir.specs.declared.TypeNumber.{TypeNumber}
 use Rattle.answers.specs.Numbers.{SaidOne, instead, at, not_there}
 use Rattle.text.specs.declared.AnswerRoom.TheVariants.{NotLent}
 use Rattle.text.specs.Room.{short_read}
 use Rattle.archive.specs.Starts.{starts_of}
 use Rattle.archive.specs.Names.{is_type}
-use Rattle.rule_ranges.specs.declared.TypeRange.{TypeRange}
-use Rattle.rule_ranges.specs.declared.TypeRange.TheVariants as Tr
+use Rattle.rule_ranges.specs.TypeRange.{TypeRange, range_error}
 use Rattle.rule_ranges.specs.Counts.{Counts}
 use Rattle.rule_ranges.specs.Ranges.{counts_of, range_in, faulty_span, type_range_in, SizeRange, range_said}
 use Rattle.rule_file.specs.File.{over_file, read_file, frames_after}
@@ -28,8 +26,8 @@ by_tables least greatest short enough = cond (tables_short least greatest) short
 -- at fault, or 6
 unfoldable pub size_range : ℕ → List ℕ → ℕ → List ℕ → List ℕ → TypeNumber → TypeRange
 size_range limit t f least greatest n =
-    by_tables least greatest (Tr.NotAccepted (short_read limit t))
-    (over_file Tr.NotAccepted
+    by_tables least greatest (Err (Ge.NotAccepted (short_read limit t)))
+    (over_file range_error
     (λ (fr : List ℕ). type_range_in fr (starts_of fr) (counts_of least) (counts_of greatest) n) t
     (read_file limit t f NotLent))
 
@@ -37,9 +35,9 @@ size_range limit t f least greatest n =
 -- 42, 43 or 44 and the lowest faulty type; number 6, place 0, where there is no such type; or the file's own number and
 -- place
 
-abbrev pub span_first : Found → SaidOne SizeRange → SaidOne SizeRange
-span_first (At o) r = instead (at 45 o)
-span_first Nothing r = r
+abbrev pub span_first : Option ℕ → SaidOne SizeRange → SaidOne SizeRange
+span_first (Some o) r = instead (at 45 o)
+span_first None r = r
 
 -- of a file whose frames these are
 abbrev pub range_values : Counts → Counts → TypeNumber → List ℕ → SaidOne SizeRange

@@ -1,7 +1,7 @@
 -- Alignment and size of each type at given counts, one for each override (document 02, request 6). A type that is a
 -- pending array or holds one is measured by counts; every other type by request 5's rule, over the sizes of the types
 -- that it names.
-use Rattle.std.specs.Prelude.{ℕ, zero, suc, Bool, true, cond, List, ltb}
+use Rattle.std.specs.Prelude.{ℕ, zero, suc, Bool, true, cond, List, ltb, Option, Some, None}
 use Rattle.ir.specs.declared.TypeNumber.{TypeNumber}
 use Rattle.ir.specs.declared.MemberNumber.{MemberNumber}
 use Rattle.ir.specs.declared.ItemNumber.{ItemNumber}
@@ -9,8 +9,6 @@ use Rattle.ir.specs.declared.ArraySize.{ArraySize}
 use Rattle.ir.specs.declared.ArraySize.TheVariants as As
 use Rattle.ir.specs.declared.TypeInner.{TypeInner}
 use Rattle.ir.specs.declared.TypeInner.TheVariants as Ti
-use Rattle.ir.specs.declared.TypeForm.{TypeForm}
-use Rattle.ir.specs.declared.TypeForm.TheVariants as Tf
 use Rattle.archive.specs.declared.Starts.{Starts}
 use Rattle.archive.specs.Access.{type_in, member_in}
 use Rattle.rule.specs.InOrder.{in_order}
@@ -77,12 +75,13 @@ counted_inner fr s holds counts past n (Ti.RayQuery q) = Faulty Unmeasured n
 counted_inner fr s holds counts past n (Ti.BindingArray b z) = Faulty Unmeasured n
 
 abbrev pub counted_form : List ℕ → Starts → (TypeNumber → Bool) → Counts → (TypeNumber → Measure) → TypeNumber
-    → TypeForm → Measure
-counted_form fr s holds counts past n (Tf.Known t) = counted_inner fr s holds counts past n t
-counted_form fr s holds counts past n Tf.Unknown = Faulty Unmeasured n
+    → Option TypeInner → Measure
+counted_form fr s holds counts past n (Some t) = counted_inner fr s holds counts past n t
+counted_form fr s holds counts past n None = Faulty Unmeasured n
 
 -- ANY TYPE: by counts where it holds a pending array, else by request 5's rule
-abbrev pub form_by : List ℕ → Starts → (TypeNumber → Bool) → Counts → (TypeNumber → Measure) → TypeNumber → TypeForm
+abbrev pub form_by : List ℕ → Starts → (TypeNumber → Bool) → Counts → (TypeNumber → Measure) → TypeNumber
+    → Option TypeInner
     → Measure
 form_by fr s holds counts past n t = cond (holds n) (counted_form fr s holds counts past n t) (of_form fr s past n t)
 

@@ -1,3 +1,4 @@
+pub mod TypeRange
 pub mod Pending
 pub mod Counts
 pub mod Ranges

@@ -1,13 +1,13 @@
 -- What holds a pending array, and choices of counts (document 02, request 6), apart from how sizes are worked out.
 -- Over the types of a file.
-use Rattle.std.specs.Prelude.{ℕ, zero, suc, ◌+◌, ◌≤◌, ◌<◌, ◌≡◌, true, cond, List, ltb}
+use Rattle.rule_ranges.specs.declared.RangeError.TheVariants as Ge
+use Rattle.std.specs.Prelude.{ℕ, zero, suc, ◌+◌, ◌≤◌, ◌<◌, ◌≡◌, true, cond, List, ltb, Some, Ok, Err}
 use Rattle.ir.specs.declared.TypeNumber.{TypeNumber}
 use Rattle.ir.specs.declared.MemberNumber.{MemberNumber}
 use Rattle.ir.specs.declared.ItemNumber.{ItemNumber}
 use Rattle.ir.specs.declared.ArraySize.{ArraySize}
 use Rattle.ir.specs.declared.ArraySize.TheVariants as As
 use Rattle.ir.specs.declared.TypeInner.TheVariants as Ti
-use Rattle.ir.specs.declared.TypeForm.TheVariants as Tf
 use Rattle.archive.specs.Starts.{starts_of, override_count}
 use Rattle.archive.specs.Names.{is_type}
 use Rattle.archive.specs.Access.{type_at}
@@ -18,8 +18,7 @@ use Rattle.rule_sizes.specs.declared.Measure.{Measure}
 use Rattle.rule_sizes.specs.declared.Measure.TheVariants as Me
 use Rattle.rule_ranges.specs.declared.Range.{Range}
 use Rattle.rule_ranges.specs.declared.Range.TheVariants.{Spans, Faulty}
-use Rattle.rule_ranges.specs.declared.TypeRange.{TypeRange}
-use Rattle.rule_ranges.specs.declared.TypeRange.TheVariants as Tr
+use Rattle.rule_ranges.specs.TypeRange.{TypeRange}
 use Rattle.rule_ranges.specs.Counts.{Counts, measure_at}
 use Rattle.rule_ranges.specs.Ranges.{range_in}
 
@@ -27,11 +26,11 @@ use Rattle.rule_ranges.specs.Ranges.{range_in}
 -- arrays and members of structs
 pub data Over (fr : List ℕ) : ItemNumber → TypeNumber → Type 0 where
   pending : (o : ItemNumber) (n b : TypeNumber) (stride : ℕ)
-      → type_at fr n ≡ Tf.Known (Ti.Array b (As.Pending o) stride) → Over fr o n
+      → type_at fr n ≡ Some (Ti.Array b (As.Pending o) stride) → Over fr o n
   element : (o : ItemNumber) (n b : TypeNumber) (z : ArraySize) (stride : ℕ)
-      → type_at fr n ≡ Tf.Known (Ti.Array b z stride) → Over fr o b → Over fr o n
+      → type_at fr n ≡ Some (Ti.Array b z stride) → Over fr o b → Over fr o n
   part : (o : ItemNumber) (n : TypeNumber) (first : MemberNumber) (count span i : ℕ)
-      → type_at fr n ≡ Tf.Known (Ti.Struct first count span) → i < count
+      → type_at fr n ≡ Some (Ti.Struct first count span) → i < count
       → Over fr o (struct_member fr first i).ty → Over fr o n
 
 -- CHOICES: one count for each override of the file
@@ -56,7 +55,7 @@ pub record Raised (fr : List ℕ) (o : ItemNumber) (c d : Counts) : Type 0 where
 
 -- A MEMBER BESIDE A COUNT: an array over it, with its stride; or not over it at any depth, which counts as stride 0
 pub data Beside (fr : List ℕ) (o : ItemNumber) : TypeNumber → ℕ → Type 0 where
-  array : (n b : TypeNumber) (stride : ℕ) → type_at fr n ≡ Tf.Known (Ti.Array b (As.Pending o) stride)
+  array : (n b : TypeNumber) (stride : ℕ) → type_at fr n ≡ Some (Ti.Array b (As.Pending o) stride)
       → Beside fr o n stride
   still : (n : TypeNumber) → (Over fr o n → ⊥) → Beside fr o n 0
 
@@ -120,11 +119,11 @@ spans_or_huge n a y z = cond (ltb z 4294967296) (Spans a y z) (Faulty Huge n)
 -- a range that was from y to z, after a greatest count was raised: its greatest size moves by no more than a total, or
 -- there is 44
 pub data GreatestSteps (a : Alignment) (y z total : ℕ) : TypeRange → Type 0 where
-  moves : (w : ℕ) → z ≤ w → w ≤ z + total → GreatestSteps a y z total (Tr.Ranged (Spans a y w))
-  huge : (p : TypeNumber) → GreatestSteps a y z total (Tr.Ranged (Faulty Huge p))
+  moves : (w : ℕ) → z ≤ w → w ≤ z + total → GreatestSteps a y z total (Ok (Spans a y w))
+  huge : (p : TypeNumber) → GreatestSteps a y z total (Ok (Faulty Huge p))
 
 -- after the least count of override o was raised: its least size moves by no more than a total, or there is 45 of that
 -- override
 pub data LeastSteps (o : ItemNumber) (a : Alignment) (y z total : ℕ) : TypeRange → Type 0 where
-  moves : (w : ℕ) → y ≤ w → w ≤ y + total → LeastSteps o a y z total (Tr.Ranged (Spans a w z))
-  span : LeastSteps o a y z total (Tr.Span o.0)
+  moves : (w : ℕ) → y ≤ w → w ≤ y + total → LeastSteps o a y z total (Ok (Spans a w z))
+  span : LeastSteps o a y z total (Err (Ge.Span o.0))

@@ -1,13 +1,12 @@
 -- What sizes at given counts, and their faults, mean (document 02, request 6), apart from how they are worked out. A
 -- type that holds no pending array has request 5's size, rests on what it rested on, and has the faults that it had.
-use Rattle.std.specs.Prelude.{ℕ, suc, ◌+◌, ◌*◌, ◌≤◌, ◌<◌, ◌≡◌, List}
+use Rattle.std.specs.Prelude.{ℕ, suc, ◌+◌, ◌*◌, ◌≤◌, ◌<◌, ◌≡◌, List, Some}
 use Rattle.ir.specs.declared.TypeNumber.{TypeNumber}
 use Rattle.ir.specs.declared.MemberNumber.{MemberNumber}
 use Rattle.ir.specs.declared.ItemNumber.{ItemNumber}
 use Rattle.ir.specs.declared.ArraySize.{ArraySize}
 use Rattle.ir.specs.declared.ArraySize.TheVariants as As
 use Rattle.ir.specs.declared.TypeInner.TheVariants as Ti
-use Rattle.ir.specs.declared.TypeForm.TheVariants as Tf
 use Rattle.archive.specs.Access.{type_at}
 use Rattle.rule_sizes.specs.declared.Alignment.{Alignment}
 use Rattle.rule_sizes.specs.declared.SizeFault.{SizeFault}
@@ -35,12 +34,12 @@ pub record Fresh (count : ℕ) (aligns : ℕ → Alignment) (sizes offsets : ℕ
 pub data HasAt (fr : List ℕ) (c : Counts) : TypeNumber → Alignment → ℕ → Type 0 where
   fixed : (n : TypeNumber) (a : Alignment) (z : ℕ) → (Holds fr n → ⊥) → Has fr n a z → HasAt fr c n a z
   array : (n b : TypeNumber) (o : ItemNumber) (stride : ℕ) (a : Alignment) (z : ℕ)
-      → type_at fr n ≡ Tf.Known (Ti.Array b (As.Pending o) stride)
+      → type_at fr n ≡ Some (Ti.Array b (As.Pending o) stride)
       → (Holds fr b → ⊥) → Has fr b a z → Strided a z stride → c o * stride < 4294967296
       → HasAt fr c n a (c o * stride)
   struct : (n : TypeNumber) (first : MemberNumber) (count span : ℕ) (aligns : ℕ → Alignment) (sizes offsets : ℕ
       → ℕ) (a : Alignment) (z : ℕ)
-      → type_at fr n ≡ Tf.Known (Ti.Struct first count span) → Holds fr n
+      → type_at fr n ≡ Some (Ti.Struct first count span) → Holds fr n
       → ((i : ℕ) → i < count → HasAt fr c (struct_member fr first i).ty (aligns i) (sizes i)) → Greatest aligns count a
       → Fresh count aligns sizes offsets a z → z < 4294967296 → HasAt fr c n a z
 
@@ -50,10 +49,10 @@ pub data RestsOnAt (fr : List ℕ) : TypeNumber → TypeNumber → Type 0 where
   itself : (n : TypeNumber) → RestsOnAt fr n n
   fixed : (n m : TypeNumber) → (Holds fr n → ⊥) → RestsOn fr n m → RestsOnAt fr n m
   element : (n b m : TypeNumber) (o : ItemNumber) (stride : ℕ)
-      → type_at fr n ≡ Tf.Known (Ti.Array b (As.Pending o) stride) → (Holds fr b → ⊥)
+      → type_at fr n ≡ Some (Ti.Array b (As.Pending o) stride) → (Holds fr b → ⊥)
       → RestsOn fr b m → RestsOnAt fr n m
   part : (n m : TypeNumber) (first : MemberNumber) (count span i : ℕ)
-      → type_at fr n ≡ Tf.Known (Ti.Struct first count span) → Holds fr n → i < count
+      → type_at fr n ≡ Some (Ti.Struct first count span) → Holds fr n → i < count
       → RestsOnAt fr (struct_member fr first i).ty m → RestsOnAt fr n m
 
 -- THE THREE CAUSES of a number at these counts, each by itself; those of a type that holds no pending array are request
@@ -62,14 +61,14 @@ pub data RestsOnAt (fr : List ℕ) : TypeNumber → TypeNumber → Type 0 where
 -- 42: the type is outside the list, or an array over what is a pending array or holds one
 pub data OutsideAt (fr : List ℕ) : TypeNumber → Type 0 where
   fixed : (n : TypeNumber) → (Holds fr n → ⊥) → Outside fr n → OutsideAt fr n
-  over : (n b : TypeNumber) (z : ArraySize) (stride : ℕ) → type_at fr n ≡ Tf.Known (Ti.Array b z stride) → Holds fr b
+  over : (n b : TypeNumber) (z : ArraySize) (stride : ℕ) → type_at fr n ≡ Some (Ti.Array b z stride) → Holds fr b
       → OutsideAt fr n
 
 -- 43: a pending array's element has a size, and the stride breaks the rules; never a struct that holds a pending array
 pub data BreaksAt (fr : List ℕ) (c : Counts) : TypeNumber → Type 0 where
   fixed : (n : TypeNumber) → (Holds fr n → ⊥) → Breaks fr n → BreaksAt fr c n
   stride : (n b : TypeNumber) (o : ItemNumber) (stride : ℕ) (a : Alignment) (z : ℕ)
-      → type_at fr n ≡ Tf.Known (Ti.Array b (As.Pending o) stride)
+      → type_at fr n ≡ Some (Ti.Array b (As.Pending o) stride)
       → HasAt fr c b a z → (Strided a z stride → ⊥) → BreaksAt fr c n
 
 -- 44: a pending array's element has a size, and count times stride is 2 to the 32 or more; or the members of a struct
@@ -77,11 +76,11 @@ pub data BreaksAt (fr : List ℕ) (c : Counts) : TypeNumber → Type 0 where
 pub data ExceedsAt (fr : List ℕ) (c : Counts) : TypeNumber → Type 0 where
   fixed : (n : TypeNumber) → (Holds fr n → ⊥) → Exceeds fr n → ExceedsAt fr c n
   array : (n b : TypeNumber) (o : ItemNumber) (stride : ℕ) (a : Alignment) (z : ℕ)
-      → type_at fr n ≡ Tf.Known (Ti.Array b (As.Pending o) stride)
+      → type_at fr n ≡ Some (Ti.Array b (As.Pending o) stride)
       → HasAt fr c b a z → 4294967296 ≤ c o * stride → ExceedsAt fr c n
   struct : (n : TypeNumber) (first : MemberNumber) (count span : ℕ) (aligns : ℕ → Alignment) (sizes offsets : ℕ
       → ℕ) (a : Alignment) (z : ℕ)
-      → type_at fr n ≡ Tf.Known (Ti.Struct first count span) → Holds fr n
+      → type_at fr n ≡ Some (Ti.Struct first count span) → Holds fr n
       → ((i : ℕ) → i < count → HasAt fr c (struct_member fr first i).ty (aligns i) (sizes i)) → Greatest aligns count a
       → Fresh count aligns sizes offsets a z → 4294967296 ≤ z → ExceedsAt fr c n
 

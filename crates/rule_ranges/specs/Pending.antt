@@ -1,14 +1,12 @@
 -- Which types are a pending array or hold one, at any depth (document 02, request 6). What it means stands apart, in
 -- Meaning.antt.
-use Rattle.std.specs.Prelude.{ℕ, zero, suc, Bool, true, false, ◌||◌, List, get_or}
+use Rattle.std.specs.Prelude.{ℕ, zero, suc, Bool, true, false, ◌||◌, List, get_or, Option, Some, None}
 use Rattle.ir.specs.declared.TypeNumber.{TypeNumber}
 use Rattle.ir.specs.declared.MemberNumber.{MemberNumber}
 use Rattle.ir.specs.declared.ArraySize.{ArraySize}
 use Rattle.ir.specs.declared.ArraySize.TheVariants as As
 use Rattle.ir.specs.declared.TypeInner.{TypeInner}
 use Rattle.ir.specs.declared.TypeInner.TheVariants as Ti
-use Rattle.ir.specs.declared.TypeForm.{TypeForm}
-use Rattle.ir.specs.declared.TypeForm.TheVariants as Tf
 use Rattle.archive.specs.declared.Starts.{Starts}
 use Rattle.archive.specs.Access.{type_in, member_in}
 use Rattle.rule.specs.InOrder.{in_order}
@@ -41,9 +39,9 @@ inner_holds fr s past (Ti.AccelerationStructure q) = false
 inner_holds fr s past (Ti.RayQuery q) = false
 inner_holds fr s past (Ti.BindingArray b z) = false
 
-abbrev pub form_holds : List ℕ → Starts → (TypeNumber → Bool) → TypeForm → Bool
-form_holds fr s past (Tf.Known t) = inner_holds fr s past t
-form_holds fr s past Tf.Unknown = false
+abbrev pub form_holds : List ℕ → Starts → (TypeNumber → Bool) → Option TypeInner → Bool
+form_holds fr s past (Some t) = inner_holds fr s past t
+form_holds fr s past None = false
 
 -- TYPES IN ORDER, each over those before it
 

@@ -1,12 +1,11 @@
 -- Least and greatest size of each type, between a least and a greatest count for each override; numbers 42 to 44 by
 -- the greatest counts; number 45 (document 02, request 6).
-use Rattle.std.specs.Prelude.{ℕ, Bool, cond, ◌&&◌, List, leb, get_or}
+use Rattle.rule_ranges.specs.declared.RangeError.TheVariants as Ge
+use Rattle.std.specs.Prelude.{ℕ, Bool, cond, ◌&&◌, List, leb, get_or, Option, Some, None, Ok, Err}
 use Rattle.scan.specs.Lowest.{lowest}
-use Rattle.scan.specs.declared.Found.{Found}
-use Rattle.scan.specs.declared.Found.TheVariants.{At, Nothing}
 use Rattle.ir.specs.declared.TypeNumber.{TypeNumber}
 use Rattle.ir.specs.declared.ItemNumber.{ItemNumber}
-use Rattle.answers.specs.Numbers.{SaidOne, asked, instead, at, not_there, outcome_values}
+use Rattle.answers.specs.Numbers.{SaidOne, asked, instead, at, not_there, error_values}
 use Rattle.frames.specs.declared.Frame.{Frame}
 use Rattle.frames.specs.Out.{refused_frame, ranged_frame}
 use Rattle.archive.specs.declared.Starts.{Starts}
@@ -18,8 +17,7 @@ use Rattle.rule_sizes.specs.Wgsl.{bytes}
 use Rattle.rule_sizes.specs.Sizes.{fault_number}
 use Rattle.rule_ranges.specs.declared.Range.{Range}
 use Rattle.rule_ranges.specs.declared.Range.TheVariants.{Spans, Faulty}
-use Rattle.rule_ranges.specs.declared.TypeRange.{TypeRange}
-use Rattle.rule_ranges.specs.declared.TypeRange.TheVariants as Tr
+use Rattle.rule_ranges.specs.TypeRange.{TypeRange}
 use Rattle.rule_ranges.specs.Pending.{look_holds}
 use Rattle.rule_ranges.specs.Counts.{Counts, measure_by, measure_at}
 
@@ -49,18 +47,18 @@ range_in fr s least greatest n = range_of (measure_at fr s least n) (measure_at 
 abbrev pub span_ok : Counts → Counts → ItemNumber → Bool
 span_ok least greatest o = leb 1 (least o) && leb (least o) (greatest o)
 
-unfoldable pub faulty_span : Starts → Counts → Counts → Found
+unfoldable pub faulty_span : Starts → Counts → Counts → Option ℕ
 faulty_span s least greatest = lowest (λ (o : ℕ). span_ok least greatest (record { 0 = o })) (override_count s)
 
 -- before any size
-abbrev pub unless_span : Found → Range → TypeRange
-unless_span (At o) r = Tr.Span o
-unless_span Nothing r = Tr.Ranged r
+abbrev pub unless_span : Option ℕ → Range → TypeRange
+unless_span (Some o) r = Err (Ge.Span o)
+unless_span None r = Ok r
 
 -- what is said of type n: number 6 where there is no such type
 unfoldable pub type_range_in : List ℕ → Starts → Counts → Counts → TypeNumber → TypeRange
 type_range_in fr s least greatest n =
-    cond (is_type s n) (unless_span (faulty_span s least greatest) (range_in fr s least greatest n)) Tr.Index
+    cond (is_type s n) (unless_span (faulty_span s least greatest) (range_in fr s least greatest n)) (Err Ge.Index)
 
 -- THE NUMBERS handed back: alignment, least and greatest size in bytes; or a number with the type, or with the
 -- override, as its place; number 6 with place 0
@@ -80,10 +78,10 @@ range_said (Spans a y z) = asked (record { align = bytes a; least = y; greatest 
 range_said (Faulty k p) = instead (at (fault_number k) p.0)
 
 abbrev pub type_range_said : TypeRange → SaidOne SizeRange
-type_range_said (Tr.Ranged r) = range_said r
-type_range_said (Tr.Span o) = instead (at 45 o)
-type_range_said Tr.Index = instead not_there
-type_range_said (Tr.NotAccepted o) = instead (outcome_values o)
+type_range_said (Ok r) = range_said r
+type_range_said (Err (Ge.Span o)) = instead (at 45 o)
+type_range_said (Err Ge.Index) = instead not_there
+type_range_said (Err (Ge.NotAccepted e)) = instead (error_values e)
 
 -- AS A FRAME: family 13; a number is family 10, as every other
 

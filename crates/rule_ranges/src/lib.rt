@@ -2,7 +2,9 @@
 // as rules, in specs/.
 #![tactic(auto)]
 
-use answers::Outcome;
+ghost use Rattle.std.specs.Prelude.{◌≡◌};
+
+use answers::FileError;
 use ir::TypeNumber;
 use rule_sizes::{Alignment, SizeFault};
 
@@ -20,11 +22,23 @@ pub enum Range {
     },
 }
 
-// What is said of a type: its range; number 45 and an override; number 6; or the file's own number.
+// Why nothing is said of a type's range: the counts of an override are at fault (45), or the file does not have it.
 #[derive(Clone, Copy)]
-pub enum TypeRange {
-    Ranged(Range),
+pub enum RangeError {
     Span { place: u16 },
     Index,
-    NotAccepted(Outcome),
+    NotAccepted(FileError),
 }
+
+impl From<FileError> for RangeError {
+    ghost use Rattle.rule_ranges.specs.declared.RangeError.{RangeError};
+
+    ghost from_gives = { λ e r. r ≡ RangeError.NotAccepted e };
+
+    fn from(e: FileError) -> Self {
+        RangeError::NotAccepted(e)
+    }
+}
+
+// What is said of a type's range.
+pub type TypeRange = Result<Range, RangeError>;

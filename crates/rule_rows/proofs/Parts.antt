@@ -1,5 +1,6 @@
 -- Access and AccessIndex (document 02, request 13): where Access gives a type, AccessIndex of the same base gives that
 -- type, or number 10. For every sight and all earlier answers, so for every base. By the cases of the type looked into.
+use Rattle.std.specs.Prelude.{Some, None}
 use Prim.Native.Nat.{ℕ}
 use mathlib.Core.Path.{◌≡◌, refl}
 use mathlib.Core.Bool.{Bool, true, false, cond}
@@ -8,7 +9,6 @@ use mathlib.Core.Option.{Option, none, some}
 use lib.Dec.{ltb}
 use Rattle.ir.specs.declared.TypeNumber.{TypeNumber}
 use Rattle.ir.specs.declared.RowNumber.{RowNumber}
-use Rattle.ir.specs.declared.OptionVectorSize.TheVariants as Ov
 use Rattle.ir.specs.declared.AddressSpace.{AddressSpace}
 use Rattle.ir.specs.declared.TypeInner.{TypeInner}
 use Rattle.ir.specs.declared.TypeInner.TheVariants as Ti
@@ -63,8 +63,8 @@ module _ (base : RowNumber) (i : ℕ) where
   into members (Ti.CooperativeMatrix c r k o) t e = never (cc)
   into members (Ti.Atomic k) t e = never (cc)
   into members (Ti.Pointer b p) t e = never (cc)
-  into members (Ti.ValuePointer Ov.None k p) t e = never (cc)
-  into members (Ti.ValuePointer (Ov.Some z) k p) t e = within _ t _ e
+  into members (Ti.ValuePointer None k p) t e = never (cc)
+  into members (Ti.ValuePointer (Some z) k p) t e = within _ t _ e
   into members (Ti.Array b z n) t e = is_same t _ e
   into members (Ti.Struct m n k) t e = never (cc)
   into members (Ti.Image d a c) t e = never (cc)

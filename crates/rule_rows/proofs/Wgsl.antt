@@ -1,5 +1,6 @@
 -- `wgsl-is`: the result that the second pass goes by is this type exactly where a line of WGSL's tables gives this
 -- type. One way line by line; the other by the shapes of the two types, and what each test says.
+use Rattle.std.specs.Prelude.{Option as CodeOption, Some, None}
 use Prim.Native.Nat.{ℕ}
 use native.Mathlib.Omega.{arith}
 use mathlib.Core.Path.{◌≡◌, refl, sym, ap, ◌∙◌}
@@ -11,8 +12,6 @@ use lib.Dec.{eqb}
 use borrow.Author.Tests.{eqb-true, eq-eqb}
 use Rattle.ir.specs.declared.VectorSize.{VectorSize}
 use Rattle.ir.specs.declared.VectorSize.TheVariants as Vs
-use Rattle.ir.specs.declared.OptionVectorSize.{OptionVectorSize}
-use Rattle.ir.specs.declared.OptionVectorSize.TheVariants as Ov
 use Rattle.ir.specs.declared.ScalarKind.{ScalarKind}
 use Rattle.ir.specs.declared.ScalarKind.TheVariants as Sk
 use Rattle.ir.specs.declared.Scalar.{Scalar}
@@ -77,17 +76,17 @@ same-scalar s = rw (
 same_size : (n : VectorSize) → equal_sizes n n ≡ true
 same_size n = eq-eqb (vector_size_number n) (vector_size_number n) refl
 
-same_count : (n : OptionVectorSize) → equal_counts n n ≡ true
-same_count Ov.None = refl
-same_count (Ov.Some n) = same_size n
+same_count : (n : CodeOption VectorSize) → equal_counts n n ≡ true
+same_count None = refl
+same_count (Some n) = same_size n
 
-like : (n : OptionVectorSize) → like_or_mixed n n ≡ true
-like Ov.None = refl
-like (Ov.Some n) = same_size n
+like : (n : CodeOption VectorSize) → like_or_mixed n n ≡ true
+like None = refl
+like (Some n) = same_size n
 
-like-size : (n : OptionVectorSize) → mixed n n ≡ n
-like-size Ov.None = refl
-like-size (Ov.Some n) = refl
+like-size : (n : CodeOption VectorSize) → mixed n n ≡ n
+like-size None = refl
+like-size (Some n) = refl
 
 is-integer : (k : ScalarKind) → Integer k → is_integer k ≡ true
 is-integer k Integer.sint = refl
@@ -113,9 +112,9 @@ is-equatable : (s : Scalar) → Equatable s → (is_numeric s.kind || equal_scal
 is-equatable s (Equatable.numeric r n) = or_left (is_numeric s.kind) (equal_scalars s BOOL) (is-numeric s.kind n)
 is-equatable s Equatable.bool = refl
 
-shape-plain : (n : OptionVectorSize) (s : Scalar) → shape_of (plain n s) ≡ Sh.Plain n s
-shape-plain Ov.None s = refl
-shape-plain (Ov.Some n) s = refl
+shape-plain : (n : CodeOption VectorSize) (s : Scalar) → shape_of (plain n s) ≡ Sh.Plain n s
+shape-plain None s = refl
+shape-plain (Some n) s = refl
 
 complete : (op : BinaryOperator) (x y t : TypeInner) → Wgsl op x y t → wgsl_result op x y ≡ some t
 complete op x y t Wgsl.logical-or = refl
@@ -212,11 +211,11 @@ scalar_is s r e =
     ap (λ (x : ScalarKind). record { kind = x; width = s.width }) k
     ∙ ap (λ (x : Width). record { kind = r.kind; width = x }) l
 
-count-is : (n m : OptionVectorSize) → equal_counts n m ≡ true → n ≡ m
-count-is Ov.None Ov.None e = refl
-count-is Ov.None (Ov.Some b) e = never e
-count-is (Ov.Some a) Ov.None e = never e
-count-is (Ov.Some a) (Ov.Some b) e = ap Ov.Some (size_is a b e)
+count-is : (n m : CodeOption VectorSize) → equal_counts n m ≡ true → n ≡ m
+count-is None None e = refl
+count-is None (Some b) e = never e
+count-is (Some a) None e = never e
+count-is (Some a) (Some b) e = ap Some (size_is a b e)
 
 integer-is : (k : ScalarKind) → is_integer k ≡ true → Integer k
 integer-is Sk.Sint e = Integer.sint
@@ -249,7 +248,8 @@ equatable-is s e =
 
 -- TWO SCALARS OR VECTORS. A relation L of left, right and result has what a test gives, if it has the lines.
 
-module _ (L : TypeInner → TypeInner → TypeInner → Type 0) (n : OptionVectorSize) (s : Scalar) (m : OptionVectorSize)
+module _ (L : TypeInner → TypeInner → TypeInner → Type 0) (n : CodeOption VectorSize) (s : Scalar)
+    (m : CodeOption VectorSize)
     (r : Scalar) {t : TypeInner} where
   -- both alike, and b holds of the left's scalar
   alike : (b : Bool) (u : TypeInner) → (b ≡ true → L (plain n s) (plain n s) u)
@@ -262,7 +262,7 @@ module _ (L : TypeInner → TypeInner → TypeInner → Type 0) (n : OptionVecto
       rw (sym (scalar_is s r q.0), sym (count-is n m q.1), sym h.1) (line p.0)
 
   -- arithmetic: alike, or a scalar and a vector
-  arithmetic-is : ((k : OptionVectorSize) → Numeric s.kind → L (plain k s) (plain k s) (plain k s))
+  arithmetic-is : ((k : CodeOption VectorSize) → Numeric s.kind → L (plain k s) (plain k s) (plain k s))
       → ((k : VectorSize) → Numeric s.kind → L (Ti.Vector k s) (Ti.Scalar s) (Ti.Vector k s))
       → ((k : VectorSize) → Numeric s.kind → L (Ti.Scalar s) (Ti.Vector k s) (Ti.Vector k s))
       → arithmetic_of n s m r ≡ some t → L (plain n s) (plain m r) t
@@ -272,12 +272,12 @@ module _ (L : TypeInner → TypeInner → TypeInner → Type 0) (n : OptionVecto
       let q = both (equal_scalars s r) (like_or_mixed n m) p.1 in
       rw (sym (scalar_is s r q.0), sym h.1) (go n m q.1 (numeric-is s.kind p.0))
     where
-      go : (n m : OptionVectorSize) → like_or_mixed n m ≡ true → Numeric s.kind
+      go : (n m : CodeOption VectorSize) → like_or_mixed n m ≡ true → Numeric s.kind
           → L (plain n s) (plain m s) (plain (mixed n m) s)
-      go Ov.None Ov.None e k = line Ov.None k
-      go Ov.None (Ov.Some b) e k = scalar-vector b k
-      go (Ov.Some a) Ov.None e k = vector-scalar a k
-      go (Ov.Some a) (Ov.Some b) e k = rw (sym (size_is a b e)) (line (Ov.Some a) k)
+      go None None e k = line None k
+      go None (Some b) e k = scalar-vector b k
+      go (Some a) None e k = vector-scalar a k
+      go (Some a) (Some b) e k = rw (sym (size_is a b e)) (line (Some a) k)
 
   shift_is : (Integer s.kind → L (plain n s) (plain n U32) (plain n s)) → shift_of n s m r ≡ some t
       → L (plain n s) (plain m r) t
@@ -292,17 +292,17 @@ module _ (L : TypeInner → TypeInner → TypeInner → Type 0) (n : OptionVecto
   logicals-is line e =
       let a = equal_scalars s BOOL in
       let b = equal_scalars r BOOL in
-      let c = equal_counts n Ov.None in
-      let d = equal_counts m Ov.None in
-      let h = when-is ((a && b) && (c && d)) (plain Ov.None BOOL) e in
+      let c = equal_counts n None in
+      let d = equal_counts m None in
+      let h = when-is ((a && b) && (c && d)) (plain None BOOL) e in
       let p = both (a && b) (c && d) h.0 in
       let q = both a b p.0 in
       let v = both c d p.1 in
       rw (
         scalar_is s BOOL q.0,
         scalar_is r BOOL q.1,
-        count-is n Ov.None v.0,
-        count-is m Ov.None v.1,
+        count-is n None v.0,
+        count-is m None v.1,
         sym h.1,
       ) line
 
@@ -332,13 +332,14 @@ module _ (L : TypeInner → TypeInner → TypeInner → Type 0) (c r : VectorSiz
 
   -- a matrix times a scalar or a vector
   times-plain-is : (s.kind ≡ Sk.Float → L (Ti.Matrix c r s) (Ti.Scalar s) (Ti.Matrix c r s))
-      → (s.kind ≡ Sk.Float → L (Ti.Matrix c r s) (Ti.Vector c s) (Ti.Vector r s)) → (n : OptionVectorSize) (t : Scalar)
+      → (s.kind ≡ Sk.Float → L (Ti.Matrix c r s) (Ti.Vector c s) (Ti.Vector r s))
+      → (n : CodeOption VectorSize) (t : Scalar)
       → matrix_times_of c r s n t ≡ some u → L (Ti.Matrix c r s) (plain n t) u
-  times-plain-is scalar vector Ov.None t e =
+  times-plain-is scalar vector None t e =
       let h = when-is (is_float s.kind && equal_scalars s t) (Ti.Matrix c r s) e in
       let p = both (is_float s.kind) (equal_scalars s t) h.0 in
       rw (sym (scalar_is s t p.1), sym h.1) (scalar (float_is s.kind p.0))
-  times-plain-is scalar vector (Ov.Some n) t e =
+  times-plain-is scalar vector (Some n) t e =
       let h = when-is (is_float s.kind && (equal_scalars s t && equal_sizes n c)) (Ti.Vector r s) e in
       let p = both (is_float s.kind) (equal_scalars s t && equal_sizes n c) h.0 in
       let v = both (equal_scalars s t) (equal_sizes n c) p.1 in
@@ -346,13 +347,14 @@ module _ (L : TypeInner → TypeInner → TypeInner → Type 0) (c r : VectorSiz
 
   -- a scalar or a vector times a matrix; s is the scalar's or vector's
   plain-times-is : (s.kind ≡ Sk.Float → L (Ti.Scalar s) (Ti.Matrix c r s) (Ti.Matrix c r s))
-      → (s.kind ≡ Sk.Float → L (Ti.Vector r s) (Ti.Matrix c r s) (Ti.Vector c s)) → (n : OptionVectorSize) (t : Scalar)
+      → (s.kind ≡ Sk.Float → L (Ti.Vector r s) (Ti.Matrix c r s) (Ti.Vector c s))
+      → (n : CodeOption VectorSize) (t : Scalar)
       → times_matrix_of n s c r t ≡ some u → L (plain n s) (Ti.Matrix c r t) u
-  plain-times-is scalar vector Ov.None t e =
+  plain-times-is scalar vector None t e =
       let h = when-is (is_float s.kind && equal_scalars s t) (Ti.Matrix c r s) e in
       let p = both (is_float s.kind) (equal_scalars s t) h.0 in
       rw (sym (scalar_is s t p.1), sym h.1) (scalar (float_is s.kind p.0))
-  plain-times-is scalar vector (Ov.Some n) t e =
+  plain-times-is scalar vector (Some n) t e =
       let h = when-is (is_float s.kind && (equal_scalars s t && equal_sizes n r)) (Ti.Vector c s) e in
       let p = both (is_float s.kind) (equal_scalars s t && equal_sizes n r) h.0 in
       let v = both (equal_scalars s t) (equal_sizes n r) p.1 in
@@ -361,13 +363,13 @@ module _ (L : TypeInner → TypeInner → TypeInner → Type 0) (c r : VectorSiz
 -- BY THE SHAPES of the two types
 
 data Shaped : TypeInner → Shape → Type 0 where
-  plain' : (n : OptionVectorSize) (s : Scalar) → Shaped (plain n s) (Sh.Plain n s)
+  plain' : (n : CodeOption VectorSize) (s : Scalar) → Shaped (plain n s) (Sh.Plain n s)
   matrix' : (c r : VectorSize) (s : Scalar) → Shaped (Ti.Matrix c r s) (Sh.Matrix c r s)
   other' : (x : TypeInner) → Shaped x Sh.Other
 
 shaped : (x : TypeInner) → Shaped x (shape_of x)
-shaped (Ti.Scalar s) = plain' Ov.None s
-shaped (Ti.Vector n s) = plain' (Ov.Some n) s
+shaped (Ti.Scalar s) = plain' None s
+shaped (Ti.Vector n s) = plain' (Some n) s
 shaped (Ti.Matrix c r s) = matrix' c r s
 shaped (Ti.CooperativeMatrix c r k o) = other' _
 shaped (Ti.Atomic k) = other' _
@@ -383,12 +385,13 @@ shaped (Ti.BindingArray b z) = other' _
 
 -- a relation L has what an operator gives, if it has what it gives of each two shapes
 module _ (op : BinaryOperator) {t : TypeInner}
-    (two-plain : (n : OptionVectorSize) (s : Scalar) (m : OptionVectorSize) (r : Scalar) → plain_result op n s m r
+    (two-plain : (n : CodeOption VectorSize) (s : Scalar) (m : CodeOption VectorSize) (r : Scalar)
+    → plain_result op n s m r
     ≡ some t → Wgsl op (plain n s) (plain m r) t)
-    (plain-matrix : (n : OptionVectorSize) (s : Scalar) (c r : VectorSize) (k : Scalar)
+    (plain-matrix : (n : CodeOption VectorSize) (s : Scalar) (c r : VectorSize) (k : Scalar)
     → if_multiply op (times_matrix_of n s c r k) ≡ some t
     → Wgsl op (plain n s) (Ti.Matrix c r k) t)
-    (matrix-plain : (c r : VectorSize) (k : Scalar) (n : OptionVectorSize) (s : Scalar)
+    (matrix-plain : (c r : VectorSize) (k : Scalar) (n : CodeOption VectorSize) (s : Scalar)
     → if_multiply op (matrix_times_of c r k n s) ≡ some t
     → Wgsl op (Ti.Matrix c r k) (plain n s) t)
     (two-matrices : (c r : VectorSize) (k : Scalar) (d q : VectorSize) (j : Scalar) → matrices_result op c r k d q j
@@ -408,30 +411,33 @@ module _ (op : BinaryOperator) {t : TypeInner}
 
 -- the lines of the groups of operators, of two scalars or vectors
 module _ (op : BinaryOperator) {t : TypeInner} where
-  arithmetics : ((n : OptionVectorSize) (s : Scalar) → Numeric s.kind → Wgsl op (plain n s) (plain n s) (plain n s))
+  arithmetics : ((n : CodeOption VectorSize) (s : Scalar) → Numeric s.kind
+      → Wgsl op (plain n s) (plain n s) (plain n s))
       → ((n : VectorSize) (s : Scalar) → Numeric s.kind → Wgsl op (Ti.Vector n s) (Ti.Scalar s) (Ti.Vector n s))
       → ((n : VectorSize) (s : Scalar) → Numeric s.kind → Wgsl op (Ti.Scalar s) (Ti.Vector n s) (Ti.Vector n s))
-      → (n : OptionVectorSize) (s : Scalar) (m : OptionVectorSize) (r : Scalar) → arithmetic_of n s m r ≡ some t
+      → (n : CodeOption VectorSize) (s : Scalar) (m : CodeOption VectorSize) (r : Scalar)
+      → arithmetic_of n s m r ≡ some t
       → Wgsl op (plain n s) (plain m r) t
   arithmetics line vector-scalar scalar-vector n s m r =
       arithmetic-is (Wgsl op) n s m r (λ k. line k s) (λ k. vector-scalar k s) (λ k. scalar-vector k s)
 
-  equalities : ((n : OptionVectorSize) (s : Scalar) → Equatable s → Wgsl op (plain n s) (plain n s) (plain n BOOL))
-      → (n : OptionVectorSize) (s : Scalar) (m : OptionVectorSize) (r : Scalar) → equality_of n s m r ≡ some t
+  equalities : ((n : CodeOption VectorSize) (s : Scalar) → Equatable s → Wgsl op (plain n s) (plain n s) (plain n BOOL))
+      → (n : CodeOption VectorSize) (s : Scalar) (m : CodeOption VectorSize) (r : Scalar) → equality_of n s m r ≡ some t
       → Wgsl op (plain n s) (plain m r) t
   equalities line n s m r =
       alike (Wgsl op) n s m r (is_numeric s.kind || equal_scalars s BOOL) (plain n BOOL)
       (λ h. line n s (equatable-is s h))
 
-  orderings : ((n : OptionVectorSize) (s : Scalar) → Numeric s.kind → Wgsl op (plain n s) (plain n s) (plain n BOOL))
-      → (n : OptionVectorSize) (s : Scalar) (m : OptionVectorSize) (r : Scalar) → ordering_of n s m r ≡ some t
+  orderings : ((n : CodeOption VectorSize) (s : Scalar) → Numeric s.kind
+      → Wgsl op (plain n s) (plain n s) (plain n BOOL))
+      → (n : CodeOption VectorSize) (s : Scalar) (m : CodeOption VectorSize) (r : Scalar) → ordering_of n s m r ≡ some t
       → Wgsl op (plain n s) (plain m r) t
   orderings line n s m r = alike (Wgsl op) n s m r (is_numeric s.kind) (plain n BOOL)
       (λ h. line n s (numeric-is s.kind h))
 
-  and-ors : ((n : OptionVectorSize) (s : Scalar) → Integer s.kind → Wgsl op (plain n s) (plain n s) (plain n s))
-      → ((n : OptionVectorSize) → Wgsl op (plain n BOOL) (plain n BOOL) (plain n BOOL))
-      → (n : OptionVectorSize) (s : Scalar) (m : OptionVectorSize) (r : Scalar) → and_or_of n s m r ≡ some t
+  and-ors : ((n : CodeOption VectorSize) (s : Scalar) → Integer s.kind → Wgsl op (plain n s) (plain n s) (plain n s))
+      → ((n : CodeOption VectorSize) → Wgsl op (plain n BOOL) (plain n BOOL) (plain n BOOL))
+      → (n : CodeOption VectorSize) (s : Scalar) (m : CodeOption VectorSize) (r : Scalar) → and_or_of n s m r ≡ some t
       → Wgsl op (plain n s) (plain m r) t
   and-ors bits bools n s m r =
       alike (Wgsl op) n s m r (is_integer s.kind || equal_scalars s BOOL) (plain n s)

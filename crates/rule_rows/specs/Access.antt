@@ -1,12 +1,10 @@
 -- Access, AccessIndex, Splat and Swizzle, in the source's order (document 01, "A row's type"). Refusals: 10 to 14.
-use Rattle.std.specs.Prelude.{ℕ, true, false, cond, List, ltb}
+use Rattle.std.specs.Prelude.{ℕ, true, false, cond, List, ltb, Option as CodeOption, Some, None}
 use Rattle.std.proofs.Math.Option.{Option, none, some}
 use Rattle.std.proofs.Math.ListN.{get_elem?}
 use Rattle.ir.specs.declared.TypeNumber.{TypeNumber}
 use Rattle.ir.specs.declared.RowNumber.{RowNumber}
 use Rattle.ir.specs.declared.VectorSize.{VectorSize}
-use Rattle.ir.specs.declared.OptionVectorSize.{OptionVectorSize}
-use Rattle.ir.specs.declared.OptionVectorSize.TheVariants as Ov
 use Rattle.ir.specs.declared.Scalar.{Scalar}
 use Rattle.ir.specs.declared.AddressSpace.{AddressSpace}
 use Rattle.ir.specs.declared.TypeInner.{TypeInner}
@@ -24,9 +22,9 @@ use Rattle.rule_rows.specs.Steps.{by_type, by_base}
 -- "Array Access Expression".
 
 -- a part of what a value pointer points at: a component of its vector; to a scalar it has none
-abbrev pub access_component : RowNumber → Scalar → AddressSpace → OptionVectorSize → Typed
-access_component base k s (Ov.Some z) = given (value (Ti.ValuePointer Ov.None k s))
-access_component base k s Ov.None = refused (InvalidAccess base false)
+abbrev pub access_component : RowNumber → Scalar → AddressSpace → CodeOption VectorSize → Typed
+access_component base k s (Some z) = given (value (Ti.ValuePointer None k s))
+access_component base k s None = refused (InvalidAccess base false)
 
 -- a part of a value, or of what a value pointer points at; every other type, a Struct too, is number 11
 abbrev pub access_into : RowNumber → TypeInner → Typed
@@ -42,8 +40,8 @@ access_into base t =
 abbrev pub access_through : TypeNumber → AddressSpace → TypeInner → Typed
 access_through base s t =
     if_array t (λ b. given (value (Ti.Pointer b s)))
-    (if_vector t (λ z k. given (value (Ti.ValuePointer Ov.None k s)))
-    (if_matrix t (λ c r k. given (value (Ti.ValuePointer (Ov.Some r) k s)))
+    (if_vector t (λ z k. given (value (Ti.ValuePointer None k s)))
+    (if_matrix t (λ c r k. given (value (Ti.ValuePointer (Some r) k s)))
     (if_binding_array t (λ b. given (value (Ti.Pointer b s)))
     (refused (InvalidSubAccess base false)))))
 
@@ -70,9 +68,9 @@ member_pointer base i s (some t) = given (value (Ti.Pointer t s))
 member_pointer base i s none = refused (OutOfBoundsIndex base i)
 
 -- a component of what a value pointer points at, bounded by the vector's size; to a scalar it has none
-abbrev pub index_component : RowNumber → ℕ → Scalar → AddressSpace → OptionVectorSize → Typed
-index_component base i k s (Ov.Some z) = bounded base i (vector_size_number z) (value (Ti.ValuePointer Ov.None k s))
-index_component base i k s Ov.None = refused (InvalidAccess base true)
+abbrev pub index_component : RowNumber → ℕ → Scalar → AddressSpace → CodeOption VectorSize → Typed
+index_component base i k s (Some z) = bounded base i (vector_size_number z) (value (Ti.ValuePointer None k s))
+index_component base i k s None = refused (InvalidAccess base true)
 
 -- part i of a value, or of what a value pointer points at; every other type is number 11
 abbrev pub index_into : RowNumber → ℕ → List TypeNumber → TypeInner → Typed
@@ -89,8 +87,8 @@ index_into base i members t =
 abbrev pub index_through : RowNumber → ℕ → TypeNumber → AddressSpace → List TypeNumber → TypeInner → Typed
 index_through base i ty s members t =
     if_array t (λ b. given (value (Ti.Pointer b s)))
-    (if_vector t (λ z k. bounded base i (vector_size_number z) (value (Ti.ValuePointer Ov.None k s)))
-    (if_matrix t (λ c r k. bounded base i (vector_size_number c) (value (Ti.ValuePointer (Ov.Some r) k s)))
+    (if_vector t (λ z k. bounded base i (vector_size_number z) (value (Ti.ValuePointer None k s)))
+    (if_matrix t (λ c r k. bounded base i (vector_size_number c) (value (Ti.ValuePointer (Some r) k s)))
     (if_struct t (member_pointer base i s (get_elem? members i))
     (if_binding_array t (λ b. given (value (Ti.Pointer b s)))
     (refused (InvalidSubAccess ty true))))))

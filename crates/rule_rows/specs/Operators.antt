@@ -1,6 +1,6 @@
 -- Unary, Binary, Select, Derivative, Relational and As, in the source's order (document 01, "A row's type"). Refusal:
 -- 18; in the second pass 41.
-use Rattle.std.specs.Prelude.{ℕ, cond}
+use Rattle.std.specs.Prelude.{ℕ, cond, Option as CodeOption, Some, None}
 use Rattle.std.proofs.Math.Option.{Option, none, some}
 use Rattle.ir.specs.declared.RowNumber.{RowNumber}
 use Rattle.ir.specs.declared.VectorSize.{VectorSize}
@@ -13,8 +13,6 @@ use Rattle.ir.specs.declared.BinaryOperator.{BinaryOperator}
 use Rattle.ir.specs.declared.BinaryOperator.TheVariants as Bo
 use Rattle.ir.specs.declared.RelationalFunction.{RelationalFunction}
 use Rattle.ir.specs.declared.RelationalFunction.TheVariants as Rf
-use Rattle.ir.specs.declared.OptionBytes.{OptionBytes}
-use Rattle.ir.specs.declared.OptionBytes.TheVariants as Ob
 use Rattle.ir.specs.declared.TypeInner.{TypeInner}
 use Rattle.ir.specs.declared.TypeInner.TheVariants as Ti
 use Rattle.ir.specs.Scalars.{BOOL, equal_scalars}
@@ -164,12 +162,12 @@ relational here Rf.IsInf argument = by_type here argument bools_of
 -- "Bit Reinterpretation Built-in Functions".
 
 -- the width converted to; without one the width that was there
-abbrev pub width_or : OptionBytes → Width → Width
-width_or (Ob.Some w) own = w
-width_or Ob.None own = own
+abbrev pub width_or : CodeOption Width → Width → Width
+width_or (Some w) own = w
+width_or None own = own
 
 -- a scalar or a vector takes the kind, a matrix keeps its own; every other type is number 18
-abbrev pub cast_of : ScalarKind → OptionBytes → TypeInner → Typed
+abbrev pub cast_of : ScalarKind → CodeOption Width → TypeInner → Typed
 cast_of kind convert t =
     if_scalar t (λ k. given (value (Ti.Scalar (record { kind = kind; width = width_or convert k.width }))))
     (if_vector t (λ z k. given (value (Ti.Vector z (record { kind = kind; width = width_or convert k.width }))))
@@ -177,5 +175,5 @@ cast_of kind convert t =
     (refused IncompatibleOperands)))
 
 -- reads its operand and looks into its type
-abbrev pub cast : RowNumber → RowNumber → ScalarKind → OptionBytes → Rule Typed
+abbrev pub cast : RowNumber → RowNumber → ScalarKind → CodeOption Width → Rule Typed
 cast here n kind convert = by_type here n (cast_of kind convert)

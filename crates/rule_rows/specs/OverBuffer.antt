@@ -1,10 +1,10 @@
 -- Not part of any public statement: for proofs and code only. Rules run over the answer buffer: earlier answers as they
 -- stand there, by a table of places (document 01, "What must change shape": the `past` closure is a part of the answer
 -- buffer).
-use Rattle.std.specs.Prelude.{ℕ, cond, List, ltb, length, get_or}
+use Rattle.answers.specs.declared.Unresolved.TheVariants as Un
+use Rattle.std.specs.Prelude.{ℕ, cond, List, ltb, length, get_or, Err}
 use Rattle.ir.specs.declared.RowNumber.{RowNumber}
-use Rattle.answers.specs.declared.Answer.{Answer}
-use Rattle.answers.specs.declared.Answer.TheVariants as An
+use Rattle.answers.specs.Answer.{Answer}
 use Rattle.answers.specs.declared.Refusal.TheVariants.{MissingSpecialType}
 use Rattle.frames.specs.Bytes.{frame_at}
 use Rattle.frames.specs.ForProofs.{answer_of}
@@ -18,7 +18,7 @@ use Rattle.rule_rows.specs.Answered.{to_result}
 -- `absent` (rule/specs/InOrder.antt)
 unfoldable pub answer_in : List ℕ → List ℕ → RowNumber → Answer
 answer_in answers places n = cond (ltb n.0 (length places)) (answer_of (frame_at answers (get_or places n.0 0)))
-    (An.Refused MissingSpecialType)
+    (Err (Un.Refused MissingSpecialType))
 
 -- the answers that a rule reads there
 abbrev pub past_in : List ℕ → List ℕ → Answers

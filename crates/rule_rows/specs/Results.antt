@@ -1,21 +1,17 @@
 -- Results of statements and calls, array lengths, ray queries, subgroups and cooperative matrices, in the source's
 -- order (document 01, "A row's type").
 -- All but the last two read nothing. Refusals: 15, 17 and 20.
+use Rattle.std.specs.Prelude.{Option as CodeOption, Some, None}
+use Rattle.ir.specs.declared.Scalar.{Scalar}
 use Rattle.std.proofs.Math.Option.{Option, none, some}
 use Rattle.ir.specs.declared.TypeNumber.{TypeNumber}
 use Rattle.ir.specs.declared.RowNumber.{RowNumber}
 use Rattle.ir.specs.declared.VectorSize.TheVariants as Vs
 use Rattle.ir.specs.declared.CooperativeSize.{CooperativeSize}
 use Rattle.ir.specs.declared.CooperativeRole.{CooperativeRole}
-use Rattle.ir.specs.declared.OptionScalar.{OptionScalar}
-use Rattle.ir.specs.declared.OptionScalar.TheVariants as Os
-use Rattle.ir.specs.declared.FunctionResult.{FunctionResult}
-use Rattle.ir.specs.declared.FunctionResult.TheVariants as Fr
 use Rattle.ir.specs.declared.TypeInner.TheVariants as Ti
 use Rattle.ir.specs.declared.TypeResolution.{TypeResolution}
 use Rattle.ir.specs.declared.TypeResolution.TheVariants as Tr
-use Rattle.ir.specs.declared.OptionTypeResolution.{OptionTypeResolution}
-use Rattle.ir.specs.declared.OptionTypeResolution.TheVariants as Ot
 use Rattle.ir.specs.TypeMethods.{scalar_in, pointer_base}
 use Rattle.ir.specs.Scalars.{U32, BOOL}
 use Rattle.answers.specs.declared.Refusal.TheVariants.{InvalidPointer, FunctionReturnsVoid, MissingSpecialType}
@@ -39,12 +35,12 @@ work_group_uniform_load_result t = done (given (number t))
 -- CALLRESULT. WGSL: "Function Call Expression".
 
 -- the type of a function's result; without one number 17
-abbrev pub result_of : FunctionResult → Typed
-result_of (Fr.Some t) = given (number t)
-result_of Fr.None = refused FunctionReturnsVoid
+abbrev pub result_of : CodeOption TypeNumber → Typed
+result_of (Some t) = given (number t)
+result_of None = refused FunctionReturnsVoid
 
 -- the row shows the result of the function that it names
-abbrev pub call_result : FunctionResult → Rule Typed
+abbrev pub call_result : CodeOption TypeNumber → Rule Typed
 call_result r = done (result_of r)
 
 -- ARRAYLENGTH. WGSL: "Array Built-in Functions", arrayLength.
@@ -75,19 +71,19 @@ subgroup_ballot_result = done (given (value (Ti.Vector Vs.Quad U32)))
 -- COOPERATIVELOAD. The source decides.
 
 -- the cooperative matrix of the scalar pointed at; without one number 15
-abbrev pub cooperative_of : CooperativeSize → CooperativeSize → CooperativeRole → RowNumber → OptionScalar → Typed
-cooperative_of columns rows role pointer (Os.Some k) = given (value (Ti.CooperativeMatrix columns rows k role))
-cooperative_of columns rows role pointer Os.None = refused (InvalidPointer pointer)
+abbrev pub cooperative_of : CooperativeSize → CooperativeSize → CooperativeRole → RowNumber → CodeOption Scalar → Typed
+cooperative_of columns rows role pointer (Some k) = given (value (Ti.CooperativeMatrix columns rows k role))
+cooperative_of columns rows role pointer None = refused (InvalidPointer pointer)
 
 -- the scalar of what a value pointer points at; what is no pointer has none. No reading comes to a number: of a Pointer
 -- the base is looked into.
-abbrev pub value_scalar : TypeResolution → OptionScalar
+abbrev pub value_scalar : TypeResolution → CodeOption Scalar
 value_scalar (Tr.Value t) = scalar_in t
-value_scalar (Tr.Handle n) = Os.None
+value_scalar (Tr.Handle n) = None
 
-abbrev pub base_scalar : OptionTypeResolution → OptionScalar
-base_scalar (Ot.Some t) = value_scalar t
-base_scalar Ot.None = Os.None
+abbrev pub base_scalar : CodeOption TypeResolution → CodeOption Scalar
+base_scalar (Some t) = value_scalar t
+base_scalar None = None
 
 -- reads the pointer, looks into its type and, of a Pointer, the type pointed at
 abbrev pub cooperative_load : RowNumber → CooperativeSize → CooperativeSize → CooperativeRole → RowNumber → Rule Typed

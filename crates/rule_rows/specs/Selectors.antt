@@ -1,9 +1,9 @@
 -- One case of a type, and the rest: what a rule asks of the inner form that it looks into, where it treats some cases
 -- and refuses or passes on every other. `if_pointer` stands in rule_types/specs/Canonical.antt. Document 01, "A row's
 -- type".
+use Rattle.std.specs.Prelude.{Option}
 use Rattle.ir.specs.declared.TypeNumber.{TypeNumber}
 use Rattle.ir.specs.declared.VectorSize.{VectorSize}
-use Rattle.ir.specs.declared.OptionVectorSize.{OptionVectorSize}
 use Rattle.ir.specs.declared.CooperativeSize.{CooperativeSize}
 use Rattle.ir.specs.declared.CooperativeRole.{CooperativeRole}
 use Rattle.ir.specs.declared.Scalar.{Scalar}
@@ -100,7 +100,7 @@ if_atomic (Ti.RayQuery q) f rest = rest
 if_atomic (Ti.BindingArray b z) f rest = rest
 
 -- of a value pointer, with its size, scalar and space
-abbrev pub if_value_pointer : {X : Type 0} → TypeInner → (OptionVectorSize → Scalar → AddressSpace → X) → X → X
+abbrev pub if_value_pointer : {X : Type 0} → TypeInner → ((Option VectorSize) → Scalar → AddressSpace → X) → X → X
 if_value_pointer (Ti.Scalar k) f rest = rest
 if_value_pointer (Ti.Vector z k) f rest = rest
 if_value_pointer (Ti.Matrix c r k) f rest = rest

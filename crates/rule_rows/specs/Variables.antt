@@ -1,7 +1,8 @@
 -- Literals, constants, composes, arguments and variables, and Load, in the source's order (document 01, "A row's
 -- type"). All but Load read nothing.
 -- Refusals: 15 and 19.
-use Rattle.std.specs.Prelude.{ℕ, List}
+use Rattle.ir.specs.declared.TypeResolution.{TypeResolution}
+use Rattle.std.specs.Prelude.{ℕ, List, Option as CodeOption, Some, None}
 use Rattle.std.proofs.Math.Option.{Option, none, some}
 use Rattle.ir.specs.declared.TypeNumber.{TypeNumber}
 use Rattle.ir.specs.declared.RowNumber.{RowNumber}
@@ -12,8 +13,6 @@ use Rattle.ir.specs.declared.Literal.{Literal}
 use Rattle.ir.specs.declared.Literal.TheVariants as Li
 use Rattle.ir.specs.declared.TypeInner.{TypeInner}
 use Rattle.ir.specs.declared.TypeInner.TheVariants as Ti
-use Rattle.ir.specs.declared.OptionTypeResolution.{OptionTypeResolution}
-use Rattle.ir.specs.declared.OptionTypeResolution.TheVariants as Ot
 use Rattle.ir.specs.TypeMethods.{pointer_base}
 use Rattle.ir.specs.Scalars.{I16, U16, I32, U32, F16, F32, F64, I64, U64, BOOL, ABSTRACT-INT, ABSTRACT-FLOAT}
 use Rattle.answers.specs.declared.Refusal.TheVariants.{InvalidPointer, FunctionArgumentNotFound}
@@ -100,9 +99,9 @@ abbrev pub load_through : TypeNumber → TypeInner → Typed
 load_through base t = if_atomic t (λ k. given (value (Ti.Scalar k))) (given (number base))
 
 -- what a pointer points at, a value (ir/specs/TypeMethods.antt); what is no pointer is number 15
-abbrev pub loaded : RowNumber → OptionTypeResolution → Typed
-loaded pointer (Ot.Some t) = given (resolved t)
-loaded pointer Ot.None = refused (InvalidPointer pointer)
+abbrev pub loaded : RowNumber → CodeOption TypeResolution → Typed
+loaded pointer (Some t) = given (resolved t)
+loaded pointer None = refused (InvalidPointer pointer)
 
 -- through a value pointer what it points at; every other type is number 15
 abbrev pub load_into : RowNumber → TypeInner → Typed

@@ -1,11 +1,9 @@
 -- What the second pass goes by: of an operator and two types the result that WGSL's tables give, or none (document
 -- 02, request 3). `wgsl-is` (proofs/Wgsl.antt): it is this type exactly where a line of the tables (WgslTables.antt)
 -- gives this type.
-use Rattle.std.specs.Prelude.{Bool, true, false, ◌&&◌, ◌||◌, eqb}
+use Rattle.std.specs.Prelude.{Bool, true, false, ◌&&◌, ◌||◌, eqb, Option as CodeOption, Some, None}
 use Rattle.std.proofs.Math.Option.{Option, none, some}
 use Rattle.ir.specs.declared.VectorSize.{VectorSize}
-use Rattle.ir.specs.declared.OptionVectorSize.{OptionVectorSize}
-use Rattle.ir.specs.declared.OptionVectorSize.TheVariants as Ov
 use Rattle.ir.specs.declared.ScalarKind.{ScalarKind}
 use Rattle.ir.specs.declared.ScalarKind.TheVariants as Sk
 use Rattle.ir.specs.declared.Scalar.{Scalar}
@@ -25,8 +23,8 @@ use Rattle.rule_rows.specs.WgslTables.{plain}
 -- a type's shape: S or vecN<S>, matCxR<S>, or a type that is in no line
 abbrev pub shape_of : TypeInner → Shape
 shape_of t =
-    if_scalar t (λ s. Sh.Plain Ov.None s)
-    (if_vector t (λ n s. Sh.Plain (Ov.Some n) s)
+    if_scalar t (λ s. Sh.Plain None s)
+    (if_vector t (λ n s. Sh.Plain (Some n) s)
     (if_matrix t (λ c r s. Sh.Matrix c r s)
     Sh.Other))
 
@@ -53,22 +51,22 @@ abbrev pub equal_sizes : VectorSize → VectorSize → Bool
 equal_sizes a b = eqb (vector_size_number a) (vector_size_number b)
 
 -- two scalars, or two vectors of as many components
-abbrev pub equal_counts : OptionVectorSize → OptionVectorSize → Bool
-equal_counts Ov.None Ov.None = true
-equal_counts Ov.None (Ov.Some b) = false
-equal_counts (Ov.Some a) Ov.None = false
-equal_counts (Ov.Some a) (Ov.Some b) = equal_sizes a b
+abbrev pub equal_counts : CodeOption VectorSize → CodeOption VectorSize → Bool
+equal_counts None None = true
+equal_counts None (Some b) = false
+equal_counts (Some a) None = false
+equal_counts (Some a) (Some b) = equal_sizes a b
 
 -- the same, or a scalar and a vector in either order
-abbrev pub like_or_mixed : OptionVectorSize → OptionVectorSize → Bool
-like_or_mixed Ov.None m = true
-like_or_mixed (Ov.Some a) Ov.None = true
-like_or_mixed (Ov.Some a) (Ov.Some b) = equal_sizes a b
+abbrev pub like_or_mixed : CodeOption VectorSize → CodeOption VectorSize → Bool
+like_or_mixed None m = true
+like_or_mixed (Some a) None = true
+like_or_mixed (Some a) (Some b) = equal_sizes a b
 
 -- the components of such a result: those of the vector, if one is
-abbrev pub mixed : OptionVectorSize → OptionVectorSize → OptionVectorSize
-mixed Ov.None m = m
-mixed (Ov.Some a) m = Ov.Some a
+abbrev pub mixed : CodeOption VectorSize → CodeOption VectorSize → CodeOption VectorSize
+mixed None m = m
+mixed (Some a) m = Some a
 
 -- a type where a test holds, else none
 abbrev pub when : Bool → TypeInner → Option TypeInner
@@ -79,66 +77,66 @@ when false t = none
 -- taken, and what is given then
 
 -- Add, Subtract, Multiply, Divide, Modulo
-abbrev pub arithmetic_test : OptionVectorSize → Scalar → OptionVectorSize → Scalar → Bool
+abbrev pub arithmetic_test : CodeOption VectorSize → Scalar → CodeOption VectorSize → Scalar → Bool
 arithmetic_test n s m r = is_numeric s.kind && (equal_scalars s r && like_or_mixed n m)
 
-abbrev pub arithmetic_of : OptionVectorSize → Scalar → OptionVectorSize → Scalar → Option TypeInner
+abbrev pub arithmetic_of : CodeOption VectorSize → Scalar → CodeOption VectorSize → Scalar → Option TypeInner
 arithmetic_of n s m r = when (arithmetic_test n s m r) (plain (mixed n m) s)
 
 -- Equal, NotEqual
-abbrev pub equality_test : OptionVectorSize → Scalar → OptionVectorSize → Scalar → Bool
+abbrev pub equality_test : CodeOption VectorSize → Scalar → CodeOption VectorSize → Scalar → Bool
 equality_test n s m r = (is_numeric s.kind || equal_scalars s BOOL) && (equal_scalars s r && equal_counts n m)
 
-abbrev pub equality_of : OptionVectorSize → Scalar → OptionVectorSize → Scalar → Option TypeInner
+abbrev pub equality_of : CodeOption VectorSize → Scalar → CodeOption VectorSize → Scalar → Option TypeInner
 equality_of n s m r = when (equality_test n s m r) (plain n BOOL)
 
 -- Less, LessEqual, Greater, GreaterEqual
-abbrev pub ordering_test : OptionVectorSize → Scalar → OptionVectorSize → Scalar → Bool
+abbrev pub ordering_test : CodeOption VectorSize → Scalar → CodeOption VectorSize → Scalar → Bool
 ordering_test n s m r = is_numeric s.kind && (equal_scalars s r && equal_counts n m)
 
-abbrev pub ordering_of : OptionVectorSize → Scalar → OptionVectorSize → Scalar → Option TypeInner
+abbrev pub ordering_of : CodeOption VectorSize → Scalar → CodeOption VectorSize → Scalar → Option TypeInner
 ordering_of n s m r = when (ordering_test n s m r) (plain n BOOL)
 
 -- And, InclusiveOr: of bits, and of bools
-abbrev pub and_or_test : OptionVectorSize → Scalar → OptionVectorSize → Scalar → Bool
+abbrev pub and_or_test : CodeOption VectorSize → Scalar → CodeOption VectorSize → Scalar → Bool
 and_or_test n s m r = (is_integer s.kind || equal_scalars s BOOL) && (equal_scalars s r && equal_counts n m)
 
-abbrev pub and_or_of : OptionVectorSize → Scalar → OptionVectorSize → Scalar → Option TypeInner
+abbrev pub and_or_of : CodeOption VectorSize → Scalar → CodeOption VectorSize → Scalar → Option TypeInner
 and_or_of n s m r = when (and_or_test n s m r) (plain n s)
 
 -- ExclusiveOr: of bits alone
-abbrev pub xor_test : OptionVectorSize → Scalar → OptionVectorSize → Scalar → Bool
+abbrev pub xor_test : CodeOption VectorSize → Scalar → CodeOption VectorSize → Scalar → Bool
 xor_test n s m r = is_integer s.kind && (equal_scalars s r && equal_counts n m)
 
-abbrev pub xor_of : OptionVectorSize → Scalar → OptionVectorSize → Scalar → Option TypeInner
+abbrev pub xor_of : CodeOption VectorSize → Scalar → CodeOption VectorSize → Scalar → Option TypeInner
 xor_of n s m r = when (xor_test n s m r) (plain n s)
 
 -- ShiftLeft, ShiftRight: the right is u32, whatever integer the left is
-abbrev pub shift_test : OptionVectorSize → Scalar → OptionVectorSize → Scalar → Bool
+abbrev pub shift_test : CodeOption VectorSize → Scalar → CodeOption VectorSize → Scalar → Bool
 shift_test n s m r = is_integer s.kind && (equal_scalars r U32 && equal_counts n m)
 
-abbrev pub shift_of : OptionVectorSize → Scalar → OptionVectorSize → Scalar → Option TypeInner
+abbrev pub shift_of : CodeOption VectorSize → Scalar → CodeOption VectorSize → Scalar → Option TypeInner
 shift_of n s m r = when (shift_test n s m r) (plain n s)
 
 -- LogicalAnd, LogicalOr: of two bools, no vectors
-abbrev pub logicals_test : OptionVectorSize → Scalar → OptionVectorSize → Scalar → Bool
+abbrev pub logicals_test : CodeOption VectorSize → Scalar → CodeOption VectorSize → Scalar → Bool
 logicals_test n s m r =
-    (equal_scalars s BOOL && equal_scalars r BOOL) && (equal_counts n Ov.None && equal_counts m Ov.None)
+    (equal_scalars s BOOL && equal_scalars r BOOL) && (equal_counts n None && equal_counts m None)
 
-abbrev pub logicals_of : OptionVectorSize → Scalar → OptionVectorSize → Scalar → Option TypeInner
-logicals_of n s m r = when (logicals_test n s m r) (plain Ov.None BOOL)
+abbrev pub logicals_of : CodeOption VectorSize → Scalar → CodeOption VectorSize → Scalar → Option TypeInner
+logicals_of n s m r = when (logicals_test n s m r) (plain None BOOL)
 
 -- MATRICES: Float alone, of one kind and width on both sides
 
 -- a matrix times a scalar, or a vector of as many components as it has columns
-abbrev pub matrix_times_of : VectorSize → VectorSize → Scalar → OptionVectorSize → Scalar → Option TypeInner
-matrix_times_of c r s Ov.None t = when (is_float s.kind && equal_scalars s t) (Ti.Matrix c r s)
-matrix_times_of c r s (Ov.Some n) t = when (is_float s.kind && (equal_scalars s t && equal_sizes n c)) (Ti.Vector r s)
+abbrev pub matrix_times_of : VectorSize → VectorSize → Scalar → CodeOption VectorSize → Scalar → Option TypeInner
+matrix_times_of c r s None t = when (is_float s.kind && equal_scalars s t) (Ti.Matrix c r s)
+matrix_times_of c r s (Some n) t = when (is_float s.kind && (equal_scalars s t && equal_sizes n c)) (Ti.Vector r s)
 
 -- a scalar, or a vector of as many components as the matrix has rows, times a matrix
-abbrev pub times_matrix_of : OptionVectorSize → Scalar → VectorSize → VectorSize → Scalar → Option TypeInner
-times_matrix_of Ov.None s c r t = when (is_float s.kind && equal_scalars s t) (Ti.Matrix c r s)
-times_matrix_of (Ov.Some n) s c r t = when (is_float s.kind && (equal_scalars s t && equal_sizes n r)) (Ti.Vector c s)
+abbrev pub times_matrix_of : CodeOption VectorSize → Scalar → VectorSize → VectorSize → Scalar → Option TypeInner
+times_matrix_of None s c r t = when (is_float s.kind && equal_scalars s t) (Ti.Matrix c r s)
+times_matrix_of (Some n) s c r t = when (is_float s.kind && (equal_scalars s t && equal_sizes n r)) (Ti.Vector c s)
 
 -- a matrix of c columns and r rows times one of d columns and q rows: c and q agree
 abbrev pub matrices_times_of : VectorSize → VectorSize → Scalar → VectorSize → VectorSize → Scalar → Option TypeInner
@@ -152,7 +150,8 @@ matrices_sum_of c r s d q t =
 -- BY THE OPERATOR
 
 -- of two scalars or vectors
-abbrev pub plain_result : BinaryOperator → OptionVectorSize → Scalar → OptionVectorSize → Scalar → Option TypeInner
+abbrev pub plain_result : BinaryOperator → CodeOption VectorSize → Scalar → CodeOption VectorSize → Scalar
+    → Option TypeInner
 plain_result Bo.Add = arithmetic_of
 plain_result Bo.Subtract = arithmetic_of
 plain_result Bo.Multiply = arithmetic_of

@@ -2,9 +2,8 @@
 -- left type, the right type, the type of the result (document 02, request 3). The lines are read at every accepted
 -- width: where WGSL's lines name i32, u32, f32 and f16, a numeric scalar here is Sint, Uint or Float of any width;
 -- bool is Bool of width 1; abstract kinds are in no line. What the rule goes by stands in Wgsl.antt.
-use Rattle.std.specs.Prelude.{◌≡◌}
+use Rattle.std.specs.Prelude.{◌≡◌, Option}
 use Rattle.ir.specs.declared.VectorSize.{VectorSize}
-use Rattle.ir.specs.declared.OptionVectorSize.{OptionVectorSize}
 use Rattle.ir.specs.declared.ScalarKind.{ScalarKind}
 use Rattle.ir.specs.declared.ScalarKind.TheVariants as Sk
 use Rattle.ir.specs.declared.Scalar.{Scalar}
@@ -18,7 +17,7 @@ use Rattle.ir.specs.TypeMethods.{value_base}
 -- WHAT THE LINES SPEAK OF
 
 -- S, or vecN<S>: a scalar type, or a vector of that scalar
-abbrev pub plain : OptionVectorSize → Scalar → TypeInner
+abbrev pub plain : Option VectorSize → Scalar → TypeInner
 plain n s = value_base n s
 
 -- an integer scalar type
@@ -45,25 +44,25 @@ pub data Wgsl : BinaryOperator → TypeInner → TypeInner → TypeInner → Typ
   -- e1 && e2 : bool, short-circuiting
   logical-and : Wgsl Bo.LogicalAnd (Ti.Scalar BOOL) (Ti.Scalar BOOL) (Ti.Scalar BOOL)
   -- e1 | e2 : T, of T is bool or vecN<bool>
-  or-bools : (n : OptionVectorSize) → Wgsl Bo.InclusiveOr (plain n BOOL) (plain n BOOL) (plain n BOOL)
+  or-bools : (n : Option VectorSize) → Wgsl Bo.InclusiveOr (plain n BOOL) (plain n BOOL) (plain n BOOL)
   -- e1 & e2 : T
-  and-bools : (n : OptionVectorSize) → Wgsl Bo.And (plain n BOOL) (plain n BOOL) (plain n BOOL)
+  and-bools : (n : Option VectorSize) → Wgsl Bo.And (plain n BOOL) (plain n BOOL) (plain n BOOL)
   -- "ARITHMETIC EXPRESSIONS"
 
   -- binary arithmetic expressions: T is S or vecN<S>, S is numeric; componentwise of vectors
   -- e1 + e2 : T, addition
-  add : (n : OptionVectorSize) (s : Scalar) → Numeric s.kind → Wgsl Bo.Add (plain n s) (plain n s) (plain n s)
+  add : (n : Option VectorSize) (s : Scalar) → Numeric s.kind → Wgsl Bo.Add (plain n s) (plain n s) (plain n s)
   -- e1 - e2 : T, subtraction
-  subtract : (n : OptionVectorSize) (s : Scalar) → Numeric s.kind
+  subtract : (n : Option VectorSize) (s : Scalar) → Numeric s.kind
       → Wgsl Bo.Subtract (plain n s) (plain n s) (plain n s)
   -- e1 * e2 : T, multiplication
-  multiply : (n : OptionVectorSize) (s : Scalar) → Numeric s.kind
+  multiply : (n : Option VectorSize) (s : Scalar) → Numeric s.kind
       → Wgsl Bo.Multiply (plain n s) (plain n s) (plain n s)
   -- e1 / e2 : T, division
-  divide : (n : OptionVectorSize) (s : Scalar) → Numeric s.kind
+  divide : (n : Option VectorSize) (s : Scalar) → Numeric s.kind
       → Wgsl Bo.Divide (plain n s) (plain n s) (plain n s)
   -- e1 % e2 : T, remainder
-  modulo : (n : OptionVectorSize) (s : Scalar) → Numeric s.kind
+  modulo : (n : Option VectorSize) (s : Scalar) → Numeric s.kind
       → Wgsl Bo.Modulo (plain n s) (plain n s) (plain n s)
   -- binary arithmetic expressions with mixed scalar and vector operands: es : S, ev : vecN<S>, S is numeric
   -- ev + es : vecN<S>
@@ -121,36 +120,36 @@ pub data Wgsl : BinaryOperator → TypeInner → TypeInner → TypeInner → Typ
   -- "COMPARISON EXPRESSIONS": T is S or vecN<S>, the result bool or vecN<bool>
 
   -- e1 == e2, of S is numeric or bool
-  equal : (n : OptionVectorSize) (s : Scalar) → Equatable s → Wgsl Bo.Equal (plain n s) (plain n s) (plain n BOOL)
+  equal : (n : Option VectorSize) (s : Scalar) → Equatable s → Wgsl Bo.Equal (plain n s) (plain n s) (plain n BOOL)
   -- e1 != e2
-  not_equal : (n : OptionVectorSize) (s : Scalar) → Equatable s
+  not_equal : (n : Option VectorSize) (s : Scalar) → Equatable s
       → Wgsl Bo.NotEqual (plain n s) (plain n s) (plain n BOOL)
   -- e1 < e2, of S is numeric
-  less : (n : OptionVectorSize) (s : Scalar) → Numeric s.kind → Wgsl Bo.Less (plain n s) (plain n s) (plain n BOOL)
+  less : (n : Option VectorSize) (s : Scalar) → Numeric s.kind → Wgsl Bo.Less (plain n s) (plain n s) (plain n BOOL)
   -- e1 <= e2
-  less_equal : (n : OptionVectorSize) (s : Scalar) → Numeric s.kind
+  less_equal : (n : Option VectorSize) (s : Scalar) → Numeric s.kind
       → Wgsl Bo.LessEqual (plain n s) (plain n s) (plain n BOOL)
   -- e1 > e2
-  greater : (n : OptionVectorSize) (s : Scalar) → Numeric s.kind
+  greater : (n : Option VectorSize) (s : Scalar) → Numeric s.kind
       → Wgsl Bo.Greater (plain n s) (plain n s) (plain n BOOL)
   -- e1 >= e2
-  greater-equal : (n : OptionVectorSize) (s : Scalar) → Numeric s.kind
+  greater-equal : (n : Option VectorSize) (s : Scalar) → Numeric s.kind
       → Wgsl Bo.GreaterEqual (plain n s) (plain n s) (plain n BOOL)
   -- "BIT EXPRESSIONS"
 
   -- binary bitwise operations: T is S or vecN<S>, S is an integer type
   -- e1 | e2 : T
-  or-bits : (n : OptionVectorSize) (s : Scalar) → Integer s.kind
+  or-bits : (n : Option VectorSize) (s : Scalar) → Integer s.kind
       → Wgsl Bo.InclusiveOr (plain n s) (plain n s) (plain n s)
   -- e1 & e2 : T
-  and-bits : (n : OptionVectorSize) (s : Scalar) → Integer s.kind → Wgsl Bo.And (plain n s) (plain n s) (plain n s)
+  and-bits : (n : Option VectorSize) (s : Scalar) → Integer s.kind → Wgsl Bo.And (plain n s) (plain n s) (plain n s)
   -- e1 ^ e2 : T
-  xor-bits : (n : OptionVectorSize) (s : Scalar) → Integer s.kind
+  xor-bits : (n : Option VectorSize) (s : Scalar) → Integer s.kind
       → Wgsl Bo.ExclusiveOr (plain n s) (plain n s) (plain n s)
   -- bit shift expressions: e1 : T is S or vecN<S>, S is an integer type; e2 is u32 or vecN<u32>, of as many
   -- components e1 << e2 : T
-  shift-left : (n : OptionVectorSize) (s : Scalar) → Integer s.kind
+  shift-left : (n : Option VectorSize) (s : Scalar) → Integer s.kind
       → Wgsl Bo.ShiftLeft (plain n s) (plain n U32) (plain n s)
   -- e1 >> e2 : T
-  shift-right : (n : OptionVectorSize) (s : Scalar) → Integer s.kind
+  shift-right : (n : Option VectorSize) (s : Scalar) → Integer s.kind
       → Wgsl Bo.ShiftRight (plain n s) (plain n U32) (plain n s)

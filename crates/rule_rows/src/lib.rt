@@ -3,7 +3,7 @@
 
 #![tactic(auto)]
 
-use ir::{OptionVectorSize, Scalar, VectorSize};
+use ir::{Scalar, VectorSize};
 
 // The pass whose rules type a file's rows. They differ in Binary rows alone: in the first the source types them, in the
 // second WGSL's tables.
@@ -18,7 +18,7 @@ pub enum Pass {
 #[derive(Clone, Copy)]
 pub enum Shape {
     Plain {
-        size: OptionVectorSize,
+        size: Option<VectorSize>,
         scalar: Scalar,
     },
     Matrix {

@@ -1,3 +1,4 @@
+pub mod TypeSize
 pub mod Wgsl
 pub mod WgslTable
 pub mod Sizes

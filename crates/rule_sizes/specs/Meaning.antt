@@ -1,6 +1,7 @@
 -- What sizes and their faults mean (document 02, request 5), apart from how they are worked out: what a type rests
 -- on, which alignment and size it has, and which number is its own. Over the types of a file.
-use Rattle.std.specs.Prelude.{ℕ, suc, ◌+◌, ◌*◌, ◌≤◌, ◌<◌, ◌≡◌, true, List}
+use Rattle.ir.specs.declared.TypeInner.{TypeInner}
+use Rattle.std.specs.Prelude.{ℕ, suc, ◌+◌, ◌*◌, ◌≤◌, ◌<◌, ◌≡◌, true, List, Option, Some}
 use Rattle.ir.specs.declared.TypeNumber.{TypeNumber}
 use Rattle.ir.specs.declared.MemberNumber.{MemberNumber}
 use Rattle.ir.specs.declared.StructMember.{StructMember}
@@ -8,8 +9,6 @@ use Rattle.ir.specs.declared.VectorSize.{VectorSize}
 use Rattle.ir.specs.declared.Scalar.{Scalar}
 use Rattle.ir.specs.declared.ArraySize.TheVariants as As
 use Rattle.ir.specs.declared.TypeInner.TheVariants as Ti
-use Rattle.ir.specs.declared.TypeForm.{TypeForm}
-use Rattle.ir.specs.declared.TypeForm.TheVariants as Tf
 use Rattle.ir.specs.Scalars.{I32, U32, F16, F32}
 use Rattle.archive.specs.Starts.{starts_of}
 use Rattle.archive.specs.Access.{type_at, member_in}
@@ -36,13 +35,13 @@ pub data Number : Scalar → Alignment → Type 0 where
   float : (k : Scalar) (a : Alignment) → Float k a → Number k a
 
 -- the forms of the list: a constant array whatever its elements, and a struct with members whatever they are
-pub data Listed : TypeForm → Type 0 where
-  scalar : (k : Scalar) (a : Alignment) → Number k a → Listed (Tf.Known (Ti.Scalar k))
-  vector : (z : VectorSize) (k : Scalar) (a : Alignment) → Number k a → Listed (Tf.Known (Ti.Vector z k))
-  matrix : (c r : VectorSize) (k : Scalar) (a : Alignment) → Float k a → Listed (Tf.Known (Ti.Matrix c r k))
-  atomic : (k : Scalar) (a : Alignment) → Integer k a → Listed (Tf.Known (Ti.Atomic k))
-  array : (b : TypeNumber) (count stride : ℕ) → Listed (Tf.Known (Ti.Array b (As.Constant count) stride))
-  struct : (first : MemberNumber) (count span : ℕ) → 0 < count → Listed (Tf.Known (Ti.Struct first count span))
+pub data Listed : Option TypeInner → Type 0 where
+  scalar : (k : Scalar) (a : Alignment) → Number k a → Listed (Some (Ti.Scalar k))
+  vector : (z : VectorSize) (k : Scalar) (a : Alignment) → Number k a → Listed (Some (Ti.Vector z k))
+  matrix : (c r : VectorSize) (k : Scalar) (a : Alignment) → Float k a → Listed (Some (Ti.Matrix c r k))
+  atomic : (k : Scalar) (a : Alignment) → Integer k a → Listed (Some (Ti.Atomic k))
+  array : (b : TypeNumber) (count stride : ℕ) → Listed (Some (Ti.Array b (As.Constant count) stride))
+  struct : (first : MemberNumber) (count span : ℕ) → 0 < count → Listed (Some (Ti.Struct first count span))
 
 -- WHAT STANDS WHERE
 
@@ -75,22 +74,22 @@ pub record Placed (fr : List ℕ) (first : MemberNumber) (count : ℕ) (aligns :
 
 -- A TYPE HAS this alignment and this size: a constructor for each form of the list
 pub data Has (fr : List ℕ) : TypeNumber → Alignment → ℕ → Type 0 where
-  scalar : (n : TypeNumber) (k : Scalar) (a : Alignment) → type_at fr n ≡ Tf.Known (Ti.Scalar k) → Number k a
+  scalar : (n : TypeNumber) (k : Scalar) (a : Alignment) → type_at fr n ≡ Some (Ti.Scalar k) → Number k a
       → Has fr n a (bytes a)
-  vector : (n : TypeNumber) (z : VectorSize) (k : Scalar) (a : Alignment) → type_at fr n ≡ Tf.Known (Ti.Vector z k)
+  vector : (n : TypeNumber) (z : VectorSize) (k : Scalar) (a : Alignment) → type_at fr n ≡ Some (Ti.Vector z k)
       → Number k a
       → Has fr n (vector_align z a) (vector_bytes z a)
-  matrix : (n : TypeNumber) (c r : VectorSize) (k : Scalar) (a : Alignment) → type_at fr n ≡ Tf.Known (Ti.Matrix c r k)
+  matrix : (n : TypeNumber) (c r : VectorSize) (k : Scalar) (a : Alignment) → type_at fr n ≡ Some (Ti.Matrix c r k)
       → Float k a
       → Has fr n (vector_align r a) (matrix_bytes c r a)
-  atomic : (n : TypeNumber) (k : Scalar) (a : Alignment) → type_at fr n ≡ Tf.Known (Ti.Atomic k) → Integer k a
+  atomic : (n : TypeNumber) (k : Scalar) (a : Alignment) → type_at fr n ≡ Some (Ti.Atomic k) → Integer k a
       → Has fr n a (bytes a)
   array : (n b : TypeNumber) (count stride : ℕ) (a : Alignment) (z : ℕ)
-      → type_at fr n ≡ Tf.Known (Ti.Array b (As.Constant count) stride)
+      → type_at fr n ≡ Some (Ti.Array b (As.Constant count) stride)
       → Has fr b a z → Strided a z stride → count * stride < 4294967296 → Has fr n a (count * stride)
   struct : (n : TypeNumber) (first : MemberNumber) (count span : ℕ) (aligns : ℕ → Alignment) (sizes : ℕ → ℕ)
       (a : Alignment)
-      → type_at fr n ≡ Tf.Known (Ti.Struct first count span)
+      → type_at fr n ≡ Some (Ti.Struct first count span)
       → ((i : ℕ) → i < count → Has fr (struct_member fr first i).ty (aligns i) (sizes i)) → Greatest aligns count a
       → Placed fr first count aligns sizes a span → Has fr n a span
 
@@ -98,10 +97,10 @@ pub data Has (fr : List ℕ) : TypeNumber → Alignment → ℕ → Type 0 where
 -- outside the list rests on itself alone
 pub data RestsOn (fr : List ℕ) : TypeNumber → TypeNumber → Type 0 where
   itself : (n : TypeNumber) → RestsOn fr n n
-  element : (n b m : TypeNumber) (count stride : ℕ) → type_at fr n ≡ Tf.Known (Ti.Array b (As.Constant count) stride)
+  element : (n b m : TypeNumber) (count stride : ℕ) → type_at fr n ≡ Some (Ti.Array b (As.Constant count) stride)
       → RestsOn fr b m → RestsOn fr n m
   part : (n m : TypeNumber) (first : MemberNumber) (count span i : ℕ)
-      → type_at fr n ≡ Tf.Known (Ti.Struct first count span) → i < count
+      → type_at fr n ≡ Some (Ti.Struct first count span) → i < count
       → RestsOn fr (struct_member fr first i).ty m → RestsOn fr n m
 
 -- THE THREE CAUSES of a number, each by itself
@@ -113,18 +112,18 @@ Outside fr n = Listed (type_at fr n) → ⊥
 -- 43: the type's parts have sizes, and a stride, an offset or the span breaks the rules
 pub data Breaks (fr : List ℕ) : TypeNumber → Type 0 where
   stride : (n b : TypeNumber) (count stride : ℕ) (a : Alignment) (z : ℕ)
-      → type_at fr n ≡ Tf.Known (Ti.Array b (As.Constant count) stride)
+      → type_at fr n ≡ Some (Ti.Array b (As.Constant count) stride)
       → Has fr b a z → (Strided a z stride → ⊥) → Breaks fr n
   members : (n : TypeNumber) (first : MemberNumber) (count span : ℕ) (aligns : ℕ → Alignment) (sizes : ℕ → ℕ)
       (a : Alignment)
-      → type_at fr n ≡ Tf.Known (Ti.Struct first count span)
+      → type_at fr n ≡ Some (Ti.Struct first count span)
       → ((i : ℕ) → i < count → Has fr (struct_member fr first i).ty (aligns i) (sizes i)) → Greatest aligns count a
       → (Placed fr first count aligns sizes a span → ⊥) → Breaks fr n
 
 -- 44: the array's element has a size, and count times stride is 2 to the 32 or more
 pub data Exceeds (fr : List ℕ) : TypeNumber → Type 0 where
   array : (n b : TypeNumber) (count stride : ℕ) (a : Alignment) (z : ℕ)
-      → type_at fr n ≡ Tf.Known (Ti.Array b (As.Constant count) stride)
+      → type_at fr n ≡ Some (Ti.Array b (As.Constant count) stride)
       → Has fr b a z → 4294967296 ≤ count * stride → Exceeds fr n
 
 -- the cause of each number

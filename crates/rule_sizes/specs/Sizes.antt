@@ -1,7 +1,10 @@
 -- Alignment and size of each type, from those of the types that it names (document 02, request 5); or number 42, 43
 -- or 44 and the lowest faulty type that it rests on. What these mean stands apart, in Meaning.antt; crate law_sizes
 -- has the laws that join the two.
+use Rattle.answers.specs.declared.QueryError.TheVariants as Qe
 use Rattle.std.specs.Prelude.{ℕ, zero, suc, ◌+◌, ◌*◌, ◌/◌, ◌%◌, Bool, true, cond, ◌&&◌, List, [], ◌++◌, eqb, ltb, leb}
+use Rattle.std.specs.Prelude.{Ok, Err}
+use Rattle.std.specs.Prelude.{Option, Some, None}
 use Rattle.std.specs.Prelude.{length, drop, get_or}
 use Rattle.ir.specs.declared.TypeNumber.{TypeNumber}
 use Rattle.ir.specs.declared.MemberNumber.{MemberNumber}
@@ -10,10 +13,8 @@ use Rattle.ir.specs.declared.ArraySize.{ArraySize}
 use Rattle.ir.specs.declared.ArraySize.TheVariants as As
 use Rattle.ir.specs.declared.TypeInner.{TypeInner}
 use Rattle.ir.specs.declared.TypeInner.TheVariants as Ti
-use Rattle.ir.specs.declared.TypeForm.{TypeForm}
-use Rattle.ir.specs.declared.TypeForm.TheVariants as Tf
 use Rattle.answers.specs.Limit.{max_frames}
-use Rattle.answers.specs.Numbers.{SaidOne, asked, instead, at, not_there, outcome_values}
+use Rattle.answers.specs.Numbers.{SaidOne, asked, instead, at, not_there, error_values}
 use Rattle.frames.specs.declared.Frame.{Frame}
 use Rattle.frames.specs.Bytes.{half, word, bytes_of}
 use Rattle.frames.specs.Out.{refused_frame, sized_frame}
@@ -24,30 +25,27 @@ use Rattle.archive.specs.Access.{type_in, member_in}
 use Rattle.rule.specs.InOrder.{in_order}
 use Rattle.rule_sizes.specs.declared.Alignment.{Alignment}
 use Rattle.rule_sizes.specs.declared.Alignment.TheVariants.{Two}
-use Rattle.rule_sizes.specs.declared.OptionAlignment.{OptionAlignment}
-use Rattle.rule_sizes.specs.declared.OptionAlignment.TheVariants as Oa
 use Rattle.rule_sizes.specs.declared.SizeFault.{SizeFault}
 use Rattle.rule_sizes.specs.declared.SizeFault.TheVariants.{Unmeasured, Misplaced, Huge}
 use Rattle.rule_sizes.specs.declared.Measure.{Measure}
 use Rattle.rule_sizes.specs.declared.Measure.TheVariants.{Fills, Faulty}
-use Rattle.rule_sizes.specs.declared.TypeSize.{TypeSize}
-use Rattle.rule_sizes.specs.declared.TypeSize.TheVariants as Ts
+use Rattle.rule_sizes.specs.TypeSize.{TypeSize}
 use Rattle.rule_sizes.specs.Wgsl.{bytes, is_multiple, greater, integer_align, float_align, number_align, vector_align}
 use Rattle.rule_sizes.specs.Wgsl.{vector_bytes, matrix_bytes, alignment_of}
 
 -- A TYPE THAT NAMES NONE, by the alignment of its scalar; number 42 where that is not in the list
 
-abbrev pub scalar_measure : TypeNumber → OptionAlignment → Measure
-scalar_measure n (Oa.Some a) = Fills a (bytes a)
-scalar_measure n Oa.None = Faulty Unmeasured n
+abbrev pub scalar_measure : TypeNumber → Option Alignment → Measure
+scalar_measure n (Some a) = Fills a (bytes a)
+scalar_measure n None = Faulty Unmeasured n
 
-abbrev pub vector_measure : TypeNumber → VectorSize → OptionAlignment → Measure
-vector_measure n z (Oa.Some a) = Fills (vector_align z a) (vector_bytes z a)
-vector_measure n z Oa.None = Faulty Unmeasured n
+abbrev pub vector_measure : TypeNumber → VectorSize → Option Alignment → Measure
+vector_measure n z (Some a) = Fills (vector_align z a) (vector_bytes z a)
+vector_measure n z None = Faulty Unmeasured n
 
-abbrev pub matrix_measure : TypeNumber → VectorSize → VectorSize → OptionAlignment → Measure
-matrix_measure n c r (Oa.Some a) = Fills (vector_align r a) (matrix_bytes c r a)
-matrix_measure n c r Oa.None = Faulty Unmeasured n
+abbrev pub matrix_measure : TypeNumber → VectorSize → VectorSize → Option Alignment → Measure
+matrix_measure n c r (Some a) = Fills (vector_align r a) (matrix_bytes c r a)
+matrix_measure n c r None = Faulty Unmeasured n
 
 abbrev pub leaf_of : TypeNumber → TypeInner → Measure
 leaf_of n (Ti.Scalar k) = scalar_measure n (number_align k)
@@ -132,9 +130,9 @@ of_inner fr s past n (Ti.RayQuery q) = leaf_of n (Ti.RayQuery q)
 of_inner fr s past n (Ti.BindingArray b z) = leaf_of n (Ti.BindingArray b z)
 
 -- an unknown kind is outside the list
-abbrev pub of_form : List ℕ → Starts → (TypeNumber → Measure) → TypeNumber → TypeForm → Measure
-of_form fr s past n (Tf.Known t) = of_inner fr s past n t
-of_form fr s past n Tf.Unknown = Faulty Unmeasured n
+abbrev pub of_form : List ℕ → Starts → (TypeNumber → Measure) → TypeNumber → Option TypeInner → Measure
+of_form fr s past n (Some t) = of_inner fr s past n t
+of_form fr s past n None = Faulty Unmeasured n
 
 -- TYPES IN ORDER, each over those before it
 
@@ -155,7 +153,7 @@ measure_in fr s n = of_form fr s (look (measures fr s n.0)) n (type_in fr s n)
 
 -- what is said of type n: number 6 where there is no such type
 unfoldable pub type_size_in : List ℕ → Starts → TypeNumber → TypeSize
-type_size_in fr s n = cond (is_type s n) (Ts.Measured (measure_in fr s n)) Ts.Index
+type_size_in fr s n = cond (is_type s n) (Ok (measure_in fr s n)) (Err Qe.Index)
 
 -- THE NUMBERS handed back: alignment and size in bytes, or a number with the type as its place; number 6 with place 0
 
@@ -178,9 +176,9 @@ measure_said (Fills a z) = asked (record { align = bytes a; size = z })
 measure_said (Faulty k p) = instead (at (fault_number k) p.0)
 
 abbrev pub size_said : TypeSize → SaidOne Size
-size_said (Ts.Measured m) = measure_said m
-size_said Ts.Index = instead not_there
-size_said (Ts.NotAccepted o) = instead (outcome_values o)
+size_said (Ok m) = measure_said m
+size_said (Err Qe.Index) = instead not_there
+size_said (Err (Qe.NotAccepted e)) = instead (error_values e)
 
 -- AS A FRAME: alignment and size are family 12; a number is family 10, as every other
 

@@ -1,6 +1,6 @@
 -- Alignment and size of scalars, vectors, matrices and atomics (WGSL, "Memory Layout", "Alignment and Size"), for
 -- what document 02's request 5 lists. `in-the-table` (proofs/Table.antt): these rules give WGSL's printed table.
-use Rattle.std.specs.Prelude.{ℕ, ◌+◌, ◌*◌, ◌/◌, ◌%◌, Bool, cond, ◌||◌, eqb, ltb}
+use Rattle.std.specs.Prelude.{ℕ, ◌+◌, ◌*◌, ◌/◌, ◌%◌, Bool, cond, ◌||◌, eqb, ltb, Option, Some, None}
 use Rattle.ir.specs.declared.Scalar.{Scalar}
 use Rattle.ir.specs.declared.VectorSize.{VectorSize}
 use Rattle.ir.specs.declared.VectorSize.TheVariants as Vs
@@ -8,8 +8,6 @@ use Rattle.ir.specs.Numbers.{vector_size_number}
 use Rattle.ir.specs.Scalars.{I32, U32, F16, F32, equal_scalars}
 use Rattle.rule_sizes.specs.declared.Alignment.{Alignment}
 use Rattle.rule_sizes.specs.declared.Alignment.TheVariants.{Two, Four, Eight, Sixteen}
-use Rattle.rule_sizes.specs.declared.OptionAlignment.{OptionAlignment}
-use Rattle.rule_sizes.specs.declared.OptionAlignment.TheVariants as Oa
 
 -- ALIGNMENTS are 2, 4, 8 and 16 bytes
 abbrev pub bytes : Alignment → ℕ
@@ -41,17 +39,17 @@ greater a b = cond (ltb (bytes a) (bytes b)) b a
 
 -- SCALARS of the list: i32, u32 and f32 have 4 bytes, f16 has 2; each is aligned to its own size
 
-abbrev pub integer_align : Scalar → OptionAlignment
-integer_align k = cond (equal_scalars k I32 || equal_scalars k U32) (Oa.Some Four) Oa.None
+abbrev pub integer_align : Scalar → Option Alignment
+integer_align k = cond (equal_scalars k I32 || equal_scalars k U32) (Some Four) None
 
-abbrev pub float_align : Scalar → OptionAlignment
-float_align k = cond (equal_scalars k F32) (Oa.Some Four) (cond (equal_scalars k F16) (Oa.Some Two) Oa.None)
+abbrev pub float_align : Scalar → Option Alignment
+float_align k = cond (equal_scalars k F32) (Some Four) (cond (equal_scalars k F16) (Some Two) None)
 
-abbrev pub or_float : OptionAlignment → Scalar → OptionAlignment
-or_float (Oa.Some a) k = Oa.Some a
-or_float Oa.None k = float_align k
+abbrev pub or_float : Option Alignment → Scalar → Option Alignment
+or_float (Some a) k = Some a
+or_float None k = float_align k
 
-abbrev pub number_align : Scalar → OptionAlignment
+abbrev pub number_align : Scalar → Option Alignment
 number_align k = or_float (integer_align k) k
 
 -- VECTORS of scalars that are aligned to a: as many scalars long as they have components; three components are

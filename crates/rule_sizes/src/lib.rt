@@ -2,7 +2,7 @@
 // layout section. Crates size_steps, size_pending, size_needs and type_sizes have the code.
 #![tactic(auto)]
 
-use answers::Outcome;
+use answers::QueryError;
 use ir::TypeNumber;
 
 // What a type is aligned to, in bytes.
@@ -12,13 +12,6 @@ pub enum Alignment {
     Four,
     Eight,
     Sixteen,
-}
-
-// The alignment of a scalar, or that it is not in the list.
-#[derive(Clone, Copy)]
-pub enum OptionAlignment {
-    None,
-    Some(Alignment),
 }
 
 // Numbers 42, 43 and 44.
@@ -36,10 +29,5 @@ pub enum Measure {
     Faulty { fault: SizeFault, place: TypeNumber },
 }
 
-// What is said of a type's size: its measure; number 6; or the file's own number.
-#[derive(Clone, Copy)]
-pub enum TypeSize {
-    Measured(Measure),
-    Index,
-    NotAccepted(Outcome),
-}
+// What is said of a type's size: its measure, or why there is none.
+pub type TypeSize = Result<Measure, QueryError>;

@@ -1,4 +1,5 @@
 -- Two types are equal exactly when their frames are, byte by byte: a type is read back from its frame.
+use Rattle.std.specs.Prelude.{Some}
 use Prim.Native.Nat.{ℕ}
 use native.Mathlib.Omega.{arith}
 use mathlib.Core.Path.{◌≡◌, refl, sym, ap, ◌∙◌}
@@ -9,8 +10,6 @@ use lib.Dec.{eqb}
 use lib.ListN.{get_or}
 use borrow.Author.Tests.{eqb-true, eq-eqb}
 use Rattle.ir.specs.declared.TypeInner.{TypeInner}
-use Rattle.ir.specs.declared.TypeForm.{TypeForm}
-use Rattle.ir.specs.declared.TypeForm.TheVariants as Tf
 use Rattle.scan.proofs.Laws.{and_first, and_second}
 use Rattle.frames.specs.declared.Frame.{Frame}
 use Rattle.frames.specs.Bytes.{bytes_of, framed}
@@ -33,7 +32,7 @@ same_alike (x ∷ xs) (y ∷ ys) e =
     let t : xs ≡ ys = same_alike xs ys (and_second (eqb x y) _ e) in
     cc
 
-both_true : (a b : Bool) → (a ≡ true → b ≡ true) → (b ≡ true → a ≡ true) → a ≡ b
+pub both_true : (a b : Bool) → (a ≡ true → b ≡ true) → (b ≡ true → a ≡ true) → a ≡ b
 both_true true b f g = sym (f refl)
 both_true false true f g = g refl
 both_true false false f g = refl
@@ -52,7 +51,7 @@ frame_same f g e = ap (λ (l : List ℕ). framed (λ i. get_or l i 0)) (same_ali
 pub equal-types : (s t : TypeInner) → (equal_types s t ≡ true) ↔ (s ≡ t)
 unfolding equal_types
 equal-types s t = (
-  λ e. (let h : Tf.Known s ≡ Tf.Known t = sym (type-back s 9)
+  λ e. (let h : Some s ≡ Some t = sym (type-back s 9)
       ∙ ap type_of (frame_same (type_frame 9 s) (type_frame 9 t) e)
       ∙ type-back t 9 in cc),
   λ e. ap (λ (u : TypeInner). alike_bytes (bytes_of (type_frame 9 s)) (bytes_of (type_frame 9 u))) (sym e)

@@ -2,13 +2,13 @@
 -- Each equals itself and either order agrees (Laws.antt); and of two that are the same each compares with any third
 -- alike, so it carries through a third. For an answer is told by its frame, and two that are the same without being
 -- identical have one canonical form, and neither is a struct's number.
+use Rattle.std.specs.Prelude.{Some}
 use Prim.Native.Nat.{ℕ}
 use native.Mathlib.Omega.{arith}
 use mathlib.Core.Path.{◌≡◌, refl, sym, ap, ◌∙◌}
 use mathlib.Core.Bool.{Bool, true, false, ◌||◌}
 use mathlib.Core.List.{List}
 use mathlib.Core.Logic.{◌⊎◌, inl, inr}
-use Rattle.ir.specs.declared.TypeForm.TheVariants as Tf
 use Rattle.frames.specs.declared.Frame.{Frame}
 use Rattle.frames.specs.Bytes.{byte, half}
 use Rattle.frames.specs.Forms.{type_of}
@@ -41,7 +41,7 @@ module _ (fr : List ℕ) (s : Starts) where
   by-frame (value t) (number n) p q e =
       absurd (let z : ◌≡◌ {A = ℕ} 9 8 = ap (λ (f : Frame). byte f 0) e in omega arith)
   by-frame (value t) (value u) p q e =
-      let h : Tf.Known t ≡ Tf.Known u = sym (type-back t 9) ∙ ap type_of e ∙ type-back u 9 in cc
+      let h : Some t ≡ Some u = sym (type-back t 9) ∙ ap type_of e ∙ type-back u 9 in cc
   by-frame (malformed f) b p q e = never (cc)
   by-frame (number n) (malformed f) p q e = never (cc)
   by-frame (value t) (malformed f) p q e = never (cc)

@@ -1,5 +1,6 @@
 -- What the code of a comparison goes by: a frame that is no type is a 5, the right answer is tested before any look,
 -- and yes, no and newer are the likeness of the two.
+use Rattle.std.specs.Prelude.{Some, None}
 use Prim.Native.Nat.{ℕ}
 use mathlib.Core.Path.{◌≡◌, refl, sym, ap, ◌∙◌}
 use mathlib.Core.Bool.{Bool, true, false}
@@ -7,7 +8,6 @@ use mathlib.Core.List.{List, []}
 use mathlib.Core.Option.{Option, none, some}
 use Rattle.ir.specs.declared.TypeResolution.{TypeResolution}
 use Rattle.ir.specs.declared.TypeResolution.TheVariants as Tr
-use Rattle.ir.specs.declared.OptionTypeResolution.TheVariants as Ot
 use Rattle.frames.specs.Bytes.{bytes_of}
 use Rattle.frames.specs.Out.{resolution_frame}
 use Rattle.archive.specs.declared.Starts.{Starts}
@@ -33,12 +33,12 @@ identical-written (Tr.Handle m) (Tr.Value u) = refl
 identical-written (Tr.Value t) (Tr.Handle n) = refl
 identical-written (Tr.Value t) (Tr.Value u) = refl
 
-pub resolved-as : (x : TypeAnswer) (t : TypeResolution) → resolution x ≡ Ot.Some t → x ≡ resolved t
+pub resolved-as : (x : TypeAnswer) (t : TypeResolution) → resolution x ≡ Some t → x ≡ resolved t
 resolved-as (number n) t e = let h : Tr.Handle n ≡ t = cc in ap resolved h
 resolved-as (value u) t e = let h : Tr.Value u ≡ t = cc in ap resolved h
 resolved-as (malformed f) t e = never (cc)
 
-pub malformed-five : (s : Starts) (x : TypeAnswer) → resolution x ≡ Ot.None → fault_of s x ≡ Fa.Field
+pub malformed-five : (s : Starts) (x : TypeAnswer) → resolution x ≡ None → fault_of s x ≡ Fa.Field
 malformed-five s (number n) e = never (cc)
 malformed-five s (value t) e = never (cc)
 malformed-five s (malformed f) e = refl

@@ -1,6 +1,7 @@
 -- What a comparison gives, by the canonical forms of both; and what follows for two answers that get neither 5 nor 6:
 -- each equals itself, either order gives the same, a pointer to a scalar or vector equals its value pointer, and a
 -- struct's number equals itself alone. For any frames and any places where their families begin; a file's are a case.
+use Rattle.std.specs.Prelude.{Option as CodeOption, Some, None}
 use Prim.Native.Nat.{ℕ}
 use mathlib.Core.Path.{◌≡◌, refl, sym, ap, ◌∙◌}
 use mathlib.Core.Bool.{Bool, true, false, cond, ◌||◌}
@@ -11,10 +12,6 @@ use Rattle.ir.specs.declared.TypeNumber.{TypeNumber}
 use Rattle.ir.specs.declared.AddressSpace.{AddressSpace}
 use Rattle.ir.specs.declared.Scalar.{Scalar}
 use Rattle.ir.specs.declared.VectorSize.{VectorSize}
-use Rattle.ir.specs.declared.OptionVectorSize.{OptionVectorSize}
-use Rattle.ir.specs.declared.OptionVectorSize.TheVariants as Ov
-use Rattle.ir.specs.declared.TypeForm.{TypeForm}
-use Rattle.ir.specs.declared.TypeForm.TheVariants as Tf
 use Rattle.ir.specs.declared.TypeInner.{TypeInner}
 use Rattle.ir.specs.declared.TypeInner.TheVariants as Ti
 use Rattle.frames.specs.declared.Frame.{Frame}
@@ -38,9 +35,9 @@ use Rattle.rule_types.proofs.Equality.{equal-types, equal-sym, identical-frames,
 use Rattle.rule_types.proofs.Seen.{never}
 
 -- with a form, or where it is unknown
-abbrev pub on_form : {X : Type 0} → TypeForm → (TypeInner → X) → X → X
-on_form (Tf.Known t) f rest = f t
-on_form Tf.Unknown f rest = rest
+abbrev pub on_form : {X : Type 0} → CodeOption TypeInner → (TypeInner → X) → X → X
+on_form (Some t) f rest = f t
+on_form None f rest = rest
 
 -- with yes or no, or newer
 abbrev pub on_bool : {X : Type 0} → Option Bool → (Bool → X) → X → X
@@ -58,12 +55,13 @@ module _ (fr : List ℕ) (s : Starts) where
     own k t none = refl
     own k t (some u) = refl
 
-    through-base : (k : TypeInner → Rule A) (t : TypeInner) (q : AddressSpace) (b : TypeNumber) (c : TypeForm)
+    through-base : (k : TypeInner → Rule A) (t : TypeInner) (q : AddressSpace) (b : TypeNumber)
+        (c : CodeOption TypeInner)
         → type_in fr s b ≡ c
         → ran (come p (form (number b)) (λ x. k (canonical t q x.inner)))
         ≡ on_form (or_self t (through_base q c)) (λ u. ran (k u)) (new p)
-    through-base k t q b (Tf.Known c) e = rw (e, ran, run) (own k t (value_pointer q c))
-    through-base k t q b Tf.Unknown e = rw (e, ran, run)
+    through-base k t q b (Some c) e = rw (e, ran, run) (own k t (value_pointer q c))
+    through-base k t q b None e = rw (e, ran, run)
 
     in-form : (k : TypeInner → Rule A) (t : TypeInner)
         → ran (in_form p k t) ≡ on_form (or_self t (canonical_form_in fr s t)) (λ u. ran (k u)) (new p)
@@ -82,17 +80,17 @@ module _ (fr : List ℕ) (s : Starts) where
     in-form k (Ti.RayQuery x0) = refl
     in-form k (Ti.BindingArray x0 x1) = refl
 
-    look : (k : TypeInner → Rule A) (a : TypeAnswer) (f : TypeForm) → form_in fr s a ≡ f
+    look : (k : TypeInner → Rule A) (a : TypeAnswer) (f : CodeOption TypeInner) → form_in fr s a ≡ f
         → ran (come p (form a) (λ y. in_form p k y.inner)) ≡ on_form (canonical_through fr s f) (λ u. ran (k u)) (new p)
-    look k a (Tf.Known t) e = rw (e, ran, run) (in-form k t)
-    look k a Tf.Unknown e = rw (e, ran, run)
+    look k a (Some t) e = rw (e, ran, run) (in-form k t)
+    look k a None e = rw (e, ran, run)
 
-    both : (u v : TypeForm) (h : TypeInner → Result A) (f : Bool → Result A)
+    both : (u v : CodeOption TypeInner) (h : TypeInner → Result A) (f : Bool → Result A)
         → ((t : TypeInner) → h t ≡ on_form v (λ x. f (equal_types t x)) (new p))
         → on_form u h (new p) ≡ on_bool (by_forms u v) f (new p)
-    both Tf.Unknown v h f e = refl
-    both (Tf.Known x) Tf.Unknown h f e = e x
-    both (Tf.Known x) (Tf.Known y) h f e = e x
+    both None v h f e = refl
+    both (Some x) None h f e = e x
+    both (Some x) (Some y) h f e = e x
 
     by-forms : (a b : TypeAnswer) (k : Bool → Rule A)
         → ran (in_forms p a b k)
@@ -154,13 +152,13 @@ module _ (fr : List ℕ) (s : Starts) where
   or-sym false true = refl
   or-sym false false = refl
 
-  forms-sym : (u v : TypeForm) → by_forms u v ≡ by_forms v u
-  forms-sym Tf.Unknown Tf.Unknown = refl
-  forms-sym Tf.Unknown (Tf.Known v) = refl
-  forms-sym (Tf.Known u) Tf.Unknown = refl
-  forms-sym (Tf.Known u) (Tf.Known v) = ap some (equal-sym u v)
+  forms-sym : (u v : CodeOption TypeInner) → by_forms u v ≡ by_forms v u
+  forms-sym None None = refl
+  forms-sym None (Some v) = refl
+  forms-sym (Some u) None = refl
+  forms-sym (Some u) (Some v) = ap some (equal-sym u v)
 
-  answers-sym : (i q : Bool) (u v : TypeForm) → by_answers i q u v ≡ by_answers i q v u
+  answers-sym : (i q : Bool) (u v : CodeOption TypeInner) → by_answers i q u v ≡ by_answers i q v u
   answers-sym true q u v = refl
   answers-sym false true u v = refl
   answers-sym false false u v = forms-sym u v
@@ -179,7 +177,7 @@ module _ (fr : List ℕ) (s : Starts) where
   -- YES, exactly when the frames are identical, or neither is a struct's number and the canonical forms are equal as
   -- data
 
-  yes-when : (a b : TypeAnswer) (i q : Bool) (u v : TypeForm) → identical a b ≡ i
+  yes-when : (a b : TypeAnswer) (i q : Bool) (u v : CodeOption TypeInner) → identical a b ≡ i
       → (is_struct fr s a || is_struct fr s b)
       ≡ q
       → canonical_of fr s a ≡ u
@@ -188,15 +186,15 @@ module _ (fr : List ℕ) (s : Starts) where
       ⊎ Equal fr s a b
   yes-when a b true q u v qi qs qu qv e = inl ((identical-frames a b).0 qi)
   yes-when a b false true u v qi qs qu qv e = never (cc)
-  yes-when a b false false Tf.Unknown Tf.Unknown qi qs qu qv e = never (cc)
-  yes-when a b false false Tf.Unknown (Tf.Known y) qi qs qu qv e = never (cc)
-  yes-when a b false false (Tf.Known x) Tf.Unknown qi qs qu qv e = never (cc)
-  yes-when a b false false (Tf.Known x) (Tf.Known y) qi qs qu qv e = go (equal_types x y) refl e
+  yes-when a b false false None None qi qs qu qv e = never (cc)
+  yes-when a b false false None (Some y) qi qs qu qv e = never (cc)
+  yes-when a b false false (Some x) None qi qs qu qv e = never (cc)
+  yes-when a b false false (Some x) (Some y) qi qs qu qv e = go (equal_types x y) refl e
     where
       go : (t : Bool) → equal_types x y ≡ t → told (cond t alike unlike) ≡ told alike
           → (type_answer_frame a ≡ type_answer_frame b) ⊎ Equal fr s a b
       go true h w = let q : x ≡ y = (equal-types x y).0 h in
-          inr (record { shape = y; unnamed = qs; left = qu ∙ ap Tf.Known q; right = qv })
+          inr (record { shape = y; unnamed = qs; left = qu ∙ ap Some q; right = qv })
       go false h w = never (cc)
 
   when-equal : (a b : TypeAnswer) (i : Bool) (h : Equal fr s a b)
@@ -242,19 +240,20 @@ module _ (fr : List ℕ) (s : Starts) where
 
   -- A POINTER TO A SCALAR OR A VECTOR equals its value pointer
 
-  pointer-form : (b : TypeNumber) (q : AddressSpace) (t : TypeForm) → t ≡ Tf.Known (Ti.Pointer b q) → is_struct_form t
+  pointer-form : (b : TypeNumber) (q : AddressSpace) (t : CodeOption TypeInner) → t ≡ Some (Ti.Pointer b q)
+      → is_struct_form t
       ≡ false
   pointer-form b q t e = rw e
 
-  pointer-unnamed : (b : TypeNumber) (q : AddressSpace) (a : TypeAnswer) → form_in fr s a ≡ Tf.Known (Ti.Pointer b q)
+  pointer-unnamed : (b : TypeNumber) (q : AddressSpace) (a : TypeAnswer) → form_in fr s a ≡ Some (Ti.Pointer b q)
       → is_struct fr s a ≡ false
   pointer-unnamed b q (number n) e = pointer-form b q (type_in fr s n) e
   pointer-unnamed b q (value t) e = refl
   pointer-unnamed b q (malformed f) e = refl
 
-  pub pointer-to : (b : TypeNumber) (q : AddressSpace) (z : OptionVectorSize) (k : Scalar) (a : TypeAnswer)
+  pub pointer-to : (b : TypeNumber) (q : AddressSpace) (z : CodeOption VectorSize) (k : Scalar) (a : TypeAnswer)
       (c : TypeInner) → Sound s a
-      → form_in fr s a ≡ Tf.Known (Ti.Pointer b q) → type_in fr s b ≡ Tf.Known c → value_pointer q c
+      → form_in fr s a ≡ Some (Ti.Pointer b q) → type_in fr s b ≡ Some c → value_pointer q c
       ≡ some (Ti.ValuePointer z k q)
       → compared a (value (Ti.ValuePointer z k q)) ≡ told alike
   pointer-to b q z k a c p e g h =
@@ -262,20 +261,21 @@ module _ (fr : List ℕ) (s : Starts) where
         shape = Ti.ValuePointer z k q;
         unnamed = rw (pointer-unnamed b q a e);
         left =
-            ap (canonical_through fr s) e ∙ ap (λ (f : TypeForm). or_self (Ti.Pointer b q) (through_base q f)) g
+            ap (canonical_through fr s) e ∙ ap (λ (f : CodeOption TypeInner). or_self (Ti.Pointer b q)
+            (through_base q f)) g
             ∙ ap (λ (o : Option TypeInner). or_self (Ti.Pointer b q) (form_found o)) h;
         right = refl;
       }))
 
   pub pointer-to-scalar : (b : TypeNumber) (q : AddressSpace) (k : Scalar) (a : TypeAnswer) → Sound s a
-      → form_in fr s a ≡ Tf.Known (Ti.Pointer b q)
-      → type_in fr s b ≡ Tf.Known (Ti.Scalar k) → compared a (value (Ti.ValuePointer Ov.None k q)) ≡ told alike
-  pointer-to-scalar b q k a p e g = pointer-to b q Ov.None k a (Ti.Scalar k) p e g refl
+      → form_in fr s a ≡ Some (Ti.Pointer b q)
+      → type_in fr s b ≡ Some (Ti.Scalar k) → compared a (value (Ti.ValuePointer None k q)) ≡ told alike
+  pointer-to-scalar b q k a p e g = pointer-to b q None k a (Ti.Scalar k) p e g refl
 
   pub pointer-to-vector : (b : TypeNumber) (q : AddressSpace) (z : VectorSize) (k : Scalar) (a : TypeAnswer) → Sound s a
-      → form_in fr s a ≡ Tf.Known (Ti.Pointer b q)
-      → type_in fr s b ≡ Tf.Known (Ti.Vector z k) → compared a (value (Ti.ValuePointer (Ov.Some z) k q)) ≡ told alike
-  pointer-to-vector b q z k a p e g = pointer-to b q (Ov.Some z) k a (Ti.Vector z k) p e g refl
+      → form_in fr s a ≡ Some (Ti.Pointer b q)
+      → type_in fr s b ≡ Some (Ti.Vector z k) → compared a (value (Ti.ValuePointer (Some z) k q)) ≡ told alike
+  pointer-to-vector b q z k a p e g = pointer-to b q (Some z) k a (Ti.Vector z k) p e g refl
 
   -- FIVE AND SIX come before any look, the left answer's first
 

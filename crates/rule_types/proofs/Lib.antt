@@ -5,3 +5,4 @@ pub mod Handed
 pub mod Looks
 pub mod Seen
 pub mod Worked
+pub mod Derived

@@ -1,4 +1,5 @@
 -- The reading of a comparison is the table's (specs/Looks.antt): side by side, by the shape of each answer.
+use Rattle.std.specs.Prelude.{Option as CodeOption, Some, None}
 use Prim.Native.Nat.{ℕ}
 use mathlib.Core.Path.{◌≡◌, refl, sym, ap, ◌∙◌}
 use mathlib.Core.Bool.{Bool, true, false, cond, ◌||◌}
@@ -6,8 +7,6 @@ use mathlib.Core.List.{List, [], ◌∷◌, ◌++◌}
 use mathlib.Core.Option.{Option, none, some}
 use Rattle.ir.specs.declared.TypeNumber.{TypeNumber}
 use Rattle.ir.specs.declared.AddressSpace.{AddressSpace}
-use Rattle.ir.specs.declared.TypeForm.{TypeForm}
-use Rattle.ir.specs.declared.TypeForm.TheVariants as Tf
 use Rattle.ir.specs.declared.TypeInner.{TypeInner}
 use Rattle.ir.specs.declared.TypeInner.TheVariants as Ti
 use Rattle.archive.specs.Starts.{starts_of}
@@ -50,20 +49,20 @@ is_struct_shape other = false
 is_struct_shape (pointer p) = false
 is_struct_shape (pointer_to_unknown p) = false
 
-pointer-struct : (b : TypeNumber) (f : TypeForm) → false ≡ is_struct_shape (pointer_shape b f)
-pointer-struct b (Tf.Known t) = refl
-pointer-struct b Tf.Unknown = refl
+pointer-struct : (b : TypeNumber) (f : CodeOption TypeInner) → false ≡ is_struct_shape (pointer_shape b f)
+pointer-struct b (Some t) = refl
+pointer-struct b None = refl
 
 module _ (fr : List ℕ) (rd : Readings) where
   abbrev steps : Rule Compared → List Step
   steps r = (follow (see fr) rd r).steps
 
   base-steps : (k : TypeInner → Rule Compared) (rest : List Step) → ((u : TypeInner) → steps (k u) ≡ rest)
-      → (t : TypeInner) (s : AddressSpace) (b : TypeNumber) (f : TypeForm) → type_at fr b ≡ f
+      → (t : TypeInner) (s : AddressSpace) (b : TypeNumber) (f : CodeOption TypeInner) → type_at fr b ≡ f
       → steps (come nowhere (form (number b)) (λ x. k (canonical t s x.inner))) ≡ side (pointer_shape b f) rest
-  base-steps k rest h t s b (Tf.Known u) q =
+  base-steps k rest h t s b (Some u) q =
       rw (q, steps, follow) (ap (λ (l : List Step). step nowhere (form (number b)) ∷ l) (h (canonical t s u)))
-  base-steps k rest h t s b Tf.Unknown q = rw (q, steps, follow)
+  base-steps k rest h t s b None q = rw (q, steps, follow)
 
   inner-steps : (k : TypeInner → Rule Compared) (rest : List Step) → ((u : TypeInner) → steps (k u) ≡ rest)
       → (t : TypeInner)
@@ -87,11 +86,11 @@ module _ (fr : List ℕ) (rd : Readings) where
   look k a = come nowhere (form a) (λ x. in_form nowhere k x.inner)
 
   number-steps : (k : TypeInner → Rule Compared) (rest : List Step) → ((u : TypeInner) → steps (k u) ≡ rest)
-      → (n : TypeNumber) (f : TypeForm) → type_at fr n ≡ f
+      → (n : TypeNumber) (f : CodeOption TypeInner) → type_at fr n ≡ f
       → steps (look k (number n)) ≡ step nowhere (form (number n)) ∷ side (form_shape fr f) rest
-  number-steps k rest h n (Tf.Known t) q =
+  number-steps k rest h n (Some t) q =
       rw (q, steps, follow) (ap (λ (l : List Step). step nowhere (form (number n)) ∷ l) (inner-steps k rest h t))
-  number-steps k rest h n Tf.Unknown q = rw (q, steps, follow)
+  number-steps k rest h n None q = rw (q, steps, follow)
 
   look-steps : (k : TypeInner → Rule Compared) (rest : List Step) → ((u : TypeInner) → steps (k u) ≡ rest)
       → (a : TypeAnswer)
@@ -167,22 +166,22 @@ module _ (fr : List ℕ) (rd : Readings) where
   no_line a b (pointer_to_unknown x) (pointer_to_unknown y) e = never (cc)
 
   -- a struct's number has the shape of a struct, and no other sound answer has it
-  form-struct : (f : TypeForm) → is_struct_form f ≡ is_struct_shape (form_shape fr f)
-  form-struct Tf.Unknown = refl
-  form-struct (Tf.Known (Ti.Pointer b s)) = pointer-struct b (type_at fr b)
-  form-struct (Tf.Known (Ti.Scalar x0)) = refl
-  form-struct (Tf.Known (Ti.Vector x0 x1)) = refl
-  form-struct (Tf.Known (Ti.Matrix x0 x1 x2)) = refl
-  form-struct (Tf.Known (Ti.CooperativeMatrix x0 x1 x2 x3)) = refl
-  form-struct (Tf.Known (Ti.Atomic x0)) = refl
-  form-struct (Tf.Known (Ti.ValuePointer x0 x1 x2)) = refl
-  form-struct (Tf.Known (Ti.Array x0 x1 x2)) = refl
-  form-struct (Tf.Known (Ti.Struct x0 x1 x2)) = refl
-  form-struct (Tf.Known (Ti.Image x0 x1 x2)) = refl
-  form-struct (Tf.Known (Ti.Sampler x0)) = refl
-  form-struct (Tf.Known (Ti.AccelerationStructure x0)) = refl
-  form-struct (Tf.Known (Ti.RayQuery x0)) = refl
-  form-struct (Tf.Known (Ti.BindingArray x0 x1)) = refl
+  form-struct : (f : CodeOption TypeInner) → is_struct_form f ≡ is_struct_shape (form_shape fr f)
+  form-struct None = refl
+  form-struct (Some (Ti.Pointer b s)) = pointer-struct b (type_at fr b)
+  form-struct (Some (Ti.Scalar x0)) = refl
+  form-struct (Some (Ti.Vector x0 x1)) = refl
+  form-struct (Some (Ti.Matrix x0 x1 x2)) = refl
+  form-struct (Some (Ti.CooperativeMatrix x0 x1 x2 x3)) = refl
+  form-struct (Some (Ti.Atomic x0)) = refl
+  form-struct (Some (Ti.ValuePointer x0 x1 x2)) = refl
+  form-struct (Some (Ti.Array x0 x1 x2)) = refl
+  form-struct (Some (Ti.Struct x0 x1 x2)) = refl
+  form-struct (Some (Ti.Image x0 x1 x2)) = refl
+  form-struct (Some (Ti.Sampler x0)) = refl
+  form-struct (Some (Ti.AccelerationStructure x0)) = refl
+  form-struct (Some (Ti.RayQuery x0)) = refl
+  form-struct (Some (Ti.BindingArray x0 x1)) = refl
 
   value-struct : (t : TypeInner) (v : Fault) → value_fault (starts_of fr) t ≡ v → v ≡ Fa.Sound
       → is_struct_shape (inner_shape fr t) ≡ false

@@ -1,10 +1,10 @@
 -- Every comparison of the table, and the file's acceptance, is what the definitions give: both sides compute to the
 -- same.
+use Rattle.std.specs.Prelude.{Ok}
 use mathlib.Core.Path.{◌≡◌, refl}
 use mathlib.Core.List.{List, map}
 use Rattle.scan.specs.Lowest.{lowest, all_below}
 use Rattle.scan.specs.Lists.{build, sum_below}
-use Rattle.answers.specs.declared.Outcome.TheVariants.{Accepted}
 use Rattle.frames.specs.Bytes.{frame_at}
 use Rattle.frames.specs.Forms.{type_of, item_of, row_of, member_of, component_of, fields_fit}
 use Rattle.archive.specs.Order.{order_ok}
@@ -31,7 +31,7 @@ unfolding same_type same_in equal_types identical listed type_in frame_at type_o
 worked = refl
 
 -- the file passes checks 4 to 6
-accepted : check_frames compared_file ≡ Accepted 9
+accepted : check_frames compared_file ≡ Ok 9
 unfolding lowest all_below build sum_below frame_at type_of item_of row_of member_of component_of fields_fit order_ok
     start starts_of names_ok early_ok index_ok check_frames
 accepted = refl

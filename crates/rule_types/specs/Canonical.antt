@@ -1,23 +1,19 @@
 -- The canonical form of a type: the source's canonical_form (document 01, "Same type or not"). A pointer to a scalar or
 -- a vector is the value pointer of its base; every other type is its own. WGSL has no value pointers; the source
 -- decides. And equality of types and answers, by their frames.
-use Rattle.std.specs.Prelude.{ℕ, Bool, true, false, cond, ◌&&◌, List, [], ◌∷◌, eqb}
+use Rattle.answers.specs.declared.TypeError.TheVariants as Te
+use Rattle.ir.specs.declared.TypeResolution.{TypeResolution}
+use Rattle.std.specs.Prelude.{ℕ, Bool, true, false, cond, ◌&&◌, List, [], ◌∷◌, eqb, Option as CodeOption, Some, None}
+use Rattle.std.specs.Prelude.{Ok, Err}
 use Rattle.std.proofs.Math.Option.{Option, none, some}
 use Rattle.ir.specs.declared.TypeNumber.{TypeNumber}
 use Rattle.ir.specs.declared.AddressSpace.{AddressSpace}
-use Rattle.ir.specs.declared.OptionVectorSize.TheVariants as Ov
 use Rattle.ir.specs.declared.TypeInner.{TypeInner}
 use Rattle.ir.specs.declared.TypeInner.TheVariants as Ti
-use Rattle.ir.specs.declared.TypeForm.{TypeForm}
-use Rattle.ir.specs.declared.TypeForm.TheVariants as Tf
 use Rattle.ir.specs.declared.TypeResolution.TheVariants as Tr
-use Rattle.ir.specs.declared.OptionTypeResolution.{OptionTypeResolution}
-use Rattle.ir.specs.declared.OptionTypeResolution.TheVariants as Ot
 use Rattle.ir.specs.TypeMethods.{pointer_base}
-use Rattle.answers.specs.declared.PointerBase.{PointerBase}
-use Rattle.answers.specs.declared.PointerBase.TheVariants as Pb
-use Rattle.answers.specs.declared.CanonicalType.{CanonicalType}
-use Rattle.answers.specs.declared.CanonicalType.TheVariants as Ct
+use Rattle.answers.specs.Asked.{PointerBase}
+use Rattle.answers.specs.Asked.{CanonicalType}
 use Rattle.frames.specs.declared.Frame.{Frame}
 use Rattle.frames.specs.Bytes.{bytes_of}
 use Rattle.frames.specs.Out.{type_frame}
@@ -50,8 +46,8 @@ if_pointer (Ti.BindingArray b z) f rest = rest
 -- the source's canonical_form of a pointer in a space, by what its base is: the value pointer where the base is a
 -- scalar or a vector, else None
 abbrev pub value_pointer : AddressSpace → TypeInner → Option TypeInner
-value_pointer p (Ti.Scalar k) = some (Ti.ValuePointer Ov.None k p)
-value_pointer p (Ti.Vector z k) = some (Ti.ValuePointer (Ov.Some z) k p)
+value_pointer p (Ti.Scalar k) = some (Ti.ValuePointer None k p)
+value_pointer p (Ti.Vector z k) = some (Ti.ValuePointer (Some z) k p)
 value_pointer p (Ti.Matrix c r k) = none
 value_pointer p (Ti.CooperativeMatrix c r k o) = none
 value_pointer p (Ti.Atomic k) = none
@@ -78,9 +74,9 @@ abbrev pub form_found : Option TypeInner → CanonicalForm
 form_found none = Cf.None
 form_found (some u) = Cf.Some u
 
-abbrev pub through_base : AddressSpace → TypeForm → CanonicalForm
-through_base p (Tf.Known b) = form_found (value_pointer p b)
-through_base p Tf.Unknown = Cf.Newer
+abbrev pub through_base : AddressSpace → CodeOption TypeInner → CanonicalForm
+through_base p (Some b) = form_found (value_pointer p b)
+through_base p None = Cf.Newer
 
 -- the source's canonical_form, over frames and where their families begin; newer where a pointer's base is of unknown
 -- kind
@@ -89,31 +85,27 @@ canonical_form_in fr s t = if_pointer t (λ b p. through_base p (type_in fr s b)
 
 -- OF A TYPE'S NUMBER: 6 where there is no such type, newer where its kind is unknown
 
-abbrev pub base_given : OptionTypeResolution → PointerBase
-base_given Ot.None = Pb.NotPointer
-base_given (Ot.Some r) = Pb.Base r
-
-abbrev pub base_of_form : TypeForm → PointerBase
-base_of_form (Tf.Known t) = base_given (pointer_base t)
-base_of_form Tf.Unknown = Pb.Newer
+abbrev pub base_of_form : CodeOption TypeInner → PointerBase
+base_of_form (Some t) = Ok (pointer_base t)
+base_of_form None = Err Te.Newer
 
 -- the base of type n: its number or a value, or that type n is no pointer
 unfoldable pub pointer_base_in : List ℕ → Starts → TypeNumber → PointerBase
-pointer_base_in fr s n = cond (is_type s n) (base_of_form (type_in fr s n)) Pb.Index
+pointer_base_in fr s n = cond (is_type s n) (base_of_form (type_in fr s n)) (Err Te.Index)
 
 -- the number itself where the source gives None
 abbrev pub form_given : TypeNumber → CanonicalForm → CanonicalType
-form_given n Cf.None = Ct.Form (Tr.Handle n)
-form_given n (Cf.Some u) = Ct.Form (Tr.Value u)
-form_given n Cf.Newer = Ct.Newer
+form_given n Cf.None = Ok (Tr.Handle n)
+form_given n (Cf.Some u) = Ok (Tr.Value u)
+form_given n Cf.Newer = Err Te.Newer
 
-abbrev pub canonical_of_form : List ℕ → Starts → TypeNumber → TypeForm → CanonicalType
-canonical_of_form fr s n (Tf.Known t) = form_given n (canonical_form_in fr s t)
-canonical_of_form fr s n Tf.Unknown = Ct.Newer
+abbrev pub canonical_of_form : List ℕ → Starts → TypeNumber → CodeOption TypeInner → CanonicalType
+canonical_of_form fr s n (Some t) = form_given n (canonical_form_in fr s t)
+canonical_of_form fr s n None = Err Te.Newer
 
 -- the canonical form of type n
 unfoldable pub canonical_type_in : List ℕ → Starts → TypeNumber → CanonicalType
-canonical_type_in fr s n = cond (is_type s n) (canonical_of_form fr s n (type_in fr s n)) Ct.Index
+canonical_type_in fr s n = cond (is_type s n) (canonical_of_form fr s n (type_in fr s n)) (Err Te.Index)
 
 -- EQUALITY, byte by byte of what is written
 

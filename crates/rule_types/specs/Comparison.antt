@@ -1,9 +1,9 @@
 -- The comparison of two types: the source's compare_types (document 01, "Same type or not"; "Numbers handed back", last
 -- paragraph).
-use Rattle.std.specs.Prelude.{◌≡◌, Bool, true, false, ◌||◌, ℕ, List, []}
+use Rattle.answers.specs.declared.CompareError.TheVariants as Ce
+use Rattle.std.specs.Prelude.{◌≡◌, Bool, true, false, ◌||◌, ℕ, List, [], Ok, Err}
 use Rattle.ir.specs.declared.TypeInner.{TypeInner}
-use Rattle.answers.specs.declared.Sameness.{Sameness}
-use Rattle.answers.specs.declared.Sameness.TheVariants as Sa
+use Rattle.answers.specs.Asked.{Sameness}
 use Rattle.frames.specs.declared.Frame.{Frame}
 use Rattle.archive.specs.declared.Starts.{Starts}
 use Rattle.archive.specs.Starts.{starts_of}
@@ -67,11 +67,11 @@ handed a b = come nowhere (fault a) (tested (right_tested a b))
 
 -- as the document numbers it
 abbrev pub sameness_of : Result Compared → Sameness
-sameness_of (told alike) = Sa.Same
-sameness_of (told unlike) = Sa.Different
-sameness_of (told field) = Sa.Field
-sameness_of (told index) = Sa.Index
-sameness_of (newer p) = Sa.Newer
+sameness_of (told alike) = Ok true
+sameness_of (told unlike) = Ok false
+sameness_of (told field) = Err Ce.Field
+sameness_of (told index) = Err Ce.Index
+sameness_of (newer p) = Err Ce.Newer
 
 -- what a rule over two answers gives, over frames and where their families begin
 abbrev pub given : {A : Type 0} → List ℕ → Starts → Rule A → Result A

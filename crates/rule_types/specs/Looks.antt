@@ -2,12 +2,10 @@
 -- "Same type or not", and not from the rule: identical answers, and the number of a struct, need no look. Else the left
 -- is looked into, and its base if it is a pointer, then the right, and its base; the reading ends at the first kind
 -- that is unknown. Nothing deeper than a pointer's base is looked into.
-use Rattle.std.specs.Prelude.{ℕ, Bool, true, false, cond, List, [], ◌∷◌, ◌++◌}
+use Rattle.std.specs.Prelude.{ℕ, Bool, true, false, cond, List, [], ◌∷◌, ◌++◌, Option, Some, None}
 use Rattle.ir.specs.declared.TypeNumber.{TypeNumber}
 use Rattle.ir.specs.declared.TypeInner.{TypeInner}
 use Rattle.ir.specs.declared.TypeInner.TheVariants as Ti
-use Rattle.ir.specs.declared.TypeForm.{TypeForm}
-use Rattle.ir.specs.declared.TypeForm.TheVariants as Tf
 use Rattle.rule.specs.Answers.{TypeAnswer, number, value, malformed, nowhere}
 use Rattle.archive.specs.Access.{type_at}
 use Rattle.rule.specs.Things.{form, struct_number, fault}
@@ -20,9 +18,9 @@ pub data Shape : Type 0 where
   struct unknown other : Shape
   pointer pointer_to_unknown : TypeNumber → Shape
 
-abbrev pub pointer_shape : TypeNumber → TypeForm → Shape
-pointer_shape b (Tf.Known t) = pointer b
-pointer_shape b Tf.Unknown = pointer_to_unknown b
+abbrev pub pointer_shape : TypeNumber → Option TypeInner → Shape
+pointer_shape b (Some t) = pointer b
+pointer_shape b None = pointer_to_unknown b
 
 abbrev pub inner_shape : List ℕ → TypeInner → Shape
 inner_shape fr (Ti.Scalar k) = other
@@ -40,9 +38,9 @@ inner_shape fr (Ti.AccelerationStructure q) = other
 inner_shape fr (Ti.RayQuery q) = other
 inner_shape fr (Ti.BindingArray b z) = other
 
-abbrev pub form_shape : List ℕ → TypeForm → Shape
-form_shape fr (Tf.Known t) = inner_shape fr t
-form_shape fr Tf.Unknown = unknown
+abbrev pub form_shape : List ℕ → Option TypeInner → Shape
+form_shape fr (Some t) = inner_shape fr t
+form_shape fr None = unknown
 
 abbrev pub shape_of : List ℕ → TypeAnswer → Shape
 shape_of fr (number n) = form_shape fr (type_at fr n)

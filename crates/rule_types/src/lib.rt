@@ -12,10 +12,3 @@ pub enum CanonicalForm {
     Some(TypeInner),
     Newer,
 }
-
-// Yes or no, and the port's own case: a look came to an unknown kind.
-#[derive(Clone, Copy)]
-pub enum OptionBool {
-    None,
-    Some(bool),
-}

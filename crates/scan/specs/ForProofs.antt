@@ -1,10 +1,8 @@
 -- Not part of any public statement: for proofs and code only. The lower of two places.
-use Rattle.std.specs.Prelude.{cond, leb}
-use Rattle.scan.specs.declared.Found.{Found}
-use Rattle.scan.specs.declared.Found.TheVariants.{At, Nothing}
+use Rattle.std.specs.Prelude.{cond, leb, ℕ, Option, Some, None}
 
 -- the lower of two places
-abbrev pub lower_of : Found → Found → Found
-lower_of (At i) (At j) = cond (leb i j) (At i) (At j)
-lower_of (At i) Nothing = At i
-lower_of Nothing f = f
+abbrev pub lower_of : Option ℕ → Option ℕ → Option ℕ
+lower_of (Some i) (Some j) = cond (leb i j) (Some i) (Some j)
+lower_of (Some i) None = Some i
+lower_of None f = f

@@ -4,21 +4,15 @@
 ghost use Rattle.std.specs.Prelude.{◌≡◌};
 ghost use Rattle.scan.specs.ForProofs.{lower_of};
 
-#[derive(Clone, Copy)]
-pub enum Found {
-    At(usize),
-    Nothing,
-}
-
 // The lower of two places.
-pub fn lower(a: Found, b: Found) -> Found
+pub fn lower(a: Option<usize>, b: Option<usize>) -> Option<usize>
     ensures { result ≡ lower_of a b }
 {
     match a {
-        Found::At(i) => match b {
-            Found::At(j) => if i <= j { Found::At(i) } else { Found::At(j) },
-            Found::Nothing => Found::At(i),
+        Some(i) => match b {
+            Some(j) => if i <= j { Some(i) } else { Some(j) },
+            None => Some(i),
         },
-        Found::Nothing => b,
+        None => b,
     }
 }

@@ -1,4 +1,5 @@
 -- What a type fills by its needs is what it fills by its form: the same case of each kind, marked and not.
+use Rattle.std.specs.Prelude.{Option, Some, None}
 use Prim.Native.Nat.{ℕ}
 use mathlib.Core.Path.{◌≡◌, refl}
 use mathlib.Core.Bool.{Bool, true, false, cond}
@@ -7,8 +8,6 @@ use Rattle.ir.specs.declared.TypeNumber.{TypeNumber}
 use Rattle.ir.specs.declared.ArraySize.TheVariants as As
 use Rattle.ir.specs.declared.TypeInner.{TypeInner}
 use Rattle.ir.specs.declared.TypeInner.TheVariants as Ti
-use Rattle.ir.specs.declared.TypeForm.{TypeForm}
-use Rattle.ir.specs.declared.TypeForm.TheVariants as Tf
 use Rattle.archive.specs.declared.Starts.{Starts}
 use Rattle.rule_sizes.specs.declared.SizeFault.TheVariants.{Unmeasured}
 use Rattle.rule_sizes.specs.declared.Measure.{Measure}
@@ -53,8 +52,8 @@ module _ (fr : List ℕ) (s : Starts) (holds : TypeNumber → Bool) (counts : Co
   same (Ti.RayQuery q) = (refl, refl)
   same (Ti.BindingArray b z) = (refl, refl)
 
-  pub by-needs : (form : TypeForm)
+  pub by-needs : (form : Option TypeInner)
       → form_by fr s holds counts past n form ≡ by_needs fr s past n (needs_of holds counts n form)
   unfolding needs_of
-  by-needs (Tf.Known t) = rw ((same t).0, (same t).1) (by-test (holds n) _ _)
-  by-needs Tf.Unknown = either (holds n) (Faulty Unmeasured n)
+  by-needs (Some t) = rw ((same t).0, (same t).1) (by-test (holds n) _ _)
+  by-needs None = either (holds n) (Faulty Unmeasured n)

@@ -1,14 +1,12 @@
 -- What is to be known of other types before a type is measured, and its measure by that. `by-needs`
 -- (proofs/Measured.antt): it is the measure of crate rule_ranges.
-use Rattle.std.specs.Prelude.{ℕ, Bool, true, false, cond, List}
+use Rattle.std.specs.Prelude.{ℕ, Bool, true, false, cond, List, Option, Some, None}
 use Rattle.ir.specs.declared.TypeNumber.{TypeNumber}
 use Rattle.ir.specs.declared.MemberNumber.{MemberNumber}
 use Rattle.ir.specs.declared.ArraySize.{ArraySize}
 use Rattle.ir.specs.declared.ArraySize.TheVariants as As
 use Rattle.ir.specs.declared.TypeInner.{TypeInner}
 use Rattle.ir.specs.declared.TypeInner.TheVariants as Ti
-use Rattle.ir.specs.declared.TypeForm.{TypeForm}
-use Rattle.ir.specs.declared.TypeForm.TheVariants as Tf
 use Rattle.archive.specs.declared.Starts.{Starts}
 use Rattle.rule_sizes.specs.declared.SizeFault.TheVariants.{Unmeasured}
 use Rattle.rule_sizes.specs.declared.Measure.{Measure}
@@ -58,9 +56,9 @@ counted_needs holds counts n t =
     by_kind t (counted_array_needs holds counts n) (λ m j z. Members m j z true) (Nothing (Faulty Unmeasured n))
 
 -- what type n of this form needs; an unknown kind is outside the list
-unfoldable pub needs_of : (TypeNumber → Bool) → Counts → TypeNumber → TypeForm → Needs
-needs_of holds counts n (Tf.Known t) = cond (holds n) (counted_needs holds counts n t) (inner_needs n t)
-needs_of holds counts n Tf.Unknown = Nothing (Faulty Unmeasured n)
+unfoldable pub needs_of : (TypeNumber → Bool) → Counts → TypeNumber → Option TypeInner → Needs
+needs_of holds counts n (Some t) = cond (holds n) (counted_needs holds counts n t) (inner_needs n t)
+needs_of holds counts n None = Nothing (Faulty Unmeasured n)
 
 -- what type n fills, by what it needs; `past` is what the types fill that it names
 abbrev pub by_needs : List ℕ → Starts → (TypeNumber → Measure) → TypeNumber → Needs → Measure

@@ -8,7 +8,7 @@ ghost use Rattle.rule_ranges.specs.Pending.{look_holds};
 ghost use Rattle.rule_ranges.specs.Ranges.{counts_of};
 ghost use Rattle.size_needs.specs.Needs.{sized_needs, inner_needs, counted_array_needs, counted_needs, needs_of};
 
-use ir::{ArraySize, MemberNumber, TypeForm, TypeInner, TypeNumber};
+use ir::{ArraySize, MemberNumber, TypeInner, TypeNumber};
 use rule_sizes::Measure;
 use size_pending::{count_at, is_marked};
 use size_steps::leaves::{leaf, unmeasured};
@@ -112,18 +112,18 @@ fn counted_needs(marks: &[bool], counts: &[u32], n: TypeNumber, t: TypeInner) ->
 
 // What type n of this form needs; an unknown kind is outside the list.
 #[tactic(auto, unfolding(crate::specs::Needs::needs_of))]
-pub fn needs_of(marks: &[bool], counts: &[u32], n: TypeNumber, form: TypeForm) -> Needs
+pub fn needs_of(marks: &[bool], counts: &[u32], n: TypeNumber, form: Option<TypeInner>) -> Needs
     ensures { result
         ≡ needs_of (look_holds marks.now) (counts_of counts.now) n form }
 {
     match form {
-        TypeForm::Known(t) => {
+        Some(t) => {
             if is_marked(marks, n) {
                 counted_needs(marks, counts, n, t)
             } else {
                 inner_needs(n, t)
             }
         }
-        TypeForm::Unknown => Needs::Nothing(unmeasured(n)),
+        None => Needs::Nothing(unmeasured(n)),
     }
 }

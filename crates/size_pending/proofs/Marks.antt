@@ -1,5 +1,7 @@
 -- Types marked in order: a mark is made from those before it, so with n types marked the table says of them what
 -- `holds_pending` says, and of no other type.
+use Rattle.std.specs.Prelude.{Option, Some}
+use Rattle.ir.specs.declared.TypeInner.{TypeInner}
 use Prim.Native.Nat.{ℕ, zero, suc, ◌+◌, ◌≤◌, ◌<◌}
 use native.Mathlib.Decide.{dec_lt}
 use native.Mathlib.Omega.{arith}
@@ -10,10 +12,8 @@ use lib.Dec.{ltb}
 use lib.ListN.{length, get_or, set, replicate, get_or-eq_default}
 use lib.Seq.{get_or-set_same, get_or-set_other}
 use borrow.Author.Tests.{lt-ltb, le-ltb}
-use Rattle.scan.specs.declared.Found.TheVariants.{At}
 use Rattle.scan.proofs.Laws.{found_at}
 use Rattle.ir.specs.declared.TypeNumber.{TypeNumber}
-use Rattle.ir.specs.declared.TypeForm.{TypeForm}
 use Rattle.answers.specs.Limit.{max_frames}
 use Rattle.archive.specs.declared.Starts.{Starts}
 use Rattle.archive.specs.Starts.{type_count, override_count}
@@ -51,7 +51,7 @@ module _ (fr : List ℕ) (s : Starts) (marks : List Bool) (n : ℕ) (is : Marked
           ∙ rw (le-ltb b.0 n k)
           (sym (get_or-eq_default (holding fr s n) false {n = b.0} (rw (in-order-length (next_holds fr s) n) k)))
 
-  next-mark : (one : Bool) (t : TypeForm) → one ≡ form_holds fr s (look_holds marks) t → t
+  next-mark : (one : Bool) (t : Option TypeInner) → one ≡ form_holds fr s (look_holds marks) t → t
       ≡ type_in fr s (record { 0 = n })
       → one ≡ holds_pending fr s (record { 0 = n })
   unfolding holds_pending
@@ -60,7 +60,7 @@ module _ (fr : List ℕ) (s : Starts) (marks : List Bool) (n : ℕ) (is : Marked
       ∙ ap (form_holds fr s (look_holds (holding fr s n))) h
 
   -- one type more
-  pub marks-more : (one : Bool) (t : TypeForm) → n < length marks → one ≡ form_holds fr s (look_holds marks) t
+  pub marks-more : (one : Bool) (t : Option TypeInner) → n < length marks → one ≡ form_holds fr s (look_holds marks) t
       → t ≡ type_in fr s (record { 0 = n }) → Marked fr s (set marks n one) (n + 1)
   marks-more one t l e h b = go (dec_lt b.0 n) (dec_lt n b.0)
     where
@@ -111,7 +111,7 @@ range_all fr s marks least greatest n h e =
     (e ∙ (λ j b. all-marked fr s h b j))
 
 -- the override at fault is one of the file's
-pub span-within : (s : Starts) (least greatest : Counts) (o : ℕ) → faulty_span s least greatest ≡ At o
+pub span-within : (s : Starts) (least greatest : Counts) (o : ℕ) → faulty_span s least greatest ≡ Some o
     → o < override_count s
 unfolding faulty_span
 span-within s least greatest o e =

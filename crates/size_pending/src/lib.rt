@@ -9,16 +9,14 @@ ghost use Rattle.rule_ranges.specs.Pending.{holds_pending};
 ghost use Rattle.rule_ranges.specs.Ranges.{counts_of, span_ok, faulty_span};
 
 use archive::Starts;
-use archive_access::families::{member_at, minus, type_at};
-use ir::{ArraySize, MemberNumber, TypeForm, TypeInner, TypeNumber};
-use scan::Found;
+use archive_access::families::{member_at, type_at};
+use ir::{ArraySize, MemberNumber, TypeInner, TypeNumber};
 
 // A table's mark of type n; false past its end.
 pub fn is_marked(marks: &[bool], n: TypeNumber) -> bool
     ensures { result ≡ look_holds marks.now n }
 {
-    let i = n.0 as usize;
-    if i < marks.len() { marks[i] } else { false }
+    marks.get(n.0 as usize).copied().unwrap_or(false)
 }
 
 fn size_holds(marks: &[bool], base: TypeNumber, size: ArraySize) -> bool
@@ -37,13 +35,9 @@ fn member_holds(frames: &[u8], s: Starts, marks: &[bool], first: MemberNumber, c
     ensures { result ≡ member_holds frames.now s (look_holds marks.now) first count }
 {
     let mut any = false;
-    let mut i = 0u16;
-    while i < count {
+    for i in 0..count {
         let m = member_at(frames, s, first, i as u32);
-        let t = m.ty;
-        let one = is_marked(marks, t);
-        any = any | one;
-        i += 1;
+        any = any | is_marked(marks, m.ty);
     }
     any
 }
@@ -66,12 +60,12 @@ fn inner_holds(frames: &[u8], s: Starts, marks: &[bool], t: TypeInner) -> bool
     }
 }
 
-fn form_holds(frames: &[u8], s: Starts, marks: &[bool], form: TypeForm) -> bool
+fn form_holds(frames: &[u8], s: Starts, marks: &[bool], form: Option<TypeInner>) -> bool
     ensures { result ≡ form_holds frames.now s (look_holds marks.now) form }
 {
     match form {
-        TypeForm::Known(t) => inner_holds(frames, s, marks, t),
-        TypeForm::Unknown => false,
+        Some(t) => inner_holds(frames, s, marks, t),
+        None => false,
     }
 }
 
@@ -81,12 +75,10 @@ pub fn pending_marks(frames: &[u8], s: Starts) -> [bool; 1024]
         ≡ (λ (b : TypeNumber). ltb b.0 max_frames && holds_pending frames.now s b) }
 {
     let mut marks = [false; 1024];
-    let mut n = 0u16;
-    while n < 1024 {
+    for n in 0..1024u16 {
         let t = type_at(frames, s, TypeNumber(n));
         let one = form_holds(frames, s, &marks, t);
         marks[n as usize] = one;
-        n += 1;
     }
     marks
 }
@@ -95,7 +87,7 @@ pub fn pending_marks(frames: &[u8], s: Starts) -> [bool; 1024]
 pub fn count_at(counts: &[u32], o: usize) -> u32
     ensures { result ≡ get_or counts.now o 0 }
 {
-    if o < counts.len() { counts[o] } else { 0 }
+    counts.get(o).copied().unwrap_or(0)
 }
 
 fn span_ok(least: &[u32], greatest: &[u32], o: usize) -> bool
@@ -109,17 +101,9 @@ fn span_ok(least: &[u32], greatest: &[u32], o: usize) -> bool
 
 // Number 45: the lowest override of the file whose least count is 0 or above its greatest.
 #[tactic(auto, unfolding(rule_ranges::specs::Ranges::faulty_span))]
-pub fn faulty_span(s: Starts, least: &[u32], greatest: &[u32]) -> Found
+pub fn faulty_span(s: Starts, least: &[u32], greatest: &[u32]) -> Option<usize>
     ensures { result ≡ faulty_span s (counts_of least.now) (counts_of greatest.now) }
 {
-    let n = minus(s.globals, s.overrides);
-    let mut o = 0usize;
-    while o < n {
-        if span_ok(least, greatest, o) {
-            o += 1;
-        } else {
-            return Found::At(o);
-        }
-    }
-    Found::Nothing
+    let n = s.globals.saturating_sub(s.overrides);
+    (0..n).find(|o| !span_ok(least, greatest, *o))
 }

@@ -6,7 +6,7 @@ ghost use Rattle.rule_sizes.specs.Wgsl.{vector_align, vector_bytes, matrix_bytes
 ghost use Rattle.rule_sizes.specs.Sizes.{scalar_measure, vector_measure, matrix_measure, leaf_of};
 
 use ir::{Scalar, TypeInner, TypeNumber, VectorSize};
-use rule_sizes::{Alignment, Measure, OptionAlignment, SizeFault};
+use rule_sizes::{Alignment, Measure, SizeFault};
 
 pub fn alignment_bytes(a: Alignment) -> u8
     ensures { result ≡ bytes a }
@@ -45,34 +45,34 @@ pub fn round_up(a: Alignment, n: u32) -> u64
     }
 }
 
-fn integer_align(k: Scalar) -> OptionAlignment
+fn integer_align(k: Scalar) -> Option<Alignment>
     ensures { result ≡ integer_align k }
 {
-    if k.equals(Scalar::I32) | k.equals(Scalar::U32) {
-        OptionAlignment::Some(Alignment::Four)
+    if (k == Scalar::I32) | (k == Scalar::U32) {
+        Some(Alignment::Four)
     } else {
-        OptionAlignment::None
+        None
     }
 }
 
-fn float_align(k: Scalar) -> OptionAlignment
+fn float_align(k: Scalar) -> Option<Alignment>
     ensures { result ≡ float_align k }
 {
-    if k.equals(Scalar::F32) {
-        OptionAlignment::Some(Alignment::Four)
-    } else if k.equals(Scalar::F16) {
-        OptionAlignment::Some(Alignment::Two)
+    if k == Scalar::F32 {
+        Some(Alignment::Four)
+    } else if k == Scalar::F16 {
+        Some(Alignment::Two)
     } else {
-        OptionAlignment::None
+        None
     }
 }
 
-fn number_align(k: Scalar) -> OptionAlignment
+fn number_align(k: Scalar) -> Option<Alignment>
     ensures { result ≡ number_align k }
 {
     match integer_align(k) {
-        OptionAlignment::Some(a) => OptionAlignment::Some(a),
-        OptionAlignment::None => float_align(k),
+        Some(a) => Some(a),
+        None => float_align(k),
     }
 }
 
@@ -96,7 +96,7 @@ fn vector_align(z: VectorSize, a: Alignment) -> Alignment
 fn vector_bytes(z: VectorSize, a: Alignment) -> u32
     ensures { result ≡ vector_bytes z a }
 {
-    (z.number() as u32) * (alignment_bytes(a) as u32)
+    u32::from(z) * (alignment_bytes(a) as u32)
 }
 
 // An array of columns.
@@ -104,7 +104,7 @@ fn matrix_bytes(c: VectorSize, r: VectorSize, a: Alignment) -> u32
     ensures { result ≡ matrix_bytes c r a }
 {
     let stride = round_up(vector_align(r, a), vector_bytes(r, a));
-    (c.number() as u32) * (stride as u32)
+    u32::from(c) * (stride as u32)
 }
 
 // Number 42.
@@ -117,39 +117,39 @@ pub fn unmeasured(n: TypeNumber) -> Measure
     }
 }
 
-fn scalar_measure(n: TypeNumber, o: OptionAlignment) -> Measure
+fn scalar_measure(n: TypeNumber, o: Option<Alignment>) -> Measure
     ensures { result ≡ scalar_measure n o }
 {
     match o {
-        OptionAlignment::Some(a) => Measure::Fills {
+        Some(a) => Measure::Fills {
             align: a,
             size: alignment_bytes(a) as u32,
         },
-        OptionAlignment::None => unmeasured(n),
+        None => unmeasured(n),
     }
 }
 
-fn vector_measure(n: TypeNumber, z: VectorSize, o: OptionAlignment) -> Measure
+fn vector_measure(n: TypeNumber, z: VectorSize, o: Option<Alignment>) -> Measure
     ensures { result ≡ vector_measure n z o }
 {
     match o {
-        OptionAlignment::Some(a) => Measure::Fills {
+        Some(a) => Measure::Fills {
             align: vector_align(z, a),
             size: vector_bytes(z, a),
         },
-        OptionAlignment::None => unmeasured(n),
+        None => unmeasured(n),
     }
 }
 
-fn matrix_measure(n: TypeNumber, c: VectorSize, r: VectorSize, o: OptionAlignment) -> Measure
+fn matrix_measure(n: TypeNumber, c: VectorSize, r: VectorSize, o: Option<Alignment>) -> Measure
     ensures { result ≡ matrix_measure n c r o }
 {
     match o {
-        OptionAlignment::Some(a) => Measure::Fills {
+        Some(a) => Measure::Fills {
             align: vector_align(r, a),
             size: matrix_bytes(c, r, a),
         },
-        OptionAlignment::None => unmeasured(n),
+        None => unmeasured(n),
     }
 }
 

@@ -6,13 +6,6 @@ ghost use Rattle.answers.specs.Numbers.{at, asked, instead};
 ghost use Rattle.texel.specs.Texel.{tied, rounded, texel_of, texel_said};
 ghost use Rattle.texel.specs.Exported.{texel_number, texel_put, by_texel_room};
 
-// What asking for a texel gives: the texel; or number 40, where the density is over 10,000.
-#[derive(Clone, Copy)]
-pub enum Texel {
-    Given(u16),
-    Range,
-}
-
 // Which of q and q + 1 is given where both are equally near: the even one.
 #[tactic(auto, unfolding(crate::specs::Texel::tied))]
 fn tied_at(q: u32) -> u32
@@ -40,16 +33,16 @@ fn nearest(n: u32) -> u32
 }
 
 // The texel of a density.
-pub fn texel_of(density: u32) -> Texel
+pub fn texel_of(density: u32) -> Option<u16>
     ensures outcome { result ≡ texel_of density }
     ensures said { texel_said result
         ≡ cond (leb density 10000) (asked (rounded (density * 65535))) (instead (at 40 0)) }
 {
     let within = density <= 10000;
     if within {
-        Texel::Given(nearest(density * 65535) as u16)
+        Some(nearest(density * 65535) as u16)
     } else {
-        Texel::Range
+        None
     }
 }
 
@@ -66,11 +59,11 @@ pub fn put_texel(density: u32, out: &mut [u8]) -> u32
     }
     let given = texel_of(density);
     match given {
-        Texel::Given(t) => {
+        Some(t) => {
             out[0] = (t % 256) as u8;
             out[1] = (t / 256) as u8;
             0
         }
-        Texel::Range => 40,
+        None => 40,
     }
 }

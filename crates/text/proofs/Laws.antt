@@ -1,5 +1,6 @@
 -- What each outcome of reading a text says of the text and the buffers, both ways, by the tests of the definition in
 -- their order; and what reading leaves where it accepts.
+use Rattle.std.specs.Prelude.{ℕ, Option, Some, None, Ok, Err}
 use mathlib.Core.Path.{◌≡◌, refl, sym, ap, ◌∙◌}
 use mathlib.Core.Bool.{Bool, true, false, cond, ◌&&◌, ◌||◌, or-true}
 use mathlib.Core.List.{List, ◌++◌}
@@ -12,12 +13,10 @@ use lib.ListN.{length, take, drop, get_or, length-append, get_or-eq_default}
 use lib.Seq.{take_at, drop_at}
 use borrow.Author.Tests.{leb-true, ltb-true, ltb-false, lt-ltb, le-ltb, le-leb, lt-leb}
 use Rattle.scan.specs.Lowest.{lowest}
-use Rattle.scan.specs.declared.Found.{Found}
-use Rattle.scan.specs.declared.Found.TheVariants.{At, Nothing}
 use Rattle.scan.proofs.Laws.{and_second, by-test, LowestAt, found_at, at-found, none-all, lowest-all}
 use Rattle.scan.proofs.Fill.{length-build, get_d-build}
-use Rattle.answers.specs.declared.Outcome.{Outcome}
-use Rattle.answers.specs.declared.Outcome.TheVariants.{Accepted, Long, Torn, Short, Order, Field, Index}
+use Rattle.answers.specs.Outcome.{Outcome}
+use Rattle.answers.specs.declared.FileError.TheVariants.{Long, Torn, Short}
 use Rattle.answers.specs.Limit.{max_frames}
 use Rattle.text.specs.declared.AnswerRoom.{AnswerRoom}
 use Rattle.text.specs.declared.AnswerRoom.TheVariants.{NotLent, Lent}
@@ -125,19 +124,19 @@ module _ (t : List ℕ) (f : ℕ) (room : AnswerRoom) where
 -- ---- each outcome, both ways
 module _ (limit : ℕ) (t : List ℕ) (f : ℕ) (room : AnswerRoom) where
   -- what holds in each of the four cases holds of what reading gives
-  pub by_read : (P : Outcome → Type 0) → (33 * most_frames limit < length t → P (Long (most_frames limit)))
-      → ((k : ℕ) → TornAt limit t k → P (Torn k))
-      → (TooSmall limit t f room → P Short) → (Readable limit t f room (line_count t) → P (Accepted (line_count t)))
+  pub by_read : (P : Outcome → Type 0) → (33 * most_frames limit < length t → P (Err (Long (most_frames limit))))
+      → ((k : ℕ) → TornAt limit t k → P (Err (Torn k)))
+      → (TooSmall limit t f room → P (Err Short)) → (Readable limit t f room (line_count t) → P (Ok (line_count t)))
       → P (read_text limit t f room)
   unfolding read_text
   by_read P long torn short accepted =
       by-test P (ltb (33 * most_frames limit) (length t)) (λ e. long (ltb-true _ _ e))
       (λ e. go (ltb-false _ _ e) (lowest (line_ok t) (line_count t)) refl)
     where
-      go : length t ≤ 33 * most_frames limit → (o : Found) → lowest (line_ok t) (line_count t) ≡ o
-          → P (after_torn o (cond (too_short t f room) Short (Accepted (line_count t))))
-      go l (At k) e = torn k (record { within = l; line = found_at (line_ok t) (line_count t) k e })
-      go l Nothing e =
+      go : length t ≤ 33 * most_frames limit → (o : Option ℕ) → lowest (line_ok t) (line_count t) ≡ o
+          → P (after_torn o (cond (too_short t f room) (Err Short) (Ok (line_count t))))
+      go l (Some k) e = torn k (record { within = l; line = found_at (line_ok t) (line_count t) k e })
+      go l None e =
           let w : Whole t = λ k. none-all (line_ok t) (line_count t) k e in
           by-test P (too_short t f room)
           (λ s. short (record { within = l; whole = w; lacks = (one-lacks t f room).0 s }))
@@ -154,28 +153,29 @@ module _ (limit : ℕ) (t : List ℕ) (f : ℕ) (room : AnswerRoom) where
   never z = absurd (omega arith)
 
   -- number 1 is given exactly for a text of more bytes than the limit's lines have, and names the limit
-  pub long-when : (read_text limit t f room ≡ Long (most_frames limit)) ↔ (33 * most_frames limit < length t)
+  pub long-when : (read_text limit t f room ≡ Err (Long (most_frames limit))) ↔ (33 * most_frames limit < length t)
   unfolding read_text
   long-when = (
-    by_read (λ r. r ≡ Long (most_frames limit) → 33 * most_frames limit < length t) (λ l e. l) (λ k r e. never (cc))
+    by_read (λ r. r ≡ Err (Long (most_frames limit)) → 33 * most_frames limit < length t) (λ l e. l) (λ k r e. never
+        (cc))
         (λ r e. never (cc)) (λ r e. never (cc)),
     λ l. rw (lt-ltb (33 * most_frames limit) (length t) l),
   )
 
   -- number 2 is given exactly for a text that is not too long and has a torn line, with the lowest
-  pub torn-when : (k : ℕ) → (read_text limit t f room ≡ Torn k) ↔ TornAt limit t k
+  pub torn-when : (k : ℕ) → (read_text limit t f room ≡ Err (Torn k)) ↔ TornAt limit t k
   unfolding read_text
   torn-when k = (
-    by_read (λ r. r ≡ Torn k → TornAt limit t k) (λ l e. never (cc)) (λ j r e. let q : j ≡ k = cc in rw q at r)
+    by_read (λ r. r ≡ Err (Torn k) → TornAt limit t k) (λ l e. never (cc)) (λ j r e. let q : j ≡ k = cc in rw q at r)
         (λ r e. never (cc)) (λ r e. never (cc)),
     λ r. rw (le-ltb (33 * most_frames limit) (length t) r.within, at-found (line_ok t) (line_count t) k r.line),
   )
 
   -- number 3 is given exactly for a text of whole lines, not too long, with a buffer that is too small
-  pub short-when : (read_text limit t f room ≡ Short) ↔ TooSmall limit t f room
+  pub short-when : (read_text limit t f room ≡ Err Short) ↔ TooSmall limit t f room
   unfolding read_text
   short-when = (
-    by_read (λ r. r ≡ Short → TooSmall limit t f room) (λ l e. never (cc)) (λ k r e. never (cc)) (λ r e. r)
+    by_read (λ r. r ≡ Err Short → TooSmall limit t f room) (λ l e. never (cc)) (λ k r e. never (cc)) (λ r e. r)
         (λ r e. never (cc)),
     λ r. rw (
       le-ltb (33 * most_frames limit) (length t) r.within,
@@ -185,10 +185,10 @@ module _ (limit : ℕ) (t : List ℕ) (f : ℕ) (room : AnswerRoom) where
   )
 
   -- a text is accepted exactly where none of the three is given, and n is its number of lines
-  pub accepted-when : (n : ℕ) → (read_text limit t f room ≡ Accepted n) ↔ Readable limit t f room n
+  pub accepted-when : (n : ℕ) → (read_text limit t f room ≡ Ok n) ↔ Readable limit t f room n
   unfolding read_text
   accepted-when n = (
-    by_read (λ r. r ≡ Accepted n → Readable limit t f room n) (λ l e. never (cc)) (λ k r e. never (cc))
+    by_read (λ r. r ≡ Ok n → Readable limit t f room n) (λ l e. never (cc)) (λ k r e. never (cc))
         (λ r e. never (cc))
         (λ r e. let q : line_count t ≡ n = cc in rw q at r),
     λ r. let a : 16 * line_count t ≤ f = rw (← r.count) r.frames in
@@ -258,17 +258,12 @@ answers-by-frame t n k l =
 
 -- ---- the frame buffer after a reading
 -- it is as it was unless the text was accepted
-pub unchanged : (t fr : List ℕ) (r : Outcome) → ((n : ℕ) → r ≡ Accepted n → ⊥) → frames_read r t fr ≡ fr
-unchanged t fr (Accepted n) h = absurd (h n refl)
-unchanged t fr (Long m) h = refl
-unchanged t fr (Torn k) h = refl
-unchanged t fr Short h = refl
-unchanged t fr (Order k) h = refl
-unchanged t fr (Field k) h = refl
-unchanged t fr (Index k) h = refl
+pub unchanged : (t fr : List ℕ) (r : Outcome) → ((n : ℕ) → r ≡ Ok n → ⊥) → frames_read r t fr ≡ fr
+unchanged t fr (Ok n) h = absurd (h n refl)
+unchanged t fr (Err x) h = refl
 
 -- where it was accepted: fr before, last after
-module _ (t fr last : List ℕ) (n : ℕ) (r : Outcome) (el : last ≡ frames_read r t fr) (er : r ≡ Accepted n) where
+module _ (t fr last : List ℕ) (n : ℕ) (r : Outcome) (el : last ≡ frames_read r t fr) (er : r ≡ Ok n) where
   is : last ≡ decoded t n ++ drop (16 * n) fr
   is = el ∙ ap (λ x. frames_read x t fr) er
 

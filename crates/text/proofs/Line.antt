@@ -1,5 +1,6 @@
 -- What a digit is, and what a whole line holds: by the tests of the definitions, and since no character past the end of
 -- a text is a line feed.
+use Rattle.std.specs.Prelude.{None}
 use mathlib.Core.Path.{◌≡◌, refl, sym, ◌∙◌}
 use mathlib.Core.Bool.{Bool, true, false, ◌&&◌, ◌||◌, and-false}
 use mathlib.Core.List.{List}
@@ -11,7 +12,6 @@ use lib.Dec.{leb, ltb}
 use lib.ListN.{length, get_or-eq_default}
 use borrow.Author.Tests.{leb-true, ltb-true, eqb-true, lt-ltb, le-ltb}
 use Rattle.scan.specs.Lowest.{lowest, all_below}
-use Rattle.scan.specs.declared.Found.TheVariants.{Nothing}
 use Rattle.scan.proofs.Laws.{and_first, and_second, all-each, each_all, none-all}
 use Rattle.text.specs.Hex.{is_digit, digit_value}
 use Rattle.text.specs.Lines.{char_at, line_ok, line_count, frame_byte}
@@ -79,10 +79,10 @@ line-short t k l =
 -- ---- all lines
 module _ (t : List ℕ) where
   -- n whole lines lie in the text
-  pub lines-in : (n : ℕ) → lowest (line_ok t) n ≡ Nothing → 33 * n ≤ length t
+  pub lines-in : (n : ℕ) → lowest (line_ok t) n ≡ None → 33 * n ≤ length t
   lines-in zero none = omega arith
   lines-in (suc n) none = omega (arith, line-in t n (none-all (line_ok t) (suc n) n none (omega arith)))
 
   -- a text whose lines are all whole is those lines
-  pub length_whole : lowest (line_ok t) (line_count t) ≡ Nothing → length t ≡ 33 * line_count t
+  pub length_whole : lowest (line_ok t) (line_count t) ≡ None → length t ≡ 33 * line_count t
   length_whole none = omega (arith, lines-in (line_count t) none)

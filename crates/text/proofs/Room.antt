@@ -1,5 +1,6 @@
 -- Numbers 1 and 2 do not depend on what is lent, so what is said of a text where some other buffer is too small does
 -- not either. By the order of the checks.
+use Rattle.std.specs.Prelude.{ℕ, Option, Some, None, Ok, Err}
 use Prim.Native.Nat.{ℕ, ◌*◌}
 use mathlib.Core.Path.{◌≡◌, refl}
 use mathlib.Core.Bool.{Bool, true, false, cond}
@@ -7,9 +8,7 @@ use mathlib.Core.List.{List}
 use lib.Dec.{ltb}
 use lib.ListN.{length}
 use Rattle.scan.specs.Lowest.{lowest}
-use Rattle.scan.specs.declared.Found.{Found}
-use Rattle.scan.specs.declared.Found.TheVariants as Fo
-use Rattle.answers.specs.declared.Outcome.TheVariants.{Accepted, Long, Short}
+use Rattle.answers.specs.declared.FileError.TheVariants.{Long, Short}
 use Rattle.text.specs.declared.AnswerRoom.{AnswerRoom}
 use Rattle.text.specs.declared.AnswerRoom.TheVariants.{NotLent}
 use Rattle.text.specs.Lines.{line_ok, line_count}
@@ -24,20 +23,20 @@ short-any limit t f room =
     by-long (ltb (33 * most_frames limit) (length t)) (lowest (line_ok t) (line_count t)) (too_short t 0 NotLent)
     (too_short t f room)
   where
-    short : (a b : Bool) (n : ℕ) → or_short (cond a Short (Accepted n)) ≡ or_short (cond b Short (Accepted n))
+    short : (a b : Bool) (n : ℕ) → or_short (cond a (Err Short) (Ok n)) ≡ or_short (cond b (Err Short) (Ok n))
     short true true n = refl
     short true false n = refl
     short false true n = refl
     short false false n = refl
 
-    by-torn : (k : Found) (a b : Bool)
-        → or_short (after_torn k (cond a Short (Accepted (line_count t))))
-        ≡ or_short (after_torn k (cond b Short (Accepted (line_count t))))
-    by-torn (Fo.At k) a b = refl
-    by-torn Fo.Nothing a b = short a b (line_count t)
+    by-torn : (k : Option ℕ) (a b : Bool)
+        → or_short (after_torn k (cond a (Err Short) (Ok (line_count t))))
+        ≡ or_short (after_torn k (cond b (Err Short) (Ok (line_count t))))
+    by-torn (Some k) a b = refl
+    by-torn None a b = short a b (line_count t)
 
-    by-long : (l : Bool) (k : Found) (a b : Bool)
-        → or_short (cond l (Long (most_frames limit)) (after_torn k (cond a Short (Accepted (line_count t)))))
-        ≡ or_short (cond l (Long (most_frames limit)) (after_torn k (cond b Short (Accepted (line_count t)))))
+    by-long : (l : Bool) (k : Option ℕ) (a b : Bool)
+        → or_short (cond l (Err (Long (most_frames limit))) (after_torn k (cond a (Err Short) (Ok (line_count t)))))
+        ≡ or_short (cond l (Err (Long (most_frames limit))) (after_torn k (cond b (Err Short) (Ok (line_count t)))))
     by-long true k a b = refl
     by-long false k a b = by-torn k a b

@@ -1,5 +1,6 @@
 -- Frames that are written and read again come back, and so does a text that is read and written again: digit by digit,
 -- since a digit's value has that digit.
+use Rattle.std.specs.Prelude.{Ok}
 use mathlib.Core.Path.{◌≡◌, sym, ap, ◌∙◌}
 use mathlib.Core.Bool.{true, cond}
 use mathlib.Core.List.{List}
@@ -12,7 +13,6 @@ use lib.Seq.{ext_get_or}
 use borrow.Author.Tests.{ltb-true, ltb-false, eqb-true, eqb-false, lt-ltb, le-ltb, le-leb, ne_eqb}
 use Rattle.scan.proofs.Laws.{by-test}
 use Rattle.scan.proofs.Fill.{length-build, get_d-build}
-use Rattle.answers.specs.declared.Outcome.TheVariants.{Accepted}
 use Rattle.text.specs.declared.AnswerRoom.{AnswerRoom}
 use Rattle.text.specs.declared.AnswerRoom.TheVariants.{NotLent}
 use Rattle.text.specs.Hex.{is_digit, digit_value, digit_of}
@@ -109,7 +109,7 @@ module _ (fr : List ℕ) (n : ℕ) (bytes : Bytes fr) where
 
   -- and are accepted where they fit
   pub read-written : (limit f : ℕ) → n ≤ most_frames limit → 16 * n ≤ f → read_text limit (text_of fr n) f NotLent
-      ≡ Accepted n
+      ≡ Ok n
   read-written limit f m fits =
       (accepted-when limit (text_of fr n) f NotLent n).1
       (record {

@@ -11,10 +11,9 @@ ghost use Rattle.text.specs.Lines.{line_ok, line_count, frame_byte, decoded};
 ghost use Rattle.text.specs.Reading.{answer_frames, too_short, most_frames, read_text, frames_read};
 ghost use Rattle.answers.specs.Limit.{max_frames, max_text_bytes};
 
-use answers::{MAX_FRAMES, Outcome};
+use answers::{FileError, MAX_FRAMES, Outcome};
 use frames::{frame_at, put_frame};
 use ir::numbers::is_compose;
-use scan::Found;
 use text::AnswerRoom;
 
 // Tested without a branch, since every character of a file passes here.
@@ -43,10 +42,8 @@ fn line_ok(text: &[u8], k: usize) -> bool
         return false;
     }
     let mut ok = true;
-    let mut j = 0;
-    while j < 32 {
+    for j in 0..32 {
         ok = ok & is_digit(text[33 * k + j]);
-        j += 1;
     }
     ok & (text[33 * k + 32] == 10)
 }
@@ -59,19 +56,11 @@ fn line_count(text: &[u8]) -> usize
 }
 
 // The lowest torn line.
-fn first_torn(text: &[u8]) -> Found
+fn first_torn(text: &[u8]) -> Option<usize>
     ensures { result ≡ lowest (line_ok text.now) (line_count text.now) }
 {
     let n = line_count(text);
-    let mut k = 0;
-    while k < n {
-        if line_ok(text, k) {
-            k += 1;
-        } else {
-            return Found::At(k);
-        }
-    }
-    Found::Nothing
+    (0..n).find(|k| !line_ok(text, *k))
 }
 
 // Byte j of the frame that line k stands for.
@@ -101,14 +90,12 @@ fn line_answers(text: &[u8], k: usize) -> usize
 
 // How many answer frames the first n lines ask for.
 fn answer_frames(text: &[u8], n: usize) -> usize
-    requires { (lowest (line_ok text.now) n ≡ Found.Nothing) × (n ≤ max_frames) }
+    requires { (lowest (line_ok text.now) n ≡ None) × (n ≤ max_frames) }
     ensures { (result ≡ sum_below (answer_frames text.now) n) × (result ≤ 2 * n) }
 {
     let mut sum = 0;
-    let mut k = 0;
-    while k < n {
+    for k in 0..n {
         sum += line_answers(text, k);
-        k += 1;
     }
     sum
 }
@@ -116,7 +103,7 @@ fn answer_frames(text: &[u8], n: usize) -> usize
 // Whether a lent buffer is too small for the text. The frame buffer has f bytes.
 #[tactic(auto, unfolding(text::specs::Reading::too_short))]
 fn too_short(text: &[u8], f: usize, room: AnswerRoom) -> bool
-    requires { (lowest (line_ok text.now) (line_count text.now) ≡ Found.Nothing)
+    requires { (lowest (line_ok text.now) (line_count text.now) ≡ None)
         × (length text.now ≤ max_text_bytes) }
     ensures { result ≡ too_short text.now f room }
 {
@@ -135,40 +122,33 @@ fn decode_line(text: &[u8], k: usize, line: &mut [u8])
     requires { (line_ok text.now k ≡ true) × (33 * k + 33 ≤ length text.now) × (length line.old ≡ 16) }
     ensures { line.new ≡ build (frame_byte text.now k) 16 }
 {
-    let mut j = 0;
-    while j < 16 {
+    for j in 0..16 {
         line[j] = frame_byte(text, k, j);
-        j += 1;
     }
 }
 
 // Writes the frames of the first n lines. A line's bytes are put at once, which compiles to far fewer instructions than
 // to put each as it is made.
 fn decode(text: &[u8], frames: &mut [u8], n: usize)
-    requires { (lowest (line_ok text.now) n ≡ Found.Nothing) × (16 * n ≤ length frames.old) }
+    requires { (lowest (line_ok text.now) n ≡ None) × (16 * n ≤ length frames.old) }
     ensures { frames.new ≡ decoded text.now n ++ drop (16 * n) frames.old }
 {
     let mut line = [0u8; 16];
-    let mut k = 0;
-    while k < n {
+    for k in 0..n {
         decode_line(text, k, &mut line);
         put_frame(frames, k, frame_at(&line, 0));
-        k += 1;
     }
 }
 
 // The limit of frames that holds.
+#[tactic(auto, unfolding(text::specs::Reading::most_frames))]
 pub fn most(limit: u32) -> usize
     ensures { (result ≡ most_frames limit) × (result ≤ max_frames) }
 {
     if limit == 0 {
         return MAX_FRAMES;
     }
-    if MAX_FRAMES < limit as usize {
-        MAX_FRAMES
-    } else {
-        limit as usize
-    }
+    MAX_FRAMES.min(limit as usize)
 }
 
 // Checks 1 to 3, and where they pass the frames, at the front of the frame buffer. Numbers 1 to 3 change no buffer.
@@ -179,18 +159,18 @@ pub fn read_text(text: &[u8], limit: u32, frames: &mut [u8], room: AnswerRoom) -
 {
     let m = most(limit);
     if 33 * m < text.len() {
-        return Outcome::Long { limit: m as u16 };
+        return Err(FileError::Long { limit: m as u16 });
     }
     let torn = first_torn(text);
     match torn {
-        Found::At(k) => Outcome::Torn { line: k as u16 },
-        Found::Nothing => {
+        Some(k) => Err(FileError::Torn { line: k as u16 }),
+        None => {
             if too_short(text, frames.len(), room) {
-                return Outcome::Short;
+                return Err(FileError::Short);
             }
             let n = line_count(text);
             decode(text, frames, n);
-            Outcome::Accepted { frames: n }
+            Ok(n)
         }
     }
 }

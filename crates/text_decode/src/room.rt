@@ -3,27 +3,23 @@ ghost use Rattle.std.specs.Prelude.{◌≡◌};
 ghost use Rattle.text.specs.Room.{or_short, short_read};
 
 use super::read_text;
-use answers::Outcome;
+use answers::{FileError, Outcome};
 use text::AnswerRoom;
 
 // Number 1 or 2, else 3.
-fn or_short(o: Outcome) -> Outcome
+fn or_short(o: Outcome) -> FileError
     ensures { result ≡ or_short o }
 {
     match o {
-        Outcome::Accepted { frames: _ } => Outcome::Short,
-        Outcome::Long { limit } => Outcome::Long { limit },
-        Outcome::Torn { line } => Outcome::Torn { line },
-        Outcome::Short => Outcome::Short,
-        Outcome::Order { frame: _ } => Outcome::Short,
-        Outcome::Field { frame: _ } => Outcome::Short,
-        Outcome::Index { frame: _ } => Outcome::Short,
+        Err(FileError::Long { limit }) => FileError::Long { limit },
+        Err(FileError::Torn { line }) => FileError::Torn { line },
+        _ => FileError::Short,
     }
 }
 
-// What reading gives then: numbers 1 and 2 are the text's whatever is lent, so nothing is lent here.
+// Why reading refuses the text then: numbers 1 and 2 are the text's whatever is lent, so nothing is lent here.
 #[tactic(auto, unfolding(text::specs::Room::short_read))]
-pub fn short_read(text: &[u8], limit: u32) -> Outcome
+pub fn short_read(text: &[u8], limit: u32) -> FileError
     ensures { result ≡ short_read limit text.now }
 {
     let mut none = [0u8; 0];

@@ -19,17 +19,13 @@ fn encode(frames: &[u8], text: &mut [u8], n: usize)
     requires { (16 * n ≤ length frames.now) × (33 * n ≤ length text.old) }
     ensures { text.new ≡ text_of frames.now n ++ drop (33 * n) text.old }
 {
-    let mut k = 0;
-    'lines: while k < n {
-        let mut j = 0;
-        'digits: while j < 16 {
+    'lines: for k in 0..n {
+        'digits: for j in 0..16 {
             let b = frames[16 * k + j];
             text[33 * k + 2 * j] = digit(b / 16);
             text[33 * k + 2 * j + 1] = digit(b % 16);
-            j += 1;
         }
         text[33 * k + 32] = 10;
-        k += 1;
     }
 }
 
@@ -38,13 +34,7 @@ pub fn write_text(frames: &[u8], text: &mut [u8]) -> usize
     ensures outcome { result ≡ min (length frames.now / 16) (length text.old / 33) }
     ensures text { text.new ≡ text_of frames.now result ++ drop (33 * result) text.old }
 {
-    let whole = frames.len() / 16;
-    let room = text.len() / 33;
-    if whole < room {
-        encode(frames, text, whole);
-        whole
-    } else {
-        encode(frames, text, room);
-        room
-    }
+    let n = (frames.len() / 16).min(text.len() / 33);
+    encode(frames, text, n);
+    n
 }

@@ -8,8 +8,8 @@ ghost use Rattle.rule.specs.Answers.{resolved};
 use super::forms::form_of;
 use archive::Starts;
 use archive_access::families::type_at;
-use ir::{AddressSpace, OptionVectorSize, TypeForm, TypeInner, TypeResolution};
-use rule_types::{CanonicalForm, OptionBool};
+use ir::{AddressSpace, TypeInner, TypeResolution};
+use rule_types::CanonicalForm;
 
 fn is_atomic(t: TypeInner) -> bool
     ensures { result ≡ is_atomic t }
@@ -20,22 +20,22 @@ fn is_atomic(t: TypeInner) -> bool
     }
 }
 
-fn is_atomic_form(form: TypeForm) -> OptionBool
+fn is_atomic_form(form: Option<TypeInner>) -> Option<bool>
     ensures { result ≡ is_atomic_form form }
 {
     match form {
-        TypeForm::Known(t) => OptionBool::Some(is_atomic(t)),
-        TypeForm::Unknown => OptionBool::None,
+        Some(t) => Some(is_atomic(t)),
+        None => None,
     }
 }
 
 // Whether a type is a pointer to an atomic; none where its base is of unknown kind.
-pub fn is_atomic_pointer(t: TypeInner, frames: &[u8], s: Starts) -> OptionBool
+pub fn is_atomic_pointer(t: TypeInner, frames: &[u8], s: Starts) -> Option<bool>
     ensures { result ≡ is_atomic_pointer frames.now s t }
 {
     match t {
         TypeInner::Pointer { base, space: _ } => is_atomic_form(type_at(frames, s, base)),
-        _ => OptionBool::Some(false),
+        _ => Some(false),
     }
 }
 
@@ -45,12 +45,12 @@ fn value_pointer(space: AddressSpace, base: TypeInner) -> CanonicalForm
 {
     match base {
         TypeInner::Scalar(scalar) => CanonicalForm::Some(TypeInner::ValuePointer {
-            size: OptionVectorSize::None,
+            size: None,
             scalar,
             space,
         }),
         TypeInner::Vector { size, scalar } => CanonicalForm::Some(TypeInner::ValuePointer {
-            size: OptionVectorSize::Some(size),
+            size: Some(size),
             scalar,
             space,
         }),
@@ -58,12 +58,12 @@ fn value_pointer(space: AddressSpace, base: TypeInner) -> CanonicalForm
     }
 }
 
-fn through_base(space: AddressSpace, base: TypeForm) -> CanonicalForm
+fn through_base(space: AddressSpace, base: Option<TypeInner>) -> CanonicalForm
     ensures { result ≡ through_base space base }
 {
     match base {
-        TypeForm::Known(t) => value_pointer(space, t),
-        TypeForm::Unknown => CanonicalForm::Newer,
+        Some(t) => value_pointer(space, t),
+        None => CanonicalForm::Newer,
     }
 }
 
@@ -77,27 +77,27 @@ pub fn canonical_form(t: TypeInner, frames: &[u8], s: Starts) -> CanonicalForm
     }
 }
 
-fn or_self(t: TypeInner, form: CanonicalForm) -> TypeForm
+fn or_self(t: TypeInner, form: CanonicalForm) -> Option<TypeInner>
     ensures { result ≡ or_self t form }
 {
     match form {
-        CanonicalForm::None => TypeForm::Known(t),
-        CanonicalForm::Some(u) => TypeForm::Known(u),
-        CanonicalForm::Newer => TypeForm::Unknown,
+        CanonicalForm::None => Some(t),
+        CanonicalForm::Some(u) => Some(u),
+        CanonicalForm::Newer => None,
     }
 }
 
-fn canonical_through(frames: &[u8], s: Starts, form: TypeForm) -> TypeForm
+fn canonical_through(frames: &[u8], s: Starts, form: Option<TypeInner>) -> Option<TypeInner>
     ensures { result ≡ canonical_through frames.now s form }
 {
     match form {
-        TypeForm::Known(t) => or_self(t, canonical_form(t, frames, s)),
-        TypeForm::Unknown => TypeForm::Unknown,
+        Some(t) => or_self(t, canonical_form(t, frames, s)),
+        None => None,
     }
 }
 
 // The canonical form of an answer.
-pub fn canonical_of(frames: &[u8], s: Starts, t: TypeResolution) -> TypeForm
+pub fn canonical_of(frames: &[u8], s: Starts, t: TypeResolution) -> Option<TypeInner>
     ensures { result ≡ canonical_of frames.now s (resolved t) }
 {
     canonical_through(frames, s, form_of(frames, s, t))

@@ -7,11 +7,9 @@ ghost use Rattle.rule_types.specs.Comparison.{compare, given};
 ghost use Rattle.rule_types.specs.ForProofs.{optional, found, by_forms};
 
 use super::canonical::canonical_of;
-use super::equality::{equal_types, identical};
 use archive::Starts;
 use archive_access::families::type_at;
-use ir::{TypeForm, TypeInner, TypeResolution};
-use rule_types::OptionBool;
+use ir::{TypeInner, TypeResolution};
 
 fn is_struct_inner(t: TypeInner) -> bool
     ensures { result ≡ is_struct_inner t }
@@ -26,12 +24,12 @@ fn is_struct_inner(t: TypeInner) -> bool
     }
 }
 
-fn is_struct_form(form: TypeForm) -> bool
+fn is_struct_form(form: Option<TypeInner>) -> bool
     ensures { result ≡ is_struct_form form }
 {
     match form {
-        TypeForm::Known(t) => is_struct_inner(t),
-        TypeForm::Unknown => false,
+        Some(t) => is_struct_inner(t),
+        None => false,
     }
 }
 
@@ -45,34 +43,36 @@ pub fn is_struct(frames: &[u8], s: Starts, t: TypeResolution) -> bool
     }
 }
 
-fn to_right(t: TypeInner, right: TypeForm) -> OptionBool
-    ensures { result ≡ found (by_forms (TypeForm.Known t) right) }
+#[tactic(auto, using(rule_types::proofs::Derived::types_equal))]
+fn to_right(t: TypeInner, right: Option<TypeInner>) -> Option<bool>
+    ensures { result ≡ found (by_forms (Some t) right) }
 {
     match right {
-        TypeForm::Known(u) => OptionBool::Some(equal_types(t, u)),
-        TypeForm::Unknown => OptionBool::None,
+        Some(u) => Some(t == u),
+        None => None,
     }
 }
 
-fn by_forms(left: TypeForm, right: TypeForm) -> OptionBool
+fn by_forms(left: Option<TypeInner>, right: Option<TypeInner>) -> Option<bool>
     ensures { result ≡ found (by_forms left right) }
 {
     match left {
-        TypeForm::Known(t) => to_right(t, right),
-        TypeForm::Unknown => OptionBool::None,
+        Some(t) => to_right(t, right),
+        None => None,
     }
 }
 
 // Whether two types are the same: identical ones are, the number of a struct is no other type, else canonical forms are
 // compared.
-pub fn compare_types(frames: &[u8], s: Starts, a: TypeResolution, b: TypeResolution) -> OptionBool
+#[tactic(auto, using(rule_types::proofs::Derived::resolutions_equal))]
+pub fn compare_types(frames: &[u8], s: Starts, a: TypeResolution, b: TypeResolution) -> Option<bool>
     ensures { result ≡ optional (given frames.now s (compare nowhere (resolved a) (resolved b) done)) }
 {
-    if identical(a, b) {
-        OptionBool::Some(true)
+    if a == b {
+        Some(true)
     } else {
         if is_struct(frames, s, a) | is_struct(frames, s, b) {
-            OptionBool::Some(false)
+            Some(false)
         } else {
             by_forms(canonical_of(frames, s, a), canonical_of(frames, s, b))
         }

@@ -9,9 +9,7 @@ use archive::Starts;
 use archive_access::families::{is_type, size_names, type_at};
 use check_fields::types::{number_fits, type_fits};
 use frames::Frame;
-use ir::{
-    ArraySize, OptionTypeResolution, TypeForm, TypeInner, TypeKind, TypeNumber, TypeResolution,
-};
+use ir::{ArraySize, TypeInner, TypeKind, TypeNumber, TypeResolution};
 use rule::Fault;
 
 // A constant count is at least 1.
@@ -76,18 +74,18 @@ pub fn fault_of(s: Starts, t: TypeResolution) -> Fault
     }
 }
 
-fn sound_form(t: TypeInner, fault: Fault) -> TypeForm
+fn sound_form(t: TypeInner, fault: Fault) -> Option<TypeInner>
     ensures { result ≡ sound_form t fault }
 {
     match fault {
-        Fault::Sound => TypeForm::Known(t),
-        Fault::Field => TypeForm::Unknown,
-        Fault::Index => TypeForm::Unknown,
+        Fault::Sound => Some(t),
+        Fault::Field => None,
+        Fault::Index => None,
     }
 }
 
 // The form of a type that is looked into.
-pub fn form_of(frames: &[u8], s: Starts, t: TypeResolution) -> TypeForm
+pub fn form_of(frames: &[u8], s: Starts, t: TypeResolution) -> Option<TypeInner>
     ensures { result ≡ form_in frames.now s (resolved t) }
 {
     match t {
@@ -97,12 +95,12 @@ pub fn form_of(frames: &[u8], s: Starts, t: TypeResolution) -> TypeForm
 }
 
 // A value; the frame stands for itself where its kind is unknown.
-fn valued(f: Frame, form: TypeForm) -> OptionTypeResolution
+fn valued(f: Frame, form: Option<TypeInner>) -> Option<TypeResolution>
     ensures { result ≡ resolution (valued f form) }
 {
     match form {
-        TypeForm::Known(t) => OptionTypeResolution::Some(TypeResolution::Value(t)),
-        TypeForm::Unknown => OptionTypeResolution::None,
+        Some(t) => Some(TypeResolution::Value(t)),
+        None => None,
     }
 }
 
@@ -117,19 +115,19 @@ fn is_number(f: Frame) -> bool
 fn is_value(f: Frame) -> bool
     ensures { result ≡ is_value f }
 {
-    (f.b0 == 9) & type_fits(TypeKind::from_number(f.b1), f)
+    (f.b0 == 9) & type_fits(TypeKind::from(f.b1), f)
 }
 
 // The type that a frame of family 8 or 9 stands for; every byte counts.
-pub fn type_answer(f: Frame) -> OptionTypeResolution
+pub fn type_answer(f: Frame) -> Option<TypeResolution>
     ensures { result ≡ resolution (type_answer_of f) }
 {
     if is_number(f) {
         let n = f.named();
-        OptionTypeResolution::Some(TypeResolution::Handle(TypeNumber(n)))
+        Some(TypeResolution::Handle(TypeNumber(n)))
     } else if is_value(f) {
         valued(f, f.type_form())
     } else {
-        OptionTypeResolution::None
+        None
     }
 }

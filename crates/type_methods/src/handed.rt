@@ -6,25 +6,18 @@ ghost use Rattle.rule_types.specs.ForProofs.{said_of};
 
 use super::compare::compare_types;
 use super::forms::{fault_of, type_answer};
-use answers::Sameness;
+use answers::{CompareError, Sameness};
 use archive::Starts;
 use frames::Frame;
-use ir::{OptionTypeResolution, TypeResolution};
+use ir::TypeResolution;
 use rule::Fault;
-use rule_types::OptionBool;
 
-fn said_of(same: OptionBool) -> Sameness
+fn said_of(same: Option<bool>) -> Sameness
     ensures { result ≡ said_of same }
 {
     match same {
-        OptionBool::None => Sameness::Newer,
-        OptionBool::Some(b) => {
-            if b {
-                Sameness::Same
-            } else {
-                Sameness::Different
-            }
-        }
+        None => Err(CompareError::Newer),
+        Some(b) => { if b { Ok(true) } else { Ok(false) } }
     }
 }
 
@@ -34,8 +27,8 @@ fn right_tested(frames: &[u8], s: Starts, a: TypeResolution, b: TypeResolution) 
 {
     match fault_of(s, b) {
         Fault::Sound => said_of(compare_types(frames, s, a, b)),
-        Fault::Field => Sameness::Field,
-        Fault::Index => Sameness::Index,
+        Fault::Field => Err(CompareError::Field),
+        Fault::Index => Err(CompareError::Index),
     }
 }
 
@@ -43,8 +36,8 @@ fn right_frame(frames: &[u8], s: Starts, a: TypeResolution, right: Frame) -> Sam
     ensures { result ≡ sameness_of (given frames.now s (right_tested (resolved a) (type_answer_of right))) }
 {
     match type_answer(right) {
-        OptionTypeResolution::None => Sameness::Field,
-        OptionTypeResolution::Some(b) => right_tested(frames, s, a, b),
+        None => Err(CompareError::Field),
+        Some(b) => right_tested(frames, s, a, b),
     }
 }
 
@@ -54,8 +47,8 @@ fn left_tested(frames: &[u8], s: Starts, a: TypeResolution, right: Frame) -> Sam
 {
     match fault_of(s, a) {
         Fault::Sound => right_frame(frames, s, a, right),
-        Fault::Field => Sameness::Field,
-        Fault::Index => Sameness::Index,
+        Fault::Field => Err(CompareError::Field),
+        Fault::Index => Err(CompareError::Index),
     }
 }
 
@@ -65,7 +58,7 @@ pub fn same_type(frames: &[u8], s: Starts, left: Frame, right: Frame) -> Samenes
     ensures { result ≡ sameness_of (same_in frames.now s left right) }
 {
     match type_answer(left) {
-        OptionTypeResolution::None => Sameness::Field,
-        OptionTypeResolution::Some(a) => left_tested(frames, s, a, right),
+        None => Err(CompareError::Field),
+        Some(a) => left_tested(frames, s, a, right),
     }
 }

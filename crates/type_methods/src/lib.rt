@@ -7,6 +7,5 @@
 pub mod by_number;
 pub mod canonical;
 pub mod compare;
-pub mod equality;
 pub mod forms;
 pub mod handed;

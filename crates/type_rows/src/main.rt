@@ -4,31 +4,22 @@
 // byte over the longest file; its buffer for lines has room for any file's.
 #![tactic(auto)]
 
-use answers::{MAX_LINE_BYTES, MAX_TEXT_BYTES, Printed};
+use answers::MAX_LINE_BYTES;
 use file_lines::type_text;
 use program_limit::Asked;
 use program_limit::arguments::asked;
-use program_limit::input::read_full;
+use program_limit::input::{print_lines, run_on_input};
 use rule_rows::Pass;
 use std::io;
 
-fn print_types<R: Input + Print>(rt: &R, limit: u32, pass: Pass) -> io::Result<()> {
-    let mut text = [0u8; MAX_TEXT_BYTES + 1];
-    let n = read_full(&mut rt.reader(), &mut text)?;
-    let mut lines = [0u8; MAX_LINE_BYTES];
-    if let Printed::Bytes(m) = type_text(&text[..n], limit, pass, &mut lines) {
-        rt.write_all(&lines[..m])?;
-    }
-    Ok(())
+fn print_types(rt: &impl Print, text: &[u8], limit: u32, pass: Pass) -> io::Result<()> {
+    print_lines::<MAX_LINE_BYTES, _, _>(rt, |lines| type_text(text, limit, pass, lines))
 }
 
 fn main(rt: HostRuntime) -> io::Result<()> {
-    if let Asked::Within { limit, wgsl } = asked(&rt)? {
-        if wgsl {
-            print_types(&rt, limit, Pass::Second)?;
-        } else {
-            print_types(&rt, limit, Pass::First)?;
-        }
+    if let Some(Asked { limit, wgsl }) = asked(&rt)? {
+        let pass = if wgsl { Pass::Second } else { Pass::First };
+        run_on_input(&rt, |text| print_types(&rt, text, limit, pass))?;
     }
     Ok(())
 }

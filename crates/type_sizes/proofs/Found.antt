@@ -1,16 +1,16 @@
 -- What is found of a type by what it needs is its measure, and a table keeps it. The members of a struct, one more at
 -- each turn, stand for the exact ones, so the struct is the exact one.
-use Prim.Native.Nat.{ℕ, ◌<◌, ◌≤◌, ◌+◌}
+use Rattle.std.specs.Prelude.{Option}
+use Rattle.ir.specs.declared.TypeInner.{TypeInner}
+use Prim.Native.Nat.{ℕ, ◌<◌, ◌+◌}
 use native.Mathlib.Numerals.{add-one}
 use mathlib.Core.Path.{◌≡◌, sym, ap, ◌∙◌}
 use mathlib.Core.Bool.{Bool, true, false}
 use mathlib.Core.List.{List}
-use lib.ListN.{length}
 use borrow.Author.Tests.{ne_eqb}
 use Rattle.ir.specs.declared.TypeNumber.{TypeNumber}
 use Rattle.ir.specs.declared.MemberNumber.{MemberNumber}
 use Rattle.ir.specs.declared.StructMember.{StructMember}
-use Rattle.ir.specs.declared.TypeForm.{TypeForm}
 use Rattle.frames.specs.declared.Frame.{Frame}
 use Rattle.frames.specs.Bytes.{frame_at, put_frame}
 use Rattle.archive.specs.declared.Starts.{Starts}
@@ -36,10 +36,8 @@ use Rattle.size_needs.specs.Needs.{needs_of, by_needs}
 use Rattle.size_needs.proofs.Measured.{by-needs}
 
 -- after i members
-pub record Turn (fr : List ℕ) (s : Starts) (marks : List Bool) (counts before : List ℕ) (n : TypeNumber)
-    (first : MemberNumber) (count : ℕ) (afresh : Bool) (table : List ℕ) (so_far : SoFar) (i : ℕ) : Type 0 where
-  pub few : i ≤ count
-  pub long : length table ≡ length before
+pub record Turn (fr : List ℕ) (s : Starts) (marks : List Bool) (counts : List ℕ) (n : TypeNumber)
+    (first : MemberNumber) (afresh : Bool) (table : List ℕ) (so_far : SoFar) (i : ℕ) : Type 0 where
   pub like : Like afresh (parts_by afresh fr s (earlier fr s marks counts n) first i) so_far
   pub known : KnownMarked fr s marks counts table
 
@@ -79,7 +77,7 @@ module _ (fr : List ℕ) (s : Starts) (marks : List Bool) (counts : List ℕ) wh
   held t n f k e h = rw e (k n.0 (ne_eqb _ 0 (λ z. h (ap (λ (x : Frame). x.b0) e ∙ z))))
 
   -- what is found by needs d
-  found : (n : TypeNumber) (m : Measure) (x : TypeForm) (d : Needs)
+  found : (n : TypeNumber) (m : Measure) (x : Option TypeInner) (d : Needs)
       → m ≡ by_needs fr s (earlier fr s marks counts n) n d → d ≡ needs_of (look_holds marks) (counts_of counts) n x
       → x ≡ type_in fr s n → m ≡ measure_marked fr s marks counts n
   unfolding measure_by
@@ -89,7 +87,7 @@ module _ (fr : List ℕ) (s : Starts) (marks : List Bool) (counts : List ℕ) wh
       ∙ ap (form_by fr s (look_holds marks) (counts_of counts) (earlier fr s marks counts n) n) e
 
   -- and kept: r is handed back, and table t is u then
-  pub found-kept : (t u : List ℕ) (n : TypeNumber) (m r : Measure) (x : TypeForm) (d : Needs)
+  pub found-kept : (t u : List ℕ) (n : TypeNumber) (m r : Measure) (x : Option TypeInner) (d : Needs)
       → KnownMarked fr s marks counts t → m ≡ by_needs fr s (earlier fr s marks counts n) n d
       → d ≡ needs_of (look_holds marks) (counts_of counts) n x → x ≡ type_in fr s n
       → (r ≡ m) × (u ≡ put_frame t n.0 (measure_frame m))

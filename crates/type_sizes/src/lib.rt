@@ -12,7 +12,7 @@ ghost use Rattle.size_steps.specs.Exact.{Like};
 ghost use Rattle.rule_ranges.specs.Ranges.{measure_marked};
 ghost use Rattle.rule_ranges.specs.ForProofs.{earlier, KnownMarked, parts_by};
 
-use answers::MAX_FRAMES;
+use answers::{MAX_FRAMES, QueryError};
 use archive::Starts;
 use archive_access::families::{is_type, member_at, type_at};
 use frames::{frame_at, put_frame};
@@ -72,13 +72,11 @@ fn parts(
         end: 0,
         placed: true,
     };
-    let mut i = 0u16;
-    while i < count {
+    for i in 0..count {
         let m = member_at(frames, s, first, i as u32);
         let t = m.ty;
         let e = part(frames, s, marks, counts, table, n, t);
         so_far = member_more(afresh, so_far, m.offset, e);
-        i += 1;
     }
     so_far
 }
@@ -144,10 +142,8 @@ pub fn measure_marked(
     ensures { result ≡ measure_marked frames.now s marks.now counts.now n }
 {
     let mut table = [0u8; 16384];
-    let mut k = 0u16;
-    while k < n.0 {
+    for k in 0..n.0 {
         measured(frames, s, marks, counts, &mut table, TypeNumber(k));
-        k += 1;
     }
     measured(frames, s, marks, counts, &mut table, n)
 }
@@ -176,11 +172,9 @@ pub fn measure_all(frames: &[u8], s: Starts, out: &mut [u8])
     let marks = [false; 0];
     let counts = [0u32; 0];
     let mut table = [0u8; 16384];
-    let mut k = 0;
-    while k < n {
+    for k in 0..n {
         let m = measured(frames, s, &marks, &counts, &mut table, TypeNumber(k as u16));
         put_frame(out, k, measure_frame(m));
-        k += 1;
     }
 }
 
@@ -190,9 +184,9 @@ pub fn type_size(frames: &[u8], s: Starts, n: TypeNumber) -> TypeSize
     ensures { result ≡ type_size_in frames.now s n }
 {
     if is_type(s, n) {
-        TypeSize::Measured(measure(frames, s, n))
+        Ok(measure(frames, s, n))
     } else {
-        TypeSize::Index
+        Err(QueryError::Index)
     }
 }
 
@@ -252,12 +246,10 @@ pub fn range_all(frames: &[u8], s: Starts, least: &[u32], greatest: &[u32], out:
     let marks = pending_marks(frames, s);
     let mut lows = [0u8; 16384];
     let mut highs = [0u8; 16384];
-    let mut k = 0;
-    while k < n {
+    for k in 0..n {
         let t = TypeNumber(k as u16);
         let small = measured(frames, s, &marks, least, &mut lows, t);
         let large = measured(frames, s, &marks, greatest, &mut highs, t);
         put_frame(out, k, range_frame(range_of(small, large)));
-        k += 1;
     }
 }

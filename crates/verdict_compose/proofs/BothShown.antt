@@ -1,6 +1,7 @@
 -- What both frames show: where the frames of a part's type and of a component's show a form, the comparison is that of
 -- the two forms, since each is its own canonical form and no struct's. By the cases of the answer's family and of the
 -- kind.
+use Rattle.std.specs.Prelude.{Some, None}
 use Prim.Native.Nat.{ℕ, ◌+◌, ◌*◌, ◌/◌, ◌%◌}
 use native.Mathlib.Omega.{arith}
 use mathlib.Core.Path.{◌≡◌, refl, sym, ap, subst, ◌∙◌}
@@ -12,7 +13,6 @@ use borrow.Author.Tests.{eqb-true}
 use Rattle.ir.specs.declared.TypeNumber.{TypeNumber}
 use Rattle.ir.specs.declared.TypeInner.{TypeInner}
 use Rattle.ir.specs.declared.TypeInner.TheVariants as Ti
-use Rattle.ir.specs.declared.TypeForm.TheVariants as Tf
 use Rattle.frames.specs.declared.Frame.{Frame}
 use Rattle.frames.specs.Bytes.{byte, half, zero_frame}
 use Rattle.frames.specs.Forms.{type_of}
@@ -50,7 +50,7 @@ value-number (Ti.AccelerationStructure q) e = absurd (omega (arith, e))
 value-number (Ti.RayQuery q) e = absurd (omega (arith, e))
 value-number (Ti.BindingArray b z) e = absurd (omega (arith, e))
 
-zero-shown : (t : TypeInner) → plain_of zero_frame ≡ Tf.Known t → ⊥
+zero-shown : (t : TypeInner) → plain_of zero_frame ≡ Some t → ⊥
 unfolding plain_of
 zero-shown t e = never (cc)
 
@@ -58,17 +58,17 @@ module _ (fr : List ℕ) (s : Starts) where
   record Own (t : TypeInner) : Type 0 where
     pub sound : value_fault s t ≡ Fa.Sound
     pub unnamed : is_struct_inner t ≡ false
-    pub own : or_self t (canonical_form_in fr s t) ≡ Tf.Known t
+    pub own : or_self t (canonical_form_in fr s t) ≡ Some t
 
-  own-kind : (f : Frame) (t : TypeInner) → plain_of f ≡ Tf.Known t → Own t
+  own-kind : (f : Frame) (t : TypeInner) → plain_of f ≡ Some t → Own t
   unfolding plain_of
   own-kind f t e = go (eqb (byte f 1) 1) (eqb (byte f 1) 2) (eqb (byte f 1) 3) (eqb (byte f 1) 4) refl refl refl refl e
     where
-      of-form : (u : TypeInner) → type_of f ≡ Tf.Known u → type_of f ≡ Tf.Known t → Own u → Own t
-      of-form u p q w = subst Own (let h : Tf.Known u ≡ Tf.Known t = sym p ∙ q in cc) w
+      of-form : (u : TypeInner) → type_of f ≡ Some u → type_of f ≡ Some t → Own u → Own t
+      of-form u p q w = subst Own (let h : Some u ≡ Some t = sym p ∙ q in cc) w
 
       go : (x y z v : Bool) → eqb (byte f 1) 1 ≡ x → eqb (byte f 1) 2 ≡ y → eqb (byte f 1) 3 ≡ z → eqb (byte f 1) 4 ≡ v
-          → cond (x || (y || (z || v))) (type_of f) Tf.Unknown ≡ Tf.Known t → Own t
+          → cond (x || (y || (z || v))) (type_of f) None ≡ Some t → Own t
       go true y z v p q r o h = of-form _ (scalar-form f (eqb-true _ _ p)) h
           (record { sound = refl; unnamed = refl; own = refl })
       go false true z v p q r o h = of-form _ (vector-form f (eqb-true _ _ q)) h
@@ -80,7 +80,7 @@ module _ (fr : List ℕ) (s : Starts) where
       go false false false false p q r o h = never (cc)
 
   -- two numbers: where they are one, the forms are the same
-  like-numbers : (n m : TypeNumber) (t u : TypeInner) → type_in fr s n ≡ Tf.Known t → type_in fr s m ≡ Tf.Known u
+  like-numbers : (n m : TypeNumber) (t u : TypeInner) → type_in fr s n ≡ Some t → type_in fr s m ≡ Some u
       → Own t
       → Own u
       → likeness fr s (number n) (number m) ≡ some (equal_types t u)
@@ -94,13 +94,13 @@ module _ (fr : List ℕ) (s : Starts) where
           let a : n.0 % 256 + n.0 / 256 * 256 ≡ m.0 % 256 + m.0 / 256 * 256 =
           ap (λ (f : Frame). half f 2) ((identical-frames (number n) (number m)).0 e) in
           let b : n.0 ≡ m.0 = omega (arith, a) in
-          let c : Tf.Known t ≡ Tf.Known u = sym p ∙ ap (λ (k : ℕ). type_in fr s (record { 0 = k })) b ∙ q in
+          let c : Some t ≡ Some u = sym p ∙ ap (λ (k : ℕ). type_in fr s (record { 0 = k })) b ∙ q in
           let d : t ≡ u = cc in
           ap some (sym ((equal-types t u).1 d))
       go false e = rw (p, q, v.unnamed, w.unnamed, v.own, w.own)
 
   -- a number and a value, which are never one answer
-  like-values : (n : TypeNumber) (t u : TypeInner) → type_in fr s n ≡ Tf.Known t → Own t → Own u
+  like-values : (n : TypeNumber) (t u : TypeInner) → type_in fr s n ≡ Some t → Own t → Own u
       → likeness fr s (number n) (value u) ≡ some (equal_types t u)
   like-values n t u p v w = go (identical (number n) (value u)) refl
     where
@@ -111,21 +111,21 @@ module _ (fr : List ℕ) (s : Starts) where
       go true e = value-number u (ap (λ (f : Frame). byte f 0) ((identical-frames (number n) (value u)).0 e))
       go false e = rw (p, v.unnamed, w.sound, v.own, w.own)
 
-  pub both-shown : (n : TypeNumber) (i : ℕ) (f : Frame) (t u : TypeInner) → plain_of (type_frame_in fr s n) ≡ Tf.Known t
-      → plain_of (typed_frame fr s f) ≡ Tf.Known u
+  pub both-shown : (n : TypeNumber) (i : ℕ) (f : Frame) (t u : TypeInner) → plain_of (type_frame_in fr s n) ≡ Some t
+      → plain_of (typed_frame fr s f) ≡ Some u
       → answer_decides i (λ x. like_decides i (likeness fr s (number n) (resolved x))) (answer_of f)
       ≡ like_decides i (some (equal_types t u))
   unfolding answer_of
   both-shown n i f t u e h = go (eqb (byte f 0) 8) (eqb (byte f 0) 9) refl refl h
     where
-      g : type_in fr s n ≡ Tf.Known t
+      g : type_in fr s n ≡ Some t
       g = type-frame fr s n ∙ (plain-shown s (type_frame_in fr s n) t e).is
 
       v : Own t
       v = own-kind (type_frame_in fr s n) t e
 
       go : (a b : Bool) → eqb (byte f 0) 8 ≡ a → eqb (byte f 0) 9 ≡ b
-          → plain_of (cond a (type_frame_in fr s (record { 0 = half f 2 })) (cond b f zero_frame)) ≡ Tf.Known u
+          → plain_of (cond a (type_frame_in fr s (record { 0 = half f 2 })) (cond b f zero_frame)) ≡ Some u
           → answer_decides i (λ x. like_decides i (likeness fr s (number n) (resolved x))) (answer_of f)
           ≡ like_decides i (some (equal_types t u))
       go true b p q k =

@@ -1,5 +1,6 @@
 -- What one component decides, for the code: by a look, by an answer without a type, by the struct's member of its
 -- index; and that in a vector it adds at most four. By the cases of its answer and of its form.
+use Rattle.std.specs.Prelude.{Option as CodeOption, Some, None, Ok, Err}
 use Prim.Native.Nat.{ℕ, zero, suc, ◌≤◌, ◌<◌}
 use native.Mathlib.Omega.{arith}
 use mathlib.Core.Path.{◌≡◌, refl, sym, ap, ◌∙◌}
@@ -16,11 +17,8 @@ use Rattle.ir.specs.Numbers.{vector_size_number}
 use Rattle.ir.specs.declared.Scalar.{Scalar}
 use Rattle.ir.specs.declared.TypeInner.{TypeInner}
 use Rattle.ir.specs.declared.TypeInner.TheVariants as Ti
-use Rattle.ir.specs.declared.TypeForm.{TypeForm}
-use Rattle.ir.specs.declared.TypeForm.TheVariants as Tf
 use Rattle.ir.specs.declared.TypeResolution.{TypeResolution}
-use Rattle.answers.specs.declared.Answer.{Answer}
-use Rattle.answers.specs.declared.Answer.TheVariants as An
+use Rattle.answers.specs.Answer.{Answer}
 use Rattle.answers.specs.declared.Unresolved.{Unresolved}
 use Rattle.answers.specs.declared.Unresolved.TheVariants as Un
 use Rattle.answers.specs.ForProofs.{answered}
@@ -35,15 +33,13 @@ use Rattle.rule.specs.Things.{form_in}
 use Rattle.rule_types.specs.ForProofs.{found}
 use Rattle.ir.specs.Scalars.{equal_scalars}
 use Rattle.rule_rows.specs.ForProofs.{members_in}
-use Rattle.row_operands.specs.declared.Looked.{Looked}
-use Rattle.row_operands.specs.declared.Looked.TheVariants as Lo
+use Rattle.row_operands.specs.Looked.{Looked}
 use Rattle.row_operands.specs.Past.{looked_at, looked_by, looked_in}
 use Rattle.row_operands.specs.Plain.{past_frame}
 use Rattle.row_operands.proofs.ByFrame.{past-frame}
 use Rattle.rule_rows.specs.OverBuffer.{answer_in}
 use Rattle.rule_compose.specs.Verdict.{adds}
-use Rattle.verdict_compose.specs.declared.Decided.{Decided}
-use Rattle.verdict_compose.specs.declared.Decided.TheVariants as De
+use Rattle.verdict_compose.specs.Decided.{Decided}
 use Rattle.verdict_compose.specs.Decided.{member_type, count_decides, end_decides, answer_decides}
 use Rattle.verdict_compose.specs.Decided.{form_decides, like_decides, like_said, added_by}
 
@@ -74,39 +70,39 @@ adds-small k (Ti.AccelerationStructure q) m e = absurd (let z : ◌≡◌ {A = �
 adds-small k (Ti.RayQuery q) m e = absurd (let z : ◌≡◌ {A = ℕ} 0 1 = cc in omega arith)
 adds-small k (Ti.BindingArray b y) m e = absurd (let z : ◌≡◌ {A = ℕ} 0 1 = cc in omega arith)
 
-count_small : (i : ℕ) (o : Option ℕ) (m : ℕ) → count_decides i o ≡ De.Adds m → o ≡ some m
+count_small : (i : ℕ) (o : Option ℕ) (m : ℕ) → count_decides i o ≡ Ok m → o ≡ some m
 count_small i (some n) m e = let q : n ≡ m = cc in ap some q
 count_small i none m e = absurd (let z : ◌≡◌ {A = ℕ} 0 1 = cc in omega arith)
 
-form_small : (i : ℕ) (k : Scalar) (f : TypeForm) (m : ℕ)
-    → form_decides i (λ t. count_decides i (adds k t)) f ≡ De.Adds m
+form_small : (i : ℕ) (k : Scalar) (f : CodeOption TypeInner) (m : ℕ)
+    → form_decides i (λ t. count_decides i (adds k t)) f ≡ Ok m
     → m ≤ 4
-form_small i k (Tf.Known t) m e = adds-small k t m (count_small i (adds k t) m e)
-form_small i k Tf.Unknown m e = absurd (let z : ◌≡◌ {A = ℕ} 0 1 = cc in omega arith)
+form_small i k (Some t) m e = adds-small k t m (count_small i (adds k t) m e)
+form_small i k None m e = absurd (let z : ◌≡◌ {A = ℕ} 0 1 = cc in omega arith)
 
-pub added-small : (fr : List ℕ) (s : Starts) (k : Scalar) (i : ℕ) (a : Answer) (m : ℕ) → added_by fr s k i a ≡ De.Adds m
+pub added-small : (fr : List ℕ) (s : Starts) (k : Scalar) (i : ℕ) (a : Answer) (m : ℕ) → added_by fr s k i a ≡ Ok m
     → m ≤ 4
-added-small fr s k i (An.Resolved t) m e = form_small i k (form_in fr s (resolved t)) m e
-added-small fr s k i (An.Refused x) m e = absurd (let z : ◌≡◌ {A = ℕ} 0 1 = cc in omega arith)
-added-small fr s k i (An.Newer r) m e = absurd (let z : ◌≡◌ {A = ℕ} 0 1 = cc in omega arith)
+added-small fr s k i (Ok t) m e = form_small i k (form_in fr s (resolved t)) m e
+added-small fr s k i (Err (Un.Refused x)) m e = absurd (let z : ◌≡◌ {A = ℕ} 0 1 = cc in omega arith)
+added-small fr s k i (Err (Un.Newer r)) m e = absurd (let z : ◌≡◌ {A = ℕ} 0 1 = cc in omega arith)
 
 -- A COMPONENT LOOKED INTO, or without a type: the same as by its answer
 
 abbrev pub on_looked : {X : Type 0} → Looked → (TypeInner → X) → (Unresolved → X) → X
-on_looked (Lo.Seen t) f g = f t
-on_looked (Lo.Ended u) f g = g u
+on_looked (Ok t) f g = f t
+on_looked (Err u) f g = g u
 
 module _ (fr : List ℕ) (s : Starts) (here : RowNumber) (i : ℕ) (by : TypeInner → Decided) where
-  form-looked : (f : TypeForm) → on_looked (looked_at here f) by (end_decides i) ≡ form_decides i by f
-  form-looked (Tf.Known t) = refl
-  form-looked Tf.Unknown = refl
+  form-looked : (f : CodeOption TypeInner) → on_looked (looked_at here f) by (end_decides i) ≡ form_decides i by f
+  form-looked (Some t) = refl
+  form-looked None = refl
 
   answer-looked : (a : Answer)
       → on_looked (looked_by fr s here a) by (end_decides i)
       ≡ answer_decides i (λ t. form_decides i by (form_in fr s (resolved t))) a
-  answer-looked (An.Resolved t) = form-looked (form_in fr s (resolved t))
-  answer-looked (An.Refused e) = refl
-  answer-looked (An.Newer r) = refl
+  answer-looked (Ok t) = form-looked (form_in fr s (resolved t))
+  answer-looked (Err (Un.Refused e)) = refl
+  answer-looked (Err (Un.Newer r)) = refl
 
   pub looked-is : (an pl : List ℕ) (n : RowNumber) {l : Looked} → looked_in fr s an pl here n ≡ l
       → on_looked l by (end_decides i)

@@ -1,5 +1,8 @@
 -- What a verdict's rule gives, component by component, for the code: each step of the rule is what one component
 -- decides, and then what is left. By the cases of its row's answer.
+use Rattle.answers.specs.declared.ComposeError.{ComposeError}
+use Rattle.answers.specs.declared.Unresolved.TheVariants as Un
+use Rattle.std.specs.Prelude.{Option as CodeOption, Some, None, Ok, Err}
 use Prim.Native.Nat.{ℕ, suc, ◌+◌, ◌≤◌, ◌<◌}
 use native.Mathlib.Omega.{arith}
 use mathlib.Core.Path.{◌≡◌, refl, sym, ap, ◌∙◌}
@@ -19,12 +22,8 @@ use Rattle.ir.specs.Numbers.{vector_size_number}
 use Rattle.ir.specs.declared.Scalar.{Scalar}
 use Rattle.ir.specs.declared.TypeInner.{TypeInner}
 use Rattle.ir.specs.declared.TypeInner.TheVariants as Ti
-use Rattle.ir.specs.declared.TypeForm.{TypeForm}
-use Rattle.ir.specs.declared.TypeForm.TheVariants as Tf
 use Rattle.ir.specs.declared.TypeResolution.{TypeResolution}
-use Rattle.answers.specs.declared.Answer.{Answer}
-use Rattle.answers.specs.declared.Answer.TheVariants as An
-use Rattle.answers.specs.declared.Verdict.{Verdict}
+use Rattle.answers.specs.Answer.{Answer}
 use Rattle.archive.specs.declared.Starts.{Starts}
 use Rattle.archive.specs.Access.{type_in, member_in}
 use Rattle.archive.specs.ForProofs.{component_in}
@@ -42,8 +41,7 @@ use Rattle.verdict_compose.specs.declared.Part.{Part}
 use Rattle.verdict_compose.specs.declared.Part.TheVariants as Pa
 use Rattle.rule_compose.specs.Verdict.{come_to, or_part, each_part, counted, adds, add_part, vector_parts, member_is}
 use Rattle.rule_compose.specs.Verdict.{struct_parts, by_form, verdict}
-use Rattle.verdict_compose.specs.declared.Decided.{Decided}
-use Rattle.verdict_compose.specs.declared.Decided.TheVariants as De
+use Rattle.verdict_compose.specs.Decided.{Decided}
 use Rattle.rule_compose.specs.Judged.{to_judged}
 use Rattle.rule_rows.specs.OverBuffer.{judged_by}
 use Rattle.rule_compose.specs.ForProofs.{parts_in}
@@ -52,8 +50,8 @@ use Rattle.verdict_compose.specs.Decided.{form_decides, like_decides, part_decid
 
 -- the verdict that one component decides, or what is left gives
 abbrev pub or_decided : Decided → (ℕ → Result Judgement) → Result Judgement
-or_decided (De.Adds m) rest = rest m
-or_decided (De.Ends v) rest = to_judged v
+or_decided (Ok m) rest = rest m
+or_decided (Err e) rest = to_judged (Err e)
 
 module _ (fr : List ℕ) (s : Starts) (an pl : List ℕ) where
   abbrev judged : Rule Judgement → Result Judgement
@@ -66,9 +64,9 @@ module _ (fr : List ℕ) (s : Starts) (an pl : List ℕ) where
     where
       come-by : (a : Answer) → answer_in an pl n ≡ a
           → judged (come_to i n inner) ≡ or_decided (answer_decides i by a) rest
-      come-by (An.Resolved t) e = rw (e, judged, run) (h t)
-      come-by (An.Refused x) e = rw (e, judged, run)
-      come-by (An.Newer r) e = rw (e, judged, run)
+      come-by (Ok t) e = rw (e, judged, run) (h t)
+      come-by (Err (Un.Refused x)) e = rw (e, judged, run)
+      come-by (Err (Un.Newer r)) e = rw (e, judged, run)
 
       come-to : judged (come_to i n inner) ≡ or_decided (answer_decides i by (answer_in an pl n)) rest
       come-to = come-by (answer_in an pl n) refl
@@ -76,10 +74,10 @@ module _ (fr : List ℕ) (s : Starts) (an pl : List ℕ) where
   -- and where its form decides, its type does
   module _ (i : ℕ) (a : TypeAnswer) (inner : TypeInner → Rule Judgement) (by : TypeInner → Decided)
       (rest : ℕ → Result Judgement) (h : (t : TypeInner) → judged (inner t) ≡ or_decided (by t) rest) where
-    look-by : (f : TypeForm) → form_in fr s a ≡ f
+    look-by : (f : CodeOption TypeInner) → form_in fr s a ≡ f
         → judged (come (component i) (form a) (λ y. inner y.inner)) ≡ or_decided (form_decides i by f) rest
-    look-by (Tf.Known t) e = rw (e, judged, run) (h t)
-    look-by Tf.Unknown e = rw (e, judged, run)
+    look-by (Some t) e = rw (e, judged, run) (h t)
+    look-by None e = rw (e, judged, run)
 
     look-into : judged (come (component i) (form a) (λ y. inner y.inner))
         ≡ or_decided (form_decides i by (form_in fr s a)) rest
@@ -172,7 +170,7 @@ module _ (fr : List ℕ) (s : Starts) (an pl : List ℕ) where
           ap (λ (l : List RowNumber). judged_by fr s an pl (rule i total l)) (here i h)
           ∙ step i total (component_in fr s first i) (drop (suc i) parts)
 
-      pub adds_on : (m : ℕ) → by i (answer_in an pl (component_in fr s first i)) ≡ De.Adds m
+      pub adds_on : (m : ℕ) → by i (answer_in an pl (component_in fr s first i)) ≡ Ok m
           → judged_by fr s an pl (rule i total (drop i parts))
           ≡ judged_by fr s an pl (rule (i + 1) (total + m) (drop (i + 1) parts))
       adds_on m e =
@@ -182,8 +180,8 @@ module _ (fr : List ℕ) (s : Starts) (an pl : List ℕ) where
           (λ k. judged_by fr s an pl (rule (suc i) (total + k) (drop (suc i) parts)))) e
           ∙ ap (λ (j : ℕ). judged_by fr s an pl (rule j (total + m) (drop j parts))) q
 
-      pub ends : (v : Verdict) → by i (answer_in an pl (component_in fr s first i)) ≡ De.Ends v
-          → judged_by fr s an pl (rule i total (drop i parts)) ≡ to_judged v
+      pub ends : (v : ComposeError) → by i (answer_in an pl (component_in fr s first i)) ≡ Err v
+          → judged_by fr s an pl (rule i total (drop i parts)) ≡ to_judged (Err v)
       ends v e = one
           ∙ ap (λ (d : Decided). or_decided d
           (λ k. judged_by fr s an pl (rule (suc i) (total + k) (drop (suc i) parts)))) e
@@ -222,12 +220,12 @@ module _ (fr : List ℕ) (s : Starts) (an pl : List ℕ) where
         (sym (listed-length (λ (i : ℕ). (member_in fr s m i).ty) j))
 
   -- the composed type is looked into
-  pub composed-known : (t : TypeNumber) (parts : List RowNumber) (i : TypeInner) → type_in fr s t ≡ Tf.Known i
+  pub composed-known : (t : TypeNumber) (parts : List RowNumber) (i : TypeInner) → type_in fr s t ≡ Some i
       → judged_by fr s an pl (verdict t parts) ≡ judged_by fr s an pl (by_form parts (member_types fr s i) i)
   unfolding judged_by
   composed-known t parts i e = rw (e, run)
 
-  pub composed-unknown : (t : TypeNumber) (parts : List RowNumber) → type_in fr s t ≡ Tf.Unknown
+  pub composed-unknown : (t : TypeNumber) (parts : List RowNumber) → type_in fr s t ≡ None
       → judged_by fr s an pl (verdict t parts) ≡ newer composed
   unfolding judged_by
   composed-unknown t parts e = rw (e, run)

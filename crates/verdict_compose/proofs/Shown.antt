@@ -1,5 +1,6 @@
 -- What the frame of a component's answer shows of its type is what its comparison gives: a type's own number, or a
 -- value whose bytes are that type's. By the cases of the answer's family and of the kind.
+use Rattle.std.specs.Prelude.{Option as CodeOption, Some, None, Ok}
 use Prim.Native.Nat.{ℕ, ◌+◌, ◌*◌}
 use mathlib.Core.Path.{◌≡◌, refl, sym, ap, ◌∙◌}
 use mathlib.Core.Bool.{Bool, true, false, cond, ◌&&◌, ◌||◌}
@@ -14,8 +15,6 @@ use Rattle.ir.specs.declared.Scalar.{Scalar}
 use Rattle.ir.specs.declared.Width.{Width}
 use Rattle.ir.specs.declared.TypeInner.{TypeInner}
 use Rattle.ir.specs.declared.TypeInner.TheVariants as Ti
-use Rattle.ir.specs.declared.TypeForm.{TypeForm}
-use Rattle.ir.specs.declared.TypeForm.TheVariants as Tf
 use Rattle.ir.specs.Numbers.{type_kind_of, space_of, scalar_kind_of, width_of, vector_size_of}
 use Rattle.frames.specs.declared.Frame.{Frame}
 use Rattle.frames.specs.Bytes.{byte, half, frame_at}
@@ -32,7 +31,6 @@ use Rattle.rule_types.specs.Canonical.{value_pointer, or_own, form_found, throug
 use Rattle.rule_types.specs.ForProofs.{or_self, canonical_of, by_answers, likeness}
 use Rattle.rule_types.proofs.Equality.{equal-types, identical-self}
 use Rattle.rule_types.proofs.Seen.{never}
-use Rattle.verdict_compose.specs.declared.Decided.TheVariants as De
 use Rattle.verdict_compose.specs.Decided.{like_decides, answer_decides}
 use Rattle.row_operands.specs.Plain.{type_frame_in}
 use Rattle.row_operands.proofs.ByFrame.{type-frame, scalar-form, vector-form, matrix-form}
@@ -43,13 +41,13 @@ abbrev scalar_shown : Frame → Scalar
 scalar_shown f = read scalar f
 
 pub pointer-form : (f : Frame) → byte f 1 ≡ 6 → type_of f
-    ≡ Tf.Known (Ti.Pointer (record { 0 = half f 2 }) (space_of (byte f 6) (byte f 7)))
+    ≡ Some (Ti.Pointer (record { 0 = half f 2 }) (space_of (byte f 6) (byte f 7)))
 unfolding type_of
 pointer-form f e = ap (λ (k : ℕ). type_as (type_kind_of k) f) e
 
-pub record Formed (x : TypeForm) : Type 0 where
+pub record Formed (x : CodeOption TypeInner) : Type 0 where
   pub inner : TypeInner
-  pub is : x ≡ Tf.Known inner
+  pub is : x ≡ Some inner
 
 pub plain_form : (f : Frame) → is_scalar_to_matrix f ≡ true → Formed (type_of f)
 plain_form f h = go (eqb (byte f 1) 1) (eqb (byte f 1) 2) (eqb (byte f 1) 3) refl refl refl h
@@ -66,11 +64,11 @@ made k w = record { kind = k; width = w }
 
 module _ (fr : List ℕ) (s : Starts) where
   -- a pointer's base that is a type is in range
-  pub in-range : (b : TypeNumber) (c : TypeInner) → type_in fr s b ≡ Tf.Known c → in_range (is_type s b) ≡ Fa.Sound
+  pub in-range : (b : TypeNumber) (c : TypeInner) → type_in fr s b ≡ Some c → in_range (is_type s b) ≡ Fa.Sound
   unfolding type_in
   in-range b c e = go (is_type s b) e
     where
-      go : (q : Bool) → cond q (type_of (frame_at fr b.0)) Tf.Unknown ≡ Tf.Known c → in_range q ≡ Fa.Sound
+      go : (q : Bool) → cond q (type_of (frame_at fr b.0)) None ≡ Some c → in_range q ≡ Fa.Sound
       go true h = refl
       go false h = never (cc)
 
@@ -82,9 +80,9 @@ module _ (fr : List ℕ) (s : Starts) where
       (identical-self a)
 
   -- a number and a value of the same form, of which no struct is
-  like-value : (n : TypeNumber) (t u : TypeInner) → type_in fr s n ≡ Tf.Known t → value_fault s t ≡ Fa.Sound
+  like-value : (n : TypeNumber) (t u : TypeInner) → type_in fr s n ≡ Some t → value_fault s t ≡ Fa.Sound
       → is_struct_inner t ≡ false
-      → or_self t (canonical_form_in fr s t) ≡ Tf.Known u → likeness fr s (number n) (value t) ≡ some true
+      → or_self t (canonical_form_in fr s t) ≡ Some u → likeness fr s (number n) (value t) ≡ some true
   like-value n t u e sound unnamed own = go (identical (number n) (value t))
     where
       go : (i : Bool)
@@ -96,7 +94,7 @@ module _ (fr : List ℕ) (s : Starts) where
   -- the value that a frame reads as is the same as type n
   record Valued (n : TypeNumber) (f : Frame) : Type 0 where
     pub inner : TypeInner
-    pub form : type_of f ≡ Tf.Known inner
+    pub form : type_of f ≡ Some inner
     pub alike : likeness fr s (number n) (value inner) ≡ some true
 
   valued : (n : TypeNumber) (f g : Frame) → type_in fr s n ≡ type_of g → same_form f g ≡ true → Valued n f
@@ -141,31 +139,31 @@ module _ (fr : List ℕ) (s : Starts) where
       go true y z p q r o =
           let t = Ti.Scalar (scalar_shown f) in
           let k : byte f 1 ≡ 1 = eqb-true _ _ p in
-          let e : type_in fr s n ≡ Tf.Known t = e0 ∙ scalar-form g (sym e1 ∙ k)
-          ∙ ap (λ (j : Scalar). Tf.Known (Ti.Scalar j)) scalars in
+          let e : type_in fr s n ≡ Some t = e0 ∙ scalar-form g (sym e1 ∙ k)
+          ∙ ap (λ (j : Scalar). Some (Ti.Scalar j)) scalars in
           record { inner = t; form = scalar-form f k; alike = like-value n t t e refl refl refl }
       go false true z p q r o =
           let t = Ti.Vector (vector_size_of (byte f 2)) (scalar_shown f) in
           let k : byte f 1 ≡ 2 = eqb-true _ _ q in
-          let e : type_in fr s n ≡ Tf.Known t =
+          let e : type_in fr s n ≡ Some t =
           e0 ∙ vector-form g (sym e1 ∙ k)
-          ∙ ap (λ (j : Scalar). Tf.Known (Ti.Vector (vector_size_of (byte g 2)) j)) scalars
-          ∙ ap (λ (b : ℕ). Tf.Known (Ti.Vector (vector_size_of b) (scalar_shown f))) (sym e2) in
+          ∙ ap (λ (j : Scalar). Some (Ti.Vector (vector_size_of (byte g 2)) j)) scalars
+          ∙ ap (λ (b : ℕ). Some (Ti.Vector (vector_size_of b) (scalar_shown f))) (sym e2) in
           record { inner = t; form = vector-form f k; alike = like-value n t t e refl refl refl }
       go false false true p q r o =
           let t = Ti.Matrix (vector_size_of (byte f 2)) (vector_size_of (byte f 3)) (scalar_shown f) in
           let k : byte f 1 ≡ 3 = eqb-true _ _ r in
-          let e : type_in fr s n ≡ Tf.Known t =
+          let e : type_in fr s n ≡ Some t =
           e0 ∙ matrix-form g (sym e1 ∙ k)
-          ∙ ap (λ (j : Scalar). Tf.Known (Ti.Matrix (vector_size_of (byte g 2)) (vector_size_of (byte g 3)) j)) scalars
-          ∙ ap (λ (b : ℕ). Tf.Known (Ti.Matrix (vector_size_of b) (vector_size_of (byte g 3)) (scalar_shown f)))
+          ∙ ap (λ (j : Scalar). Some (Ti.Matrix (vector_size_of (byte g 2)) (vector_size_of (byte g 3)) j)) scalars
+          ∙ ap (λ (b : ℕ). Some (Ti.Matrix (vector_size_of b) (vector_size_of (byte g 3)) (scalar_shown f)))
           (sym e2)
-          ∙ ap (λ (b : ℕ). Tf.Known (Ti.Matrix (vector_size_of (byte f 2)) (vector_size_of b) (scalar_shown f)))
+          ∙ ap (λ (b : ℕ). Some (Ti.Matrix (vector_size_of (byte f 2)) (vector_size_of b) (scalar_shown f)))
           (sym e3) in
           record { inner = t; form = matrix-form f k; alike = like-value n t t e refl refl refl }
       go false false false p q r o = never (cc)
 
-  own-form : (t : TypeInner) (o : Option TypeInner) → or_self t (form_found o) ≡ Tf.Known (or_own t o)
+  own-form : (t : TypeInner) (o : Option TypeInner) → or_self t (form_found o) ≡ Some (or_own t o)
   own-form t none = refl
   own-form t (some u) = refl
 
@@ -186,7 +184,7 @@ module _ (fr : List ℕ) (s : Starts) where
           let p = space_of (byte f 6) (byte f 7) in
           let t = Ti.Pointer b p in
           let w = plain_form (type_frame_in fr s b) plain in
-          let base : type_in fr s b ≡ Tf.Known w.inner = type-frame fr s b ∙ w.is in
+          let base : type_in fr s b ≡ Some w.inner = type-frame fr s b ∙ w.is in
           let k1 : byte g 1 ≡ 6 = eqb-true _ _ (and_first _ _ h1) in
           let h2 = and_second (eqb (byte g 1) 6) _ h1 in
           let e2 : byte f 2 ≡ byte g 2 = eqb-true _ _ (and_first _ _ h2) in
@@ -195,16 +193,16 @@ module _ (fr : List ℕ) (s : Starts) where
           let h4 = and_second (eqb (byte f 3) (byte g 3)) _ h3 in
           let e6 : byte f 6 ≡ byte g 6 = eqb-true _ _ (and_first _ _ h4) in
           let e7 : byte f 7 ≡ byte g 7 = eqb-true _ _ (and_second (eqb (byte f 6) (byte g 6)) _ h4) in
-          let e : type_in fr s n ≡ Tf.Known t =
+          let e : type_in fr s n ≡ Some t =
           e0 ∙ pointer-form g k1
-          ∙ ap (λ (x : ℕ). Tf.Known (Ti.Pointer (record { 0 = x + byte g 3 * 256 }) (space_of (byte g 6) (byte g 7))))
+          ∙ ap (λ (x : ℕ). Some (Ti.Pointer (record { 0 = x + byte g 3 * 256 }) (space_of (byte g 6) (byte g 7))))
           (sym e2)
-          ∙ ap (λ (x : ℕ). Tf.Known (Ti.Pointer (record { 0 = byte f 2 + x * 256 }) (space_of (byte g 6) (byte g 7))))
+          ∙ ap (λ (x : ℕ). Some (Ti.Pointer (record { 0 = byte f 2 + x * 256 }) (space_of (byte g 6) (byte g 7))))
           (sym e3)
-          ∙ ap (λ (x : ℕ). Tf.Known (Ti.Pointer b (space_of x (byte g 7)))) (sym e6)
-          ∙ ap (λ (x : ℕ). Tf.Known (Ti.Pointer b (space_of (byte f 6) x))) (sym e7) in
-          let own : or_self t (canonical_form_in fr s t) ≡ Tf.Known (or_own t (value_pointer p w.inner)) =
-          ap (λ (x : TypeForm). or_self t (through_base p x)) base ∙ own-form t (value_pointer p w.inner) in
+          ∙ ap (λ (x : ℕ). Some (Ti.Pointer b (space_of x (byte g 7)))) (sym e6)
+          ∙ ap (λ (x : ℕ). Some (Ti.Pointer b (space_of (byte f 6) x))) (sym e7) in
+          let own : or_self t (canonical_form_in fr s t) ≡ Some (or_own t (value_pointer p w.inner)) =
+          ap (λ (x : CodeOption TypeInner). or_self t (through_base p x)) base ∙ own-form t (value_pointer p w.inner) in
           record {
             inner = t;
             form = pointer-form f k;
@@ -220,13 +218,13 @@ module _ (fr : List ℕ) (s : Starts) where
       go false e r = valued n f g e0 r
 
   pub type-shown : (n : TypeNumber) (i : ℕ) (f : Frame) → type_shown fr s n f ≡ true
-      → answer_decides i (λ t. like_decides i (likeness fr s (number n) (resolved t))) (answer_of f) ≡ De.Adds 1
+      → answer_decides i (λ t. like_decides i (likeness fr s (number n) (resolved t))) (answer_of f) ≡ Ok 1
   unfolding answer_of
   type-shown n i f h = go (eqb (byte f 0) 8) (eqb (byte f 0) 9) refl refl h
     where
       go : (a b : Bool) → eqb (byte f 0) 8 ≡ a → eqb (byte f 0) 9 ≡ b
           → cond a (eqb (half f 2) n.0) (cond b (value_shown fr s f (type_frame_in fr s n)) false) ≡ true
-          → answer_decides i (λ t. like_decides i (likeness fr s (number n) (resolved t))) (answer_of f) ≡ De.Adds 1
+          → answer_decides i (λ t. like_decides i (likeness fr s (number n) (resolved t))) (answer_of f) ≡ Ok 1
       go true b p q h =
           rw p
           (ap (λ (m : ℕ). like_decides i (likeness fr s (number n) (number (record { 0 = m }))))

@@ -4,7 +4,7 @@ ghost use Rattle.frames.specs.ForProofs.{unresolved_of};
 ghost use Rattle.verdict_compose.specs.Decided.{adds_if, end_decides};
 
 use super::Decided;
-use answers::{Unresolved, Verdict};
+use answers::{ComposeError, Unresolved};
 use frames::Frame;
 
 // A component that is as asked adds m parts; another is number 32.
@@ -12,9 +12,9 @@ pub fn adds_if(i: u32, same: bool, m: u32) -> Decided
     ensures { result ≡ adds_if i same m }
 {
     if same {
-        Decided::Adds(m)
+        Ok(m)
     } else {
-        Decided::Ends(Verdict::ComponentType { index: i })
+        Err(ComposeError::ComponentType { index: i })
     }
 }
 
@@ -23,8 +23,8 @@ pub fn by_end(i: u32, end: Unresolved) -> Decided
     ensures { result ≡ end_decides i end }
 {
     match end {
-        Unresolved::Refused(_) => Decided::Ends(Verdict::ComponentRefused { index: i }),
-        Unresolved::Newer { row: _ } => Decided::Ends(Verdict::NewerComponent { index: i }),
+        Unresolved::Refused(_) => Err(ComposeError::ComponentRefused { index: i }),
+        Unresolved::Newer { row: _ } => Err(ComposeError::NewerComponent { index: i }),
     }
 }
 
@@ -34,8 +34,8 @@ pub fn without_type(i: u32, f: Frame) -> Decided
     ensures { result ≡ end_decides i (unresolved_of f) }
 {
     if (f.b0 == 10) & (f.b1 == 22) {
-        Decided::Ends(Verdict::NewerComponent { index: i })
+        Err(ComposeError::NewerComponent { index: i })
     } else {
-        Decided::Ends(Verdict::ComponentRefused { index: i })
+        Err(ComposeError::ComponentRefused { index: i })
     }
 }

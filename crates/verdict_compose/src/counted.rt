@@ -1,30 +1,28 @@
 // The verdict on a matrix, an array or a struct: from as many components as it has parts, each as is asked of it.
 ghost use Rattle.std.specs.Prelude.{◌≡◌};
+ghost use Rattle.row_operands.specs.Context.{earlier, judges};
 ghost use Rattle.frames.specs.ForProofs.{value_of, answer_of};
 ghost use Rattle.rule_compose.specs.Verdict.{each_part, counted};
 ghost use Rattle.rule_compose.specs.Judged.{to_judged};
 ghost use Rattle.verdict_compose.specs.declared.Part.TheVariants.{Column, Element};
 ghost use Rattle.verdict_compose.specs.Shown.{asked_type};
-ghost use Rattle.rule_rows.specs.OverBuffer.{answer_in, judged_by};
 ghost use Rattle.rule_compose.specs.ForProofs.{parts_in};
 ghost use Rattle.verdict_compose.specs.Decided.{asked_of, member_type, like_said, part_by};
 
 use super::by_frame::type_shown;
 use super::component::{adds_if, by_end, without_type};
-use super::equal::{are_equal, is_vector};
 use super::{Decided, Part};
-use answers::Verdict;
+use answers::{ComposeError, Verdict};
 use archive::Starts;
 use archive_access::families::{component_at, member_at};
 use frames::Frame;
 use ir::{
-    ComponentNumber, MemberNumber, RowNumber, Scalar, TypeForm, TypeNumber, TypeResolution,
+    ComponentNumber, MemberNumber, RowNumber, Scalar, TypeInner, TypeNumber, TypeResolution,
     VectorSize,
 };
-use row_operands::Looked;
+use row_operands::ResolveContext;
 use row_operands::past::look_component;
 use row_operands::plain::{past_frame, plain_form, type_frame, typed_frame};
-use rule_types::OptionBool;
 use type_methods::compare::compare_types;
 
 // The type of the struct's member of this index.
@@ -40,68 +38,62 @@ fn member_type(frames: &[u8], s: Starts, first: MemberNumber, count: u16, i: u32
 }
 
 // By whether its type is the same as asked; none where a look comes to an unknown kind.
-fn by_likeness(i: u32, same: OptionBool) -> Decided
+fn by_likeness(i: u32, same: Option<bool>) -> Decided
     ensures { result ≡ like_said i same }
 {
     match same {
-        OptionBool::None => Decided::Ends(Verdict::NewerComponent { index: i }),
-        OptionBool::Some(b) => adds_if(i, b, 1),
+        None => Err(ComposeError::NewerComponent { index: i }),
+        Some(b) => adds_if(i, b, 1),
     }
 }
 
 // Component i, which is row n, as a column, by a look into its type.
 fn look_column(
-    frames: &[u8],
-    s: Starts,
-    answers: &[u8],
-    places: &[u16],
+    ctx: &ResolveContext<'_>,
     rows: VectorSize,
     scalar: Scalar,
     i: u32,
     n: RowNumber,
 ) -> Decided
     ensures { result
-        ≡ part_by frames.now s (Column rows scalar) i
-        (answer_in answers.now places.now n) }
+        ≡ part_by ctx.now.frames.now ctx.now.starts (Column rows scalar) i
+        (earlier ctx.now n) }
 {
-    match look_component(frames, s, answers, places, n) {
-        Looked::Seen(t) => adds_if(i, is_vector(rows, scalar, t), 1),
-        Looked::Ended(end) => by_end(i, end),
+    match look_component(ctx, n) {
+        Ok(t) => adds_if(i, t == TypeInner::Vector { size: rows, scalar }, 1),
+        Err(end) => by_end(i, end),
     }
 }
 
 // Component i, which is row n, as a column: it must be the vector itself. A refusal is seen by the first byte of its
 // frame; else it goes by the frame of its type where that shows the form.
 fn judge_column(
-    frames: &[u8],
-    s: Starts,
-    answers: &[u8],
-    places: &[u16],
+    ctx: &ResolveContext<'_>,
     rows: VectorSize,
     scalar: Scalar,
     i: u32,
     n: RowNumber,
 ) -> Decided
     ensures { result
-        ≡ part_by frames.now s (Column rows scalar) i
-        (answer_in answers.now places.now n) }
+        ≡ part_by ctx.now.frames.now ctx.now.starts (Column rows scalar) i
+        (earlier ctx.now n) }
 {
-    let f = past_frame(answers, places, n);
+    let f = past_frame(ctx, n);
     if f.b0 == 10 {
         return without_type(i, f);
     }
-    match plain_form(typed_frame(frames, s, f)) {
-        TypeForm::Known(t) => adds_if(i, is_vector(rows, scalar, t), 1),
-        TypeForm::Unknown => look_column(frames, s, answers, places, rows, scalar, i, n),
+    match plain_form(typed_frame(ctx.frames, ctx.starts, f)) {
+        Some(t) => adds_if(i, t == TypeInner::Vector { size: rows, scalar }, 1),
+        None => look_column(ctx, rows, scalar, i, n),
     }
 }
 
 // Component i by a value, held to type ty by the comparison.
-fn by_value(frames: &[u8], s: Starts, ty: TypeNumber, i: u32, form: TypeForm) -> Decided
+fn by_value(frames: &[u8], s: Starts, ty: TypeNumber, i: u32, form: Option<TypeInner>) -> Decided
     ensures { result ≡ part_by frames.now s (Element ty) i (value_of form) }
 {
     match form {
-        TypeForm::Known(t) => by_likeness(
+        Some(t) => by_likeness(
             i,
             compare_types(
                 frames,
@@ -110,7 +102,7 @@ fn by_value(frames: &[u8], s: Starts, ty: TypeNumber, i: u32, form: TypeForm) ->
                 TypeResolution::Value(t),
             ),
         ),
-        TypeForm::Unknown => Decided::Ends(Verdict::ComponentRefused { index: i }),
+        None => Err(ComposeError::ComponentRefused { index: i }),
     }
 }
 
@@ -140,31 +132,23 @@ fn by_answer(frames: &[u8], s: Starts, ty: TypeNumber, i: u32, f: Frame) -> Deci
 
 // Component i, which is row n, as an element or a member: it must be of type ty. By the frames of both where these show
 // it; a refusal is seen by the first byte of its frame; else by the comparison.
-fn judge_type(
-    frames: &[u8],
-    s: Starts,
-    answers: &[u8],
-    places: &[u16],
-    ty: TypeNumber,
-    i: u32,
-    n: RowNumber,
-) -> Decided
+fn judge_type(ctx: &ResolveContext<'_>, ty: TypeNumber, i: u32, n: RowNumber) -> Decided
     ensures { result
-        ≡ part_by frames.now s (Element ty) i (answer_in answers.now places.now n) }
+        ≡ part_by ctx.now.frames.now ctx.now.starts (Element ty) i (earlier ctx.now n) }
 {
-    let f = past_frame(answers, places, n);
-    if type_shown(frames, s, ty, f) {
-        return Decided::Adds(1);
+    let f = past_frame(ctx, n);
+    if type_shown(ctx.frames, ctx.starts, ty, f) {
+        return Ok(1);
     }
     if f.b0 == 10 {
         return without_type(i, f);
     }
-    if let TypeForm::Known(t) = plain_form(type_frame(frames, s, ty)) {
-        if let TypeForm::Known(u) = plain_form(typed_frame(frames, s, f)) {
-            return adds_if(i, are_equal(t, u), 1);
+    if let Some(t) = plain_form(type_frame(ctx.frames, ctx.starts, ty)) {
+        if let Some(u) = plain_form(typed_frame(ctx.frames, ctx.starts, f)) {
+            return adds_if(i, t == u, 1);
         }
     }
-    by_answer(frames, s, ty, i, f)
+    by_answer(ctx.frames, ctx.starts, ty, i, f)
 }
 
 // The type that is asked of component i; a column is asked by its form, and type 0, which no verdict comes to, stands
@@ -180,86 +164,50 @@ fn asked_type(frames: &[u8], s: Starts, asked: Part, i: u32) -> TypeNumber
 }
 
 // What component i, which is row n, decides.
-fn judge_part(
-    frames: &[u8],
-    s: Starts,
-    answers: &[u8],
-    places: &[u16],
-    asked: Part,
-    i: u32,
-    n: RowNumber,
-) -> Decided
+fn judge_part(ctx: &ResolveContext<'_>, asked: Part, i: u32, n: RowNumber) -> Decided
     ensures { result
-        ≡ part_by frames.now s asked i (answer_in answers.now places.now n) }
+        ≡ part_by ctx.now.frames.now ctx.now.starts asked i (earlier ctx.now n) }
 {
     match asked {
-        Part::Column { rows, scalar } => judge_column(
-            frames, s, answers, places, rows, scalar, i, n,
-        ),
-        _ => judge_type(
-            frames,
-            s,
-            answers,
-            places,
-            asked_type(frames, s, asked, i),
-            i,
-            n,
-        ),
+        Part::Column { rows, scalar } => judge_column(ctx, rows, scalar, i, n),
+        _ => judge_type(ctx, asked_type(ctx.frames, ctx.starts, asked, i), i, n),
     }
 }
 
 // Each component in order; the first that is not as asked decides.
-fn each_part(
-    frames: &[u8],
-    s: Starts,
-    answers: &[u8],
-    places: &[u16],
-    asked: Part,
-    first: ComponentNumber,
-    count: u16,
-) -> Verdict
+fn each_part(ctx: &ResolveContext<'_>, asked: Part, first: ComponentNumber, count: u16) -> Verdict
     ensures { to_judged result
-        ≡ judged_by frames.now s answers.now places.now
-        (each_part (asked_of frames.now s asked) 0 (parts_in frames.now s first count)) }
+        ≡ judges ctx.now
+        (each_part (asked_of ctx.now.frames.now ctx.now.starts asked) 0
+        (parts_in ctx.now.frames.now ctx.now.starts first count)) }
 {
-    let n = count as u32;
-    let mut i = 0;
-    while i < n {
-        let row = component_at(frames, s, first, i);
-        match judge_part(frames, s, answers, places, asked, i, row) {
-            Decided::Adds(_) => {
-                i += 1;
-            }
-            Decided::Ends(v) => {
-                return v;
-            }
-        }
+    for i in 0..count as u32 {
+        let row = component_at(ctx.frames, ctx.starts, first, i);
+        judge_part(ctx, asked, i, row)?;
     }
-    Verdict::Passes
+    Ok(())
 }
 
 // The count is checked before any component is come to.
 pub fn counted_parts(
-    frames: &[u8],
-    s: Starts,
-    answers: &[u8],
-    places: &[u16],
+    ctx: &ResolveContext<'_>,
     expected: u32,
     asked: Part,
     first: ComponentNumber,
     count: u16,
 ) -> Verdict
     ensures { to_judged result
-        ≡ judged_by frames.now s answers.now places.now (counted expected
-        (parts_in frames.now s first count)
-        (each_part (asked_of frames.now s asked) 0 (parts_in frames.now s first count))) }
+        ≡ judges ctx.now (counted expected
+        (parts_in ctx.now.frames.now ctx.now.starts first count)
+        (each_part (asked_of ctx.now.frames.now ctx.now.starts asked) 0
+        (parts_in ctx.now.frames.now ctx.now.starts first count))) }
 {
     if expected == (count as u32) {
-        each_part(frames, s, answers, places, asked, first, count)
+        each_part(ctx, asked, first, count)
     } else {
-        Verdict::ComponentCount {
+        Err(ComposeError::ComponentCount {
             expected,
             given: count as u32,
-        }
+        })
     }
 }

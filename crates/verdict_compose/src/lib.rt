@@ -7,10 +7,9 @@ pub mod by_frame;
 pub mod component;
 pub mod compose;
 pub mod counted;
-pub mod equal;
 pub mod vector;
 
-use answers::Verdict;
+use answers::ComposeError;
 use ir::{MemberNumber, Scalar, TypeNumber, VectorSize};
 
 // What is asked of each component: that it is a column of a matrix, an element of an array, or the member of its index
@@ -23,8 +22,4 @@ pub enum Part {
 }
 
 // What one component decides: how many parts it adds to what is composed, or the verdict.
-#[derive(Clone, Copy)]
-pub enum Decided {
-    Adds(u32),
-    Ends(Verdict),
-}
+pub type Decided = Result<u32, ComposeError>;

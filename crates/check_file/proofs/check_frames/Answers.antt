@@ -3,6 +3,6 @@ use Rattle.std.proofs.Common.{arith, sym, ◌∙◌}
 use Rattle.scan.proofs.Laws.{found_at}
 use Rattle.check_file.proofs.check_frames.Goals as goal
 
-pub overflow_cast-result-in-At : goal.overflow_cast-result-in-At
-overflow_cast-result-in-At c =
-    omega (arith, (found_at _ _ _ (sym c.first_disorder.ensures ∙ c.in-At.is)).inside, c.frame_count.ensures)
+pub overflow_cast-result-in-Some : goal.overflow_cast-result-in-Some
+overflow_cast-result-in-Some c =
+    omega (arith, (found_at _ _ _ (sym c.first_disorder.ensures ∙ c.in-Some.is)).inside, c.frame_count.ensures)

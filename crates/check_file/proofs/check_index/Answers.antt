@@ -5,4 +5,4 @@ use Rattle.check_file.proofs.check_index.Goals as goal
 
 pub overflow_cast-result : goal.overflow_cast-result
 overflow_cast-result c =
-    omega (arith, (found_at _ _ _ (sym c.first_misplaced.ensures ∙ c.in-At.is)).inside, c.requires)
+    omega (arith, (found_at _ _ _ (sym c.first_misplaced.ensures ∙ c.in-Some.is)).inside, c.requires)

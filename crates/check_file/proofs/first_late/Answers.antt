@@ -1,6 +1,5 @@
 -- `first_late`: the parts that are looked at are those that each frame holds, one frame after the other.
-use Rattle.std.proofs.Common.{rules, arith, ◌≡◌, ap, ◌∙◌}
-use native.Mathlib.Nat.{le_antisymm}
+use Rattle.std.proofs.Common.{arith, ◌≡◌, ap, ◌∙◌}
 use Rattle.scan.specs.Lowest.{lowest}
 use Rattle.scan.proofs.Laws.{lowest-tests}
 use Rattle.answers.specs.Limit.{max_frames}
@@ -8,12 +7,12 @@ use Rattle.frames.specs.Bytes.{frame_at, frame_count}
 use Rattle.archive.specs.declared.Starts.{Starts}
 use Rattle.archive.specs.declared.Held.{Held}
 use Rattle.archive.specs.Starts.{starts_of}
-use Rattle.archive.specs.Parts.{held_by, early_in, early_for, early_ok}
+use Rattle.archive.specs.Parts.{held_by, early_in, early_for}
 use Rattle.archive.proofs.Owners.{no-owner, starts-small, held-within}
 use Rattle.check_file.proofs.first_late.Goals as goal
 
 pub loop-o-init : goal.loop-o-init
-loop-o-init c = record { few = search rules; first = no-owner (early_for c.args.frames.now) _ }
+loop-o-init c = no-owner (early_for c.args.frames.now) _
 
 pub held_by-h-requires : goal.held_by-h-requires
 held_by-h-requires c =
@@ -37,16 +36,6 @@ loop-o-preserved c =
     let holds : c.held_by-h.result ≡ held_by (starts_of a) o (frame_at a o) = c.held_by-h.ensures
     ∙ ap (held_by c.args.s o) c.frame_at.ensures
     ∙ ap (λ (s : Starts). held_by s o (frame_at a o)) c.requires.0 in
-    record {
-      few = search rules;
-      first = c.lower-found.ensures
-          ∙ lowest-tests (early_for a) _ _ c.loop-o.invariant.first
-          (c.first_late_of-late.ensures ∙ ap (λ (h : Held). lowest (early_in a h) (frame_count a)) holds);
-    }
-
-pub returns : goal.returns
-unfolding early_ok
-returns c =
-    let i = c.loop-o in
-    let q = le_antisymm i.invariant.few c.loop-o-test.false ∙ c.frame_count-n.ensures in
-    rw q at i.invariant.first
+    c.lower-found.ensures
+    ∙ lowest-tests (early_for a) _ _ c.loop-o.invariant
+    (c.first_late_of-late.ensures ∙ ap (λ (h : Held). lowest (early_in a h) (frame_count a)) holds)

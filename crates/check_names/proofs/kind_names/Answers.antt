@@ -101,7 +101,7 @@ returns-in-Compose c =
     )
 
 pub returns-in-ImageQuery : goal.returns-in-ImageQuery
-returns-in-ImageQuery c = rw (c.in-ImageQuery.is, c.query_names.ensures, c.from_number.ensures, c.operand.ensures)
+returns-in-ImageQuery c = rw (c.in-ImageQuery.is, c.query_names.ensures, c.from.ensures, c.operand.ensures)
 
 pub returns-in-Relational : goal.returns-in-Relational
 returns-in-Relational c =
@@ -109,7 +109,7 @@ returns-in-Relational c =
       c.in-Relational.is,
       c.relational_names.ensures,
       c.operand-in-Relational.ensures,
-      c.from_number-in-Relational.ensures,
+      c.from-in-Relational.ensures,
     )
 
 pub returns-in-Binary : goal.returns-in-Binary

@@ -1,7 +1,7 @@
 -- A turn writes one line more, where those before it end.
 use Rattle.std.proofs.Common.{◌≡◌, ◌≤◌, ◌+◌, refl, ap, ◌∙◌, length, take, arith}
 use Rattle.frames.specs.Bytes.{frame_at}
-use Rattle.explain_words.proofs.Writing.{written-long, put-fits}
+use Rattle.explain_words.proofs.Writing.{put-fits}
 use Rattle.rule_explain.specs.Answers.{line_of}
 use Rattle.explain_lines.proofs.Long.{line-long}
 use Rattle.rule_explain.specs.Explained.{row_at, line_at}
@@ -12,12 +12,9 @@ use Rattle.explain_file.proofs.explain_answers.Goals as goal
 pub loop-k-init : goal.loop-k-init
 unfolding row_at
 loop-k-init c = record {
-  few = omega arith;
   counted = refl;
   small = omega arith;
   written = before (line_at c.args.frames.now c.args.answers.now) c.args.out.now;
-  wide = c.requires.0;
-  long = refl;
 }
 
 pub loop-k-preserved : goal.loop-k-preserved
@@ -32,9 +29,10 @@ loop-k-preserved c =
     let p = c.put_line-m in
     let q = c.copy in
     let r = c.next_row-row in
-    let w = made_at l.line p.new.line (line_of fr l.row f.result) p.result l.invariant.wide p.ensures.0 p.ensures.2 in
+    let wide : length l.line ≡ 1296 = omega (arith, c.requires.0) in
+    let w = made_at l.line p.new.line (line_of fr l.row f.result) p.result wide p.ensures.0 p.ensures.2 in
     let m =
-    made-long l.line p.new.line (line_of fr l.row f.result) p.result w.1 w.0 p.ensures.1 l.invariant.wide in
+    made-long l.line p.new.line (line_of fr l.row f.result) p.result w.1 w.0 p.ensures.1 wide in
     let y = take p.result p.new.line in
     let e = at_place fr an l.k l.row f.result l.invariant.counted f.ensures in
     let x : y ≡ line_at fr an l.k =
@@ -47,19 +45,15 @@ loop-k-preserved c =
       l.invariant.written.0,
       joined-long (line_at fr an) 142 l.k (λ k. line-long fr (row_at an k) (frame_at an k)),
       h,
-      c.frame_count-n.ensures,
-      l.invariant.long,
+      c.frame_count-k-end.ensures,
       s.1,
       s.2,
     ) in
     let fits : l.at + length y ≤ length l.out = omega (arith, room, m.1) in
     let o = q.ensures ∙ put-fits l.out y l.at fits in
     record {
-      few = omega (arith, h);
       counted = row_on an l.k l.row r.result f.result l.invariant.counted f.ensures r.ensures;
       small = row_small l.k l.row r.result f.result r.ensures l.invariant.small;
       written = turn (line_at fr an) l.k g.out.now l.out q.new.out y l.at p.result l.invariant.written x
-          (w.0 ∙ ap length e) (omega (arith, room, l.invariant.long)) o;
-      wide = m.0;
-      long = ap length o ∙ written-long l.out y l.at fits ∙ l.invariant.long;
+          (w.0 ∙ ap length e) (omega (arith, room)) o;
     }

@@ -1,4 +1,5 @@
 -- One line.
+use Rattle.std.specs.Prelude.{Err}
 use Rattle.std.proofs.Common.{◌≡◌, refl, ap, ◌∙◌, ◌+◌, take, length, arith}
 use native.Mathlib.Nat.{zero-add}
 use Rattle.frames.specs.Out.{outcome_frame}
@@ -18,13 +19,13 @@ returns c =
     let f = c.outcome_frame in
     let w = made_at g.line.now p.new.line (fault_line f.result) p.result s.0 p.ensures.0 p.ensures.2 in
     let m = made-long g.line.now p.new.line (fault_line f.result) p.result w.1 w.0 p.ensures.1 s.0 in
-    let e : fault_line f.result ≡ fault_line (outcome_frame g.o) = ap fault_line f.ensures in
+    let e : fault_line f.result ≡ fault_line (outcome_frame (Err g.e)) = ap fault_line f.ensures in
     let y = take p.result p.new.line in
-    let x : y ≡ fault_line (outcome_frame g.o) =
+    let x : y ≡ fault_line (outcome_frame (Err g.e)) =
     made g.line.now p.new.line (fault_line f.result) p.result w.1 w.0 ∙ e in
     let n = fault-long f.result in
     rw zero-add at
-    (shown-all (fault_lines g.o) g.out.now q.new.out 1 (0 + p.result) refl
-    (turn (fault_lines g.o).line 0 g.out.now g.out.now q.new.out y 0 p.result
-    (before (fault_lines g.o).line g.out.now) x (w.0 ∙ ap length e) (omega (arith, w.0, n, s.1))
+    (shown-all (fault_lines g.e) g.out.now q.new.out 1 (0 + p.result) refl
+    (turn (fault_lines g.e).line 0 g.out.now g.out.now q.new.out y 0 p.result
+    (before (fault_lines g.e).line g.out.now) x (w.0 ∙ ap length e) (omega (arith, w.0, n, s.1))
     (q.ensures ∙ put-fits g.out.now y 0 (omega (arith, m.1, w.0, n, s.1)))))

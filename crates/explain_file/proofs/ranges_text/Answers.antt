@@ -1,6 +1,6 @@
 -- A table that is too short is seen first; else what is printed.
+use Rattle.std.specs.Prelude.{ℕ, Option}
 use Rattle.std.proofs.Common.{◌≡◌, ap, ◌∙◌, ℕ, Bool, false, cond, List, length}
-use Rattle.answers.specs.declared.Printed.{Printed}
 use Rattle.answers.specs.Numbers.{instead, at, printed_said}
 use Rattle.rule_file.specs.Printed.{printed}
 use Rattle.rule_ranges.specs.Ranges.{counts_of}
@@ -10,7 +10,7 @@ use Rattle.rule_file_sizes.specs.Ranges.{tables_short}
 use Rattle.explain_file.proofs.Said.{lines-said}
 use Rattle.explain_file.proofs.ranges_text.Goals as goal
 
-enough : (b : Bool) (lines o : List ℕ) (r : Printed) → b ≡ false → r ≡ printed lines (length o)
+enough : (b : Bool) (lines o : List ℕ) (r : Option ℕ) → b ≡ false → r ≡ printed lines (length o)
     → printed_said r ≡ cond b (instead (at 3 0)) (lines_said lines (length o))
 enough b lines o r h e = rw h (ap printed_said e ∙ lines-said lines (length o))
 

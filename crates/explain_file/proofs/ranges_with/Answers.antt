@@ -10,30 +10,30 @@ use Rattle.explain_file.proofs.ranges_with.Goals as goal
 pub range_lines-requires-clause-starts : goal.range_lines-requires-clause-starts
 range_lines-requires-clause-starts c =
     let s = c.requires in
-    let e = c.read_file-read.ensures in
-    let n = sym c.frames_in.ensures ∙ c.in-Some.is in
+    let e = c.read_file.ensures in
+    let n = c.in-Ok.is in
     let z = c.find_starts.ensures ∙ ap starts_of c.first_frames-fr.ensures in (
       few _ _ _ _ _ e.outcome e.frames s.frames _ n _ z,
       few-overrides _ _ _ _ _ e.outcome e.frames s.frames (counts_of c.args.least.now)
           (counts_of c.args.greatest.now) _ n _ z,
     )
 
-pub returns-in-None : goal.returns-in-None
-returns-in-None c =
-    let e = c.read_file-read.ensures in
+pub returns-in-Err : goal.returns-in-Err
+returns-in-Err c =
+    let e = c.read_file.ensures in
     let q = c.explain_fault in
     subst (λ (l : Lines). Shown l c.args.out.now q.result q.new.out)
     (refused-ranges _ _ _ _ _ e.outcome e.frames c.requires.frames (counts_of c.args.least.now)
-    (counts_of c.args.greatest.now) (sym c.frames_in.ensures ∙ c.in-None.is))
+    (counts_of c.args.greatest.now) c.in-Err.is)
     q.ensures
 
-pub returns-in-Some : goal.returns-in-Some
-returns-in-Some c =
-    let e = c.read_file-read.ensures in
+pub returns-in-Ok : goal.returns-in-Ok
+returns-in-Ok c =
+    let e = c.read_file.ensures in
     let x = c.first_frames-fr.ensures in
     let q = c.range_lines in
     subst (λ (l : Lines). Shown l c.args.out.now q.result q.new.out)
     (accepted-ranges _ _ _ _ _ e.outcome e.frames c.requires.frames (counts_of c.args.least.now)
-    (counts_of c.args.greatest.now) _ (sym c.frames_in.ensures ∙ c.in-Some.is) _
+    (counts_of c.args.greatest.now) _ c.in-Ok.is _
     (c.find_starts.ensures ∙ ap starts_of x))
     (rw x at q.ensures)

@@ -6,20 +6,20 @@ use Rattle.explain_file.specs.ForProofs.{Shown}
 use Rattle.explain_file.proofs.FileSizes.{refused-sizes, accepted-sizes}
 use Rattle.explain_file.proofs.sizes_with.Goals as goal
 
-pub returns-in-None : goal.returns-in-None
-returns-in-None c =
-    let e = c.read_file-read.ensures in
+pub returns-in-Err : goal.returns-in-Err
+returns-in-Err c =
+    let e = c.read_file.ensures in
     let q = c.explain_fault in
     subst (λ (l : Lines). Shown l c.args.out.now q.result q.new.out)
-    (refused-sizes _ _ _ _ _ e.outcome e.frames c.requires.frames (sym c.frames_in.ensures ∙ c.in-None.is)) q.ensures
+    (refused-sizes _ _ _ _ _ e.outcome e.frames c.requires.frames c.in-Err.is) q.ensures
 
-pub returns-in-Some : goal.returns-in-Some
-returns-in-Some c =
+pub returns-in-Ok : goal.returns-in-Ok
+returns-in-Ok c =
     let s = c.requires in
-    let e = c.read_file-read.ensures in
+    let e = c.read_file.ensures in
     let x = c.first_frames-fr.ensures in
     let q = c.size_lines in
     subst (λ (l : Lines). Shown l c.args.out.now q.result q.new.out)
-    (accepted-sizes _ _ _ _ _ e.outcome e.frames s.frames _ (sym c.frames_in.ensures ∙ c.in-Some.is) _
+    (accepted-sizes _ _ _ _ _ e.outcome e.frames s.frames _ c.in-Ok.is _
     (c.find_starts-s.ensures ∙ ap starts_of x) _ _ s.sizes (rw x at c.measure_all.ensures))
     (rw (x, c.first_frames.ensures) at q.ensures)

@@ -9,23 +9,21 @@ pub returns-then-rest-lt10 : goal.returns-then-rest-lt10
 returns-then-rest-lt10 c =
     let l = c.loop-i in (
       ap (λ (v : ℕ). drop (l.i - 1) (set l.buf (l.i - 1) v)) c.digit.ensures
-          ∙ ends l.i l.rest l.buf _ (omega arith) (omega arith) (omega arith) l.invariant.bytes,
+          ∙ ends l.i l.rest l.buf _ (omega arith) (omega arith) (omega arith) l.invariant.0,
       omega arith,
-      simp length-set l.invariant.long,
+      simp length-set l.invariant.1,
     )
 
 pub loop-i-preserved : goal.loop-i-preserved
 loop-i-preserved c =
-    let l = c.loop-i in
-    record {
-      few = omega arith;
-      bytes = goes l.i l.rest l.buf _ (omega arith) (omega arith) (omega arith) l.invariant.bytes
+    let l = c.loop-i in (
+      goes l.i l.rest l.buf _ (omega arith) (omega arith) (omega arith) l.invariant.0
           ∙ ap (λ (v : ℕ). digits (l.i - 1) (l.rest / 10) ++ drop (l.i - 1) (set l.buf (l.i - 1) v))
-          (sym c.digit.ensures);
-      long = simp length-set l.invariant.long;
-    }
+          (sym c.digit.ensures),
+      simp length-set l.invariant.1,
+    )
 
 pub returns : goal.returns
 returns c =
     let l = c.loop-i in
-    (full l.i l.rest l.buf _ (omega arith) l.invariant.bytes, l.invariant.few, l.invariant.long)
+    (full l.i l.rest l.buf _ (omega arith) l.invariant.0, omega arith, l.invariant.1)

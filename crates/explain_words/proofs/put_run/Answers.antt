@@ -24,14 +24,13 @@ more ps out₀ out last at next r i p h room en ln eo ep er lr el =
     let fits : at + length (x ++ y) ≤ length out₀ = omega (arith, ap length yp) in
     (rw s (omega (arith, ap length yp)), rw s l, ap length l ∙ written-long out₀ (x ++ y) at fits)
 
-pub loop-i-preserved : goal.loop-i-preserved
-loop-i-preserved c =
+pub loop-p-preserved : goal.loop-p-preserved
+loop-p-preserved c =
     let g = c.args in
-    let l = c.loop-i in
+    let l = c.loop-p in
     let q = c.put_piece-next in
+    let i = l.invariant in
     let m =
-    more g.pieces.now g.out.now l.out q.new.out g.at l.next q.result l.i
-    (get_or g.pieces.now l.i 0)
-    (omega arith) c.requires l.invariant.next l.invariant.small l.invariant.bytes refl q.ensures.0 q.ensures.1
-    q.ensures.2 in
-    record { few = omega arith; next = m.0; small = omega (arith, q.ensures.1); bytes = m.1; long = m.2 }
+    more g.pieces.now g.out.now l.out q.new.out g.at l.next q.result l.p-index _
+    (omega arith) c.requires i.0 i.1 i.2 refl q.ensures.0 q.ensures.1 q.ensures.2 in
+    (m.0, omega (arith, i, q.ensures.1), m.1, m.2)

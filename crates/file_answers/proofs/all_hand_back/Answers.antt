@@ -17,7 +17,7 @@ overflow_add-k c =
     omega (
       arith,
       c.loop-m-test.true,
-      c.loop-m.invariant.small,
+      c.loop-m.invariant.1,
       c.row_count-n.ensures,
       ap row_count c.requires.starts,
       few-rows c.args.frames.now c.requires.few,

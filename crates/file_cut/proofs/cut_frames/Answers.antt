@@ -5,7 +5,7 @@ use Rattle.archive.specs.declared.Starts.{Starts}
 use Rattle.archive.specs.Starts.{starts_of, row_count}
 use Rattle.rule.proofs.Named.{listed-length}
 use Rattle.law_cut.specs.Marks.{is_marked}
-use Rattle.file_cut.proofs.Laws.{no-row, row_more, one-most, put-if-length, rows-within}
+use Rattle.file_cut.proofs.Laws.{no-row, row_more, one-most, rows-within}
 use Rattle.file_cut.proofs.cut_frames.Goals as goal
 
 pub put_front-requires : goal.put_front-requires
@@ -23,8 +23,6 @@ loop-k-init c =
     let p = c.put_front.ensures in
     let e = ap (λ (s : Starts). s.rows) c.find_starts-s.ensures in
     record {
-      few = omega arith;
-      long = p.0;
       most = omega arith;
       put = rw e (no-row c.args.marks fr (record {
         count = sym (listed-length (frame_at fr) (starts_of fr).rows);
@@ -40,9 +38,9 @@ put_row-at-requires c =
     let count = c.row_count-n.ensures ∙ ap row_count e in
     let within = rows-within a.frames.now in
     let few = c.requires.0 in
-    let more = c.loop-k-test.true in (
-      omega (arith, count, within, few, more),
-      (omega (arith, first, within, few), omega (arith, first, count, within, few, more, c.loop-k.invariant.most)),
+    let most = c.loop-k.invariant.most in (
+      omega (arith, count, within, few),
+      (omega (arith, first, within, few), omega (arith, first, count, within, few, most)),
     )
 
 pub loop-k-preserved : goal.loop-k-preserved
@@ -60,13 +58,9 @@ loop-k-preserved c =
       ap row_count e,
       rows-within a.frames.now,
       c.requires.1,
-      c.loop-k-test.true,
       l.invariant.most,
-      l.invariant.long,
     ) in
     record {
-      few = omega (arith, c.loop-k-test.true);
-      long = ap length r.cut ∙ put-if-length (is_marked a.marks l.k) _ _ _ ∙ l.invariant.long;
       most = omega (arith, one-most (is_marked a.marks l.k) l.at r.count, l.invariant.most);
       put = row_more a.marks a.frames.now l.k l.invariant.put room r.count (rw f at r.cut);
     }
@@ -81,6 +75,5 @@ returns-clause-few c =
       c.row_count-n.ensures ∙ ap row_count e,
       rows-within c.args.frames.now,
       c.requires.0,
-      l.invariant.few,
       l.invariant.most,
     )

@@ -1,5 +1,5 @@
 -- `cut_frames`: the rows passed stand after the front, those that are marked.
-use Rattle.std.proofs.Common.{ℕ, Bool, ◌+◌, ◌-◌, ◌≤◌, ◌≡◌, List, ◌++◌, length}
+use Rattle.std.proofs.Common.{ℕ, Bool, ◌+◌, ◌≤◌, List, ◌++◌}
 use Rattle.frames.specs.Bytes.{frame_at}
 use Rattle.archive.specs.Starts.{starts_of}
 use Rattle.rule.specs.Things.{listed}
@@ -7,10 +7,8 @@ use Rattle.law_cut.specs.Cut.{cut_rows}
 use Rattle.file_cut.specs.ForProofs.{Pushed}
 use Rattle.file_cut.proofs.cut_frames.Given as goal
 
--- k of the n rows are passed, and the first `at` frames are those before the rows and the rows that are marked
-pub record Inv (fr : List ℕ) (marks : List Bool) (cut₀ cut : List ℕ) (first n k at : ℕ) : Type 0 where
-  pub few : k ≤ n
-  pub long : length cut ≡ length cut₀
+-- k rows are passed, and the first `at` frames are those before the rows and the rows that are marked
+pub record Inv (fr : List ℕ) (marks : List Bool) (cut : List ℕ) (first k at : ℕ) : Type 0 where
   pub most : at ≤ first + k
   pub put : Pushed
       (listed (frame_at fr) (starts_of fr).rows
@@ -18,7 +16,4 @@ pub record Inv (fr : List ℕ) (marks : List Bool) (cut₀ cut : List ℕ) (firs
       at cut
 
 abbrev pub invariant-loop-k : goal.invariant-loop-k
-invariant-loop-k l = Inv l.frames l.marks l.fn.cut l.cut l.first l.n l.k l.at
-
-abbrev pub decreases-loop-k : goal.decreases-loop-k
-decreases-loop-k l = l.n - l.k
+invariant-loop-k l = Inv l.frames l.marks l.cut l.first l.k l.at

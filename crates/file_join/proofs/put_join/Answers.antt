@@ -5,8 +5,8 @@ use Rattle.frames.specs.Bytes.{frame_count}
 use Rattle.file_join.proofs.Lines.{both, joined-all, joined-none, lines_after}
 use Rattle.file_join.proofs.put_join.Goals as goal
 
-pub returns-in-Bytes : goal.returns-in-Bytes
-returns-in-Bytes c =
+pub returns-in-Some : goal.returns-in-Some
+returns-in-Some c =
     let g = c.args in
     let w = c.put_frames.ensures in
     let en = both c.frame_count.ensures c.frame_count-2.ensures in
@@ -14,12 +14,12 @@ returns-in-Bytes c =
     let ex = c.first_frames.ensures in
     let p = c.put_lines.ensures in
     record {
-      outcome = joined-all g.frames.now g.more.now _ room w en ex _ p.outcome c.in-Bytes.is;
+      outcome = joined-all g.frames.now g.more.now _ room w en ex _ p.outcome c.in-Some.is;
       joined = lines_after g.frames.now g.more.now _ room w en ex _ p.out;
     }
 
-pub returns-in-Short : goal.returns-in-Short
-returns-in-Short c =
+pub returns-in-None : goal.returns-in-None
+returns-in-None c =
     let g = c.args in
     let w = c.put_frames.ensures in
     let en = both c.frame_count.ensures c.frame_count-2.ensures in
@@ -27,6 +27,6 @@ returns-in-Short c =
     let ex = c.first_frames.ensures in
     let p = c.put_lines.ensures in
     record {
-      outcome = joined-none g.frames.now g.more.now _ room w en ex _ p.outcome c.in-Short.is;
+      outcome = joined-none g.frames.now g.more.now _ room w en ex _ p.outcome c.in-None.is;
       joined = lines_after g.frames.now g.more.now _ room w en ex _ p.out;
     }

@@ -2,7 +2,7 @@
 use Rattle.frames_rows.proofs.expression.Goals as goal
 
 pub returns-in-Literal : goal.returns-in-Literal
-returns-in-Literal c = rw (c.in-Literal.is, c.from_number-literal.ensures)
+returns-in-Literal c = rw (c.in-Literal.is, c.from-literal.ensures)
 
 pub returns-in-Constant : goal.returns-in-Constant
 returns-in-Constant c = rw (c.in-Constant.is, c.named-n.ensures)
@@ -23,10 +23,10 @@ pub returns-in-AccessIndex : goal.returns-in-AccessIndex
 returns-in-AccessIndex c = rw (c.in-AccessIndex.is, c.last-index.ensures, c.named-n.ensures)
 
 pub returns-in-Splat : goal.returns-in-Splat
-returns-in-Splat c = rw (c.in-Splat.is, c.from_number-size.ensures, c.named-n.ensures)
+returns-in-Splat c = rw (c.in-Splat.is, c.from-size.ensures, c.named-n.ensures)
 
 pub returns-in-Swizzle : goal.returns-in-Swizzle
-returns-in-Swizzle c = rw (c.in-Swizzle.is, c.from_number-size-in-Swizzle.ensures, c.named-n.ensures)
+returns-in-Swizzle c = rw (c.in-Swizzle.is, c.from-size-in-Swizzle.ensures, c.named-n.ensures)
 
 pub returns-in-FunctionArgument : goal.returns-in-FunctionArgument
 returns-in-FunctionArgument c = rw (c.in-FunctionArgument.is, c.last-index-in-FunctionArgument.ensures)
@@ -47,13 +47,13 @@ pub returns-in-ImageLoad : goal.returns-in-ImageLoad
 returns-in-ImageLoad c = rw (c.in-ImageLoad.is, c.named-n.ensures)
 
 pub returns-in-ImageQuery : goal.returns-in-ImageQuery
-returns-in-ImageQuery c = rw (c.in-ImageQuery.is, c.from_number-query.ensures, c.named-n.ensures)
+returns-in-ImageQuery c = rw (c.in-ImageQuery.is, c.from-query.ensures, c.named-n.ensures)
 
 pub returns-in-Unary : goal.returns-in-Unary
 returns-in-Unary c = rw (c.in-Unary.is, c.named-n.ensures)
 
 pub returns-in-Binary : goal.returns-in-Binary
-returns-in-Binary c = rw (c.in-Binary.is, c.right-right.ensures, c.from_number-op.ensures, c.named-n.ensures)
+returns-in-Binary c = rw (c.in-Binary.is, c.right-right.ensures, c.from-op.ensures, c.named-n.ensures)
 
 pub returns-in-Select : goal.returns-in-Select
 returns-in-Select c = rw (c.in-Select.is, c.named-n.ensures)
@@ -62,10 +62,10 @@ pub returns-in-Derivative : goal.returns-in-Derivative
 returns-in-Derivative c = rw (c.in-Derivative.is, c.named-n.ensures)
 
 pub returns-in-Relational : goal.returns-in-Relational
-returns-in-Relational c = rw (c.in-Relational.is, c.from_number-fun.ensures, c.named-n.ensures)
+returns-in-Relational c = rw (c.in-Relational.is, c.from-fun.ensures, c.named-n.ensures)
 
 pub returns-in-As : goal.returns-in-As
-returns-in-As c = rw (c.in-As.is, c.converted-convert.ensures, c.from_number-kind.ensures, c.named-n.ensures)
+returns-in-As c = rw (c.in-As.is, c.converted-convert.ensures, c.from-kind.ensures, c.named-n.ensures)
 
 pub returns-in-CallResult : goal.returns-in-CallResult
 returns-in-CallResult c = rw (c.in-CallResult.is, c.named-n.ensures)
@@ -83,9 +83,9 @@ pub returns-in-CooperativeLoad : goal.returns-in-CooperativeLoad
 returns-in-CooperativeLoad c =
     rw (
       c.in-CooperativeLoad.is,
-      c.from_number-role.ensures,
-      c.from_number-rows.ensures,
-      c.from_number-columns.ensures,
+      c.from-role.ensures,
+      c.from-rows.ensures,
+      c.from-columns.ensures,
       c.named-n.ensures,
     )
 

@@ -8,7 +8,7 @@ pub returns-in-Override : goal.returns-in-Override
 returns-in-Override c = rw (c.in-Override.is, c.ty-ty.ensures)
 
 pub returns-in-GlobalVariable : goal.returns-in-GlobalVariable
-returns-in-GlobalVariable c = rw (c.in-GlobalVariable.is, c.from_number-space.ensures, c.ty-ty.ensures)
+returns-in-GlobalVariable c = rw (c.in-GlobalVariable.is, c.from-space.ensures, c.ty-ty.ensures)
 
 pub returns-in-FunctionArgument : goal.returns-in-FunctionArgument
 returns-in-FunctionArgument c = rw (c.in-FunctionArgument.is, c.ty-ty.ensures)

@@ -6,9 +6,9 @@ use Rattle.program_sizes.proofs.list_sizes.Goals as goal
 
 pub slice_bounds-lines-end : goal.slice_bounds-lines-end
 slice_bounds-lines-end g c =
-    let t = c.sizes_text in bytes-within _ _ _ _ _ t.ensures.outcome t.ensures.out c.in-Bytes.is
+    let t = c.sizes_text in bytes-within _ _ _ _ _ t.ensures.outcome t.ensures.out c.in-Some.is
 
 pub slice_bounds-write_all-end : goal.slice_bounds-write_all-end
 slice_bounds-write_all-end g c =
     let t = c.sizes_text in
-    sym (length-take-le _ _ (bytes-within _ _ _ _ _ t.ensures.outcome t.ensures.out c.in-Bytes.is))
+    sym (length-take-le _ _ (bytes-within _ _ _ _ _ t.ensures.outcome t.ensures.out c.in-Some.is))

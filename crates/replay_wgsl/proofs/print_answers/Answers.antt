@@ -6,9 +6,9 @@ use Rattle.replay_wgsl.proofs.print_answers.Goals as goal
 
 pub slice_bounds-out-end : goal.slice_bounds-out-end
 slice_bounds-out-end g c =
-    let t = c.type_text in bytes-within _ _ _ _ _ t.ensures.outcome t.ensures.out c.in-Bytes.is
+    let t = c.type_text in bytes-within _ _ _ _ _ t.ensures.outcome t.ensures.out c.in-Some.is
 
 pub slice_bounds-print_cells-end : goal.slice_bounds-print_cells-end
 slice_bounds-print_cells-end g c =
     let t = c.type_text in
-    sym (length-take-le _ _ (bytes-within _ _ _ _ _ t.ensures.outcome t.ensures.out c.in-Bytes.is))
+    sym (length-take-le _ _ (bytes-within _ _ _ _ _ t.ensures.outcome t.ensures.out c.in-Some.is))

@@ -1,21 +1,13 @@
--- `faulty_span`: every override passed has a good span, so the first that has not is the lowest.
-use Rattle.std.proofs.Common.{rules}
-use Rattle.scan.proofs.Laws.{lowest-zero, lowest-more, lowest-hit}
-use Rattle.rule_ranges.specs.Ranges.{faulty_span}
+-- `faulty_span`: the first override whose span is not good is the lowest.
+use Rattle.std.proofs.Common.{rules, ℕ}
+use borrow.Author.Tests.{tests}
+use Rattle.scan.proofs.Find.{lowest_find}
+use Rattle.rule_ranges.specs.Ranges.{counts_of, span_ok, faulty_span}
 use Rattle.size_pending.proofs.faulty_span.Goals as goal
 
-pub loop-o-init : goal.loop-o-init
-loop-o-init c = record { few = search rules; none = lowest-zero _ }
-
-pub loop-o-preserved : goal.loop-o-preserved
-loop-o-preserved c =
-    record {
-      few = search rules;
-      none = lowest-more _ _ c.loop-o.invariant.none c.span_ok.ensures c.if-span_ok.true;
-    }
-
-pub returns-else-span_ok : goal.returns-else-span_ok
+pub returns : goal.returns
 unfolding faulty_span
-returns-else-span_ok c =
-    rw (← c.minus-n.ensures)
-    (lowest-hit _ _ _ c.loop-o-test.true c.loop-o.invariant.none c.span_ok.ensures c.if-span_ok.false)
+returns c =
+    lowest_find (λ (k : ℕ). span_ok (counts_of c.args.least.now) (counts_of c.args.greatest.now)
+    (record { 0 = k })) _ _ _ _
+    c.find.result (cc) c.find.ensures.ran (λ x q k. search (rules, tests)) (λ x q k. search (rules, tests))

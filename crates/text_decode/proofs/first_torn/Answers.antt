@@ -1,18 +1,14 @@
--- Each line passed is whole, so the one where the loop stops is the lowest torn one.
-use Rattle.std.proofs.Common.{arith}
-use Rattle.scan.proofs.Laws.{lowest-zero, lowest-more, lowest-hit}
+-- The first torn line is the lowest.
+use Rattle.std.proofs.Common.{rules, ◌∙◌, ap}
+use borrow.Author.Tests.{tests}
+use Rattle.scan.specs.Lowest.{lowest}
+use Rattle.scan.proofs.Find.{lowest_find}
+use Rattle.text.specs.Lines.{line_ok}
 use Rattle.text_decode.proofs.first_torn.Goals as goal
 
-pub loop-k-init : goal.loop-k-init
-loop-k-init c = record { few = omega arith; none = lowest-zero _ }
-
-pub loop-k-preserved : goal.loop-k-preserved
-loop-k-preserved c = record {
-  few = omega arith;
-  none = lowest-more _ _ c.loop-k.invariant.none c.line_ok.ensures c.if-line_ok.true;
-}
-
-pub returns-else-line_ok : goal.returns-else-line_ok
-returns-else-line_ok c =
-    rw (← c.line_count-n.ensures)
-    (lowest-hit _ _ _ c.loop-k-test.true c.loop-k.invariant.none c.line_ok.ensures c.if-line_ok.false)
+pub returns : goal.returns
+returns c =
+    let ok = line_ok c.args.text.now in
+    lowest_find ok _ _ _ _ c.find.result (cc) c.find.ensures.ran (λ x q k. search (rules, tests)) (λ x q k. search
+    (rules, tests))
+    ∙ ap (lowest ok) c.line_count-n.ensures

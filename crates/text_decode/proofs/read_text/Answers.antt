@@ -5,18 +5,18 @@ use Rattle.text.specs.Lines.{line_ok, line_count}
 use Rattle.text.proofs.Laws.{frames-fit}
 use Rattle.text_decode.proofs.read_text.Goals as goal
 
-pub overflow_cast-result-in-At : goal.overflow_cast-result-in-At
-overflow_cast-result-in-At c =
+pub overflow_cast-result-in-Some : goal.overflow_cast-result-in-Some
+overflow_cast-result-in-Some c =
     let t = c.args.text.now in
     omega (
       arith,
       c.most-m.ensures.1,
-      (found_at (line_ok t) (line_count t) _ (sym c.first_torn-torn.ensures ∙ c.in-At.is)).inside,
+      (found_at (line_ok t) (line_count t) _ (sym c.first_torn-torn.ensures ∙ c.in-Some.is)).inside,
     )
 
 pub decode-requires : goal.decode-requires
 decode-requires c = (
-  rw c.line_count-n.ensures (sym c.first_torn-torn.ensures ∙ c.in-Nothing.is),
+  rw c.line_count-n.ensures (sym c.first_torn-torn.ensures ∙ c.in-None.is),
   omega (
     arith,
     c.line_count-n.ensures,

@@ -1,19 +1,12 @@
 -- A turn writes two digits of a line, and at its end the line feed.
-use Rattle.std.proofs.Common.{◌≡◌, refl, ◌∙◌, ◌+◌, ◌*◌, arith, length-set}
+use Rattle.std.proofs.Common.{◌≡◌, ◌∙◌, ◌+◌, ◌*◌, arith}
 use Rattle.scan.proofs.Fill.{build-zero, build-turn}
 use Rattle.text.specs.Lines.{char_of}
-use Rattle.text.proofs.Turn.{high_digit, low_digit, line-end, begun, ended}
+use Rattle.text.proofs.Turn.{high_digit, low_digit, line-end, ended}
 use Rattle.text_encode.proofs.encode.Goals as goal
 
 pub lines-init : goal.lines-init
-lines-init c = record { few = omega arith; bytes = build-zero _ _; long = refl }
-
-pub digits-init : goal.digits-init
-digits-init c = record {
-  few = omega arith;
-  bytes = begun _ _ c.args.text.now _ c.lines.invariant.bytes;
-  long = refl;
-}
+lines-init c = build-zero _ _
 
 -- two digits are written
 pub digits-preserved : goal.digits-preserved
@@ -23,14 +16,9 @@ digits-preserved c =
     let fr = c.args.frames.now in
     let l = c.digits-test.true in
     let a : 33 * k + 2 * (i.j + 1) ≡ 33 * k + 2 * i.j + 1 + 1 = omega arith in
-    let first = build-turn (char_of fr) _ i.text _ _ i.invariant.bytes (omega arith)
+    let first = build-turn (char_of fr) _ i.text _ _ i.invariant (omega arith)
     (c.digit.ensures ∙ high_digit fr k i.j l) in
-    record {
-      few = omega arith;
-      bytes = rw a (build-turn (char_of fr) _ _ _ _ first (omega arith)
-          (c.digit-in-digits.ensures ∙ low_digit fr k i.j l));
-      long = simp length-set i.invariant.long;
-    }
+    rw a (build-turn (char_of fr) _ _ _ _ first (omega arith) (c.digit-in-digits.ensures ∙ low_digit fr k i.j l))
 
 -- the line feed is written
 pub lines-preserved : goal.lines-preserved
@@ -39,11 +27,5 @@ lines-preserved c =
     let o = c.lines in
     let s = c.args in
     let a : 33 * (o.k + 1) ≡ 33 * o.k + 32 + 1 = omega arith in
-    let filled = ended _ o.text s.text.now (33 * o.k) o.invariant.bytes i.text 32 (2 * i.j) (omega arith)
-    i.invariant.bytes in
-    record {
-      few = omega arith;
-      bytes = rw a (build-turn (char_of s.frames.now) _ i.text _ _ filled (omega arith)
-          (line-end s.frames.now o.k));
-      long = simp length-set (i.invariant.long ∙ o.invariant.long);
-    }
+    let filled = ended _ o.text s.text.now (33 * o.k) o.invariant i.text 32 (2 * i.j) (omega arith) i.invariant in
+    rw a (build-turn (char_of s.frames.now) _ i.text _ _ filled (omega arith) (line-end s.frames.now o.k))

@@ -41,8 +41,6 @@ pub parts-loop-i-init : goal.parts-loop-i-init
 parts-loop-i-init t c =
     let g = c.args in
     record {
-      few = omega arith;
-      long = refl;
       like = none_yet g.frames.now g.s (earlier g.frames.now g.s g.marks.now g.counts.now g.n) g.first g.afresh;
       known = c.requires;
     }
@@ -53,8 +51,6 @@ parts-loop-i-preserved t c =
     let g = c.args in
     let p = c.part-e in
     record {
-      few = omega (arith, c.loop-i-test.true);
-      long = p.auto.table ∙ l.invariant.long;
       like =
           one_more g.frames.now g.s (earlier g.frames.now g.s g.marks.now g.counts.now g.n) g.first g.afresh l.i _ _
           _ _ l.invariant.like (omega arith) c.member_at-m.ensures p.ensures.0 c.member_more-so_far.ensures;

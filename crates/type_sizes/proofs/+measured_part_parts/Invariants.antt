@@ -1,6 +1,6 @@
 -- Sizes over a table. The functions call each other; a type names earlier ones, so three times the number and the place
 -- of the function in the round falls.
-use Rattle.std.proofs.Common.{◌-◌, ◌+◌, ◌*◌}
+use Rattle.std.proofs.Common.{◌+◌, ◌*◌}
 use Rattle.type_sizes.proofs.Found.{Turn}
 use Rattle.type_sizes.proofs.+measured_part_parts.Given as goal
 
@@ -13,10 +13,7 @@ decreases-part l = 3 * l.n.0 + 0
 abbrev pub decreases-parts : goal.decreases-parts
 decreases-parts l = 3 * l.n.0 + 1
 
--- the table is as long as it was, the members passed stand for the exact ones, and the table holds what was found
+-- the members passed stand for the exact ones, and the table holds what was found
 abbrev pub invariant-parts-loop-i : goal.invariant-parts-loop-i
 invariant-parts-loop-i l =
-    Turn l.frames l.s l.marks l.counts l.initial.table l.n l.first l.count l.afresh l.table l.so_far l.i
-
-abbrev pub decreases-parts-loop-i : goal.decreases-parts-loop-i
-decreases-parts-loop-i l = l.count - l.i
+    Turn l.frames l.s l.marks l.counts l.n l.first l.afresh l.table l.so_far l.i

@@ -1,6 +1,5 @@
 -- `measure_all`: what the types passed fill stands at the front of the buffer, and the table holds what was found.
-use Rattle.std.proofs.Common.{arith, ◌≡◌, refl, ap, ◌∙◌, [], length}
-use Rattle.frames.proofs.Put.{put-length}
+use Rattle.std.proofs.Common.{arith, ◌≡◌, ap, ◌∙◌, []}
 use Rattle.rule_sizes.specs.declared.Measure.{Measure}
 use Rattle.rule_sizes.specs.Sizes.{measure_said, size_said_frame, size_frame}
 use Rattle.rule_sizes.proofs.Laws.{known-none}
@@ -19,11 +18,8 @@ pub loop-k-init : goal.loop-k-init
 loop-k-init c =
     let g = c.args in
     record {
-      few = omega arith;
       written = none_yet (size_frame g.frames.now g.s) g.s _;
-      long = refl;
       known = known-none (measure_marked g.frames.now g.s [] []) 16384;
-      wide = refl;
     }
 
 pub loop-k-preserved : goal.loop-k-preserved
@@ -36,17 +32,14 @@ loop-k-preserved c =
     let e : c.measure_frame.result ≡ size_frame g.frames.now g.s l.k = c.measure_frame.ensures
     ∙ ap (λ (x : Measure). size_said_frame (measure_said x)) (m.ensures.0 ∙ no-counts g.frames.now g.s _ _) in
     record {
-      few = omega (arith, there);
       written =
           one_more (size_frame g.frames.now g.s) g.s g.out.now l.out p.new.s l.k _ l.invariant.written
           (omega (arith, there, c.if-out-n.false)) e p.ensures;
-      long = ap length p.ensures ∙ put-length _ _ _ ∙ l.invariant.long;
       known = m.ensures.1;
-      wide = m.auto.table ∙ l.invariant.wide;
     }
 
 pub returns : goal.returns
 returns c =
     let l = c.loop-k in
     all-written _ _ _ l.out l.k c.if-n-gt-MAX_FRAMES.false c.if-out-n.false
-    (omega (arith, l.invariant.few, c.loop-k-test.false)) l.invariant.written
+    (omega arith) l.invariant.written

@@ -1,20 +1,14 @@
 -- `measure_all`: what the types passed fill stands at the front of the buffer, and the table holds what was found.
-use Rattle.std.proofs.Common.{◌≡◌, ℕ, ◌-◌, ◌*◌, ◌≤◌, List, [], ◌++◌, length, drop}
+use Rattle.std.proofs.Common.{◌≡◌, ℕ, ◌*◌, List, [], ◌++◌, drop}
 use Rattle.archive.specs.declared.Starts.{Starts}
 use Rattle.rule_sizes.specs.Sizes.{size_frames}
 use Rattle.rule_ranges.specs.ForProofs.{KnownMarked}
 use Rattle.type_sizes.proofs.measure_all.Given as goal
 
--- k of the n frames are written; the other bytes of the buffer are as they were
-pub record Inv (fr : List ℕ) (s : Starts) (out₀ out table : List ℕ) (n k : ℕ) : Type 0 where
-  pub few : k ≤ n
+-- k frames are written; the other bytes of the buffer are as they were
+pub record Inv (fr : List ℕ) (s : Starts) (out₀ out table : List ℕ) (k : ℕ) : Type 0 where
   pub written : out ≡ size_frames fr s k ++ drop (16 * k) out₀
-  pub long : length out ≡ length out₀
   pub known : KnownMarked fr s [] [] table
-  pub wide : length table ≡ 16384
 
 abbrev pub invariant-loop-k : goal.invariant-loop-k
-invariant-loop-k l = Inv l.frames l.s l.initial.out l.out l.table l.n l.k
-
-abbrev pub decreases-loop-k : goal.decreases-loop-k
-decreases-loop-k l = l.n - l.k
+invariant-loop-k l = Inv l.frames l.s l.initial.out l.out l.table l.k

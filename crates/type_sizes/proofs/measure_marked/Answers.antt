@@ -1,5 +1,4 @@
 -- `measure_marked`: a table of zeros holds nothing yet.
-use Rattle.std.proofs.Common.{arith, refl}
 use Rattle.rule_sizes.proofs.Laws.{known-none}
 use Rattle.rule_ranges.specs.Ranges.{measure_marked}
 use Rattle.type_sizes.proofs.measure_marked.Goals as goal
@@ -7,8 +6,4 @@ use Rattle.type_sizes.proofs.measure_marked.Goals as goal
 pub loop-k-init : goal.loop-k-init
 loop-k-init c =
     let g = c.args in
-    record {
-      few = omega arith;
-      known = known-none (measure_marked g.frames.now g.s g.marks.now g.counts.now) 16384;
-      wide = refl;
-    }
+    known-none (measure_marked g.frames.now g.s g.marks.now g.counts.now) 16384

@@ -1,6 +1,5 @@
 -- `range_all`: the ranges of the types passed stand at the front of the buffer, and each table holds what was found.
-use Rattle.std.proofs.Common.{arith, ◌≡◌, refl, ap, ◌∙◌, length}
-use Rattle.frames.proofs.Put.{put-length}
+use Rattle.std.proofs.Common.{arith, ◌≡◌, ap, ◌∙◌}
 use Rattle.rule_sizes.specs.declared.Measure.{Measure}
 use Rattle.rule_sizes.proofs.Laws.{known-none}
 use Rattle.rule_ranges.specs.declared.Range.{Range}
@@ -20,13 +19,9 @@ loop-k-init c =
     let g = c.args in
     let marks = c.pending_marks-marks.result in
     record {
-      few = omega arith;
       written = none_yet (range_frame g.frames.now g.s (counts_of g.least.now) (counts_of g.greatest.now)) g.s _;
-      long = refl;
       low = known-none (measure_marked g.frames.now g.s marks g.least.now) 16384;
       high = known-none (measure_marked g.frames.now g.s marks g.greatest.now) 16384;
-      low_wide = refl;
-      high_wide = refl;
     }
 
 pub loop-k-preserved : goal.loop-k-preserved
@@ -47,19 +42,15 @@ loop-k-preserved c =
     ∙ range_all g.frames.now g.s marks.result g.least.now g.greatest.now (record { 0 = l.k })
     c.if-n-gt-MAX_FRAMES.false marks.ensures) in
     record {
-      few = omega (arith, there);
       written =
           one_more (range_frame g.frames.now g.s (counts_of g.least.now) (counts_of g.greatest.now)) g.s g.out.now l.out
           p.new.s l.k _ l.invariant.written (omega (arith, there, c.if-room-n.false)) e p.ensures;
-      long = ap length p.ensures ∙ put-length _ _ _ ∙ l.invariant.long;
       low = low.ensures.1;
       high = high.ensures.1;
-      low_wide = low.auto.table ∙ l.invariant.low_wide;
-      high_wide = high.auto.table ∙ l.invariant.high_wide;
     }
 
 pub returns : goal.returns
 returns c =
     let l = c.loop-k in
     all-written _ _ _ l.out l.k c.if-n-gt-MAX_FRAMES.false c.if-room-n.false
-    (omega (arith, l.invariant.few, c.loop-k-test.false)) l.invariant.written
+    (omega arith) l.invariant.written

@@ -1,24 +1,14 @@
--- `first_disorder`: no frame passed is out of order, so the first that is not in order is the lowest.
-use Rattle.std.proofs.Common.{rules}
-use Rattle.scan.proofs.Laws.{lowest-zero, lowest-more, lowest-hit, lowest-none}
+-- `first_disorder`: the first frame that is out of order is the lowest.
+use Rattle.std.proofs.Common.{rules, ◌∙◌, ap}
+use borrow.Author.Tests.{tests}
+use Rattle.scan.specs.Lowest.{lowest}
+use Rattle.scan.proofs.Find.{lowest_find}
+use Rattle.archive.specs.Order.{order_ok}
 use Rattle.archive_access.proofs.order.first_disorder.Goals as goal
-
-pub loop-k-init : goal.loop-k-init
-loop-k-init c = record { few = search rules; none = lowest-zero _ }
-
-pub loop-k-preserved : goal.loop-k-preserved
-loop-k-preserved c =
-    record {
-      few = search rules;
-      none = lowest-more _ _ c.loop-k.invariant.none c.order_ok.ensures c.if-order_ok.true;
-    }
-
-pub returns-else-order_ok : goal.returns-else-order_ok
-returns-else-order_ok c =
-    rw (← c.frame_count-n.ensures)
-    (lowest-hit _ _ _ c.loop-k-test.true c.loop-k.invariant.none c.order_ok.ensures c.if-order_ok.false)
 
 pub returns : goal.returns
 returns c =
-    rw (← c.frame_count-n.ensures)
-    (lowest-none _ _ _ c.loop-k.invariant.few c.loop-k-test.false c.loop-k.invariant.none)
+    let ok = order_ok c.args.frames.now in
+    lowest_find ok _ _ _ _ c.find.result (cc) c.find.ensures.ran (λ x q k. search (rules, tests)) (λ x q k. search
+    (rules, tests))
+    ∙ ap (lowest ok) c.frame_count-n.ensures

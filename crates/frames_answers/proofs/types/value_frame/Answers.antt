@@ -5,15 +5,15 @@ pub returns-in-Scalar : goal.returns-in-Scalar
 returns-in-Scalar c = rw (c.in-Scalar.is, c.scalar_frame.ensures)
 
 pub returns-in-Vector : goal.returns-in-Vector
-returns-in-Vector c = rw (c.in-Vector.is, c.scalar_frame-in-Vector.ensures, c.number.ensures)
+returns-in-Vector c = rw (c.in-Vector.is, c.scalar_frame-in-Vector.ensures, c.from.ensures)
 
 pub returns-in-Matrix : goal.returns-in-Matrix
 returns-in-Matrix c =
     rw (
       c.in-Matrix.is,
       c.scalar_frame-in-Matrix.ensures,
-      c.number-in-Matrix-2.ensures,
-      c.number-in-Matrix.ensures,
+      c.from-in-Matrix-2.ensures,
+      c.from-in-Matrix.ensures,
     )
 
 pub returns-in-CooperativeMatrix : goal.returns-in-CooperativeMatrix
@@ -21,9 +21,9 @@ returns-in-CooperativeMatrix c =
     rw (
       c.in-CooperativeMatrix.is,
       c.scalar_frame-in-CooperativeMatrix.ensures,
-      c.number-in-CooperativeMatrix-3.ensures,
-      c.number-in-CooperativeMatrix-2.ensures,
-      c.number-in-CooperativeMatrix.ensures,
+      c.from-in-CooperativeMatrix-3.ensures,
+      c.from-in-CooperativeMatrix-2.ensures,
+      c.from-in-CooperativeMatrix.ensures,
     )
 
 pub returns-in-Atomic : goal.returns-in-Atomic
@@ -37,9 +37,8 @@ returns-in-ValuePointer c =
     rw (
       c.in-ValuePointer.is,
       c.scalar_frame-in-ValuePointer.ensures,
-      c.access.ensures,
-      c.number-in-ValuePointer.ensures,
       c.option_size_number.ensures,
+      c.into-space.ensures,
     )
 
 pub returns-in-Array : goal.returns-in-Array

@@ -1,7 +1,7 @@
 -- `gelmusko_smallest_part`: where the out-slice and the table of marks have room, the number handed on gives what the
 -- number handed in asks for.
 use Rattle.std.proofs.Common.{[], ap, length, ◌∙◌}
-use Rattle.answers.specs.Numbers.{Refused, outcome_values}
+use Rattle.answers.specs.Numbers.{Refused, error_values}
 use Rattle.frames.specs.Out.{refused_frame}
 use Rattle.gelmusko.proofs.Marked.{short-said, short-frames, short-table, room-said, room-frames, room-table}
 use Rattle.gelmusko.proofs.Room.{not-put, handed-rows}
@@ -16,7 +16,7 @@ returns-then-marks-lt1024-clause-outcome c =
     let n = length a.frames.now in
     let small = c.if-marks-lt1024.true in
     (handed-rows (λ (r : Refused). r.number) refused_frame _ c.put_outcome.ensures
-    (ap outcome_values c.short_read.ensures
+    (ap error_values c.short_read.ensures
     ∙ short-said a.limit a.text.now a.frames.now a.marks.now small n a.row)
     (short-frames a.limit a.text.now a.frames.now a.marks.now small)
     (short-table a.limit a.text.now a.frames.now a.marks.now small n a.row)
@@ -28,7 +28,7 @@ returns-then-marks-lt1024-clause-frames c =
     let n = length a.frames.now in
     let small = c.if-marks-lt1024.true in
     (handed-rows (λ (r : Refused). r.number) refused_frame _ c.put_outcome.ensures
-    (ap outcome_values c.short_read.ensures
+    (ap error_values c.short_read.ensures
     ∙ short-said a.limit a.text.now a.frames.now a.marks.now small n a.row)
     (short-frames a.limit a.text.now a.frames.now a.marks.now small)
     (short-table a.limit a.text.now a.frames.now a.marks.now small n a.row)
@@ -40,7 +40,7 @@ returns-then-marks-lt1024-clause-marks c =
     let n = length a.frames.now in
     let small = c.if-marks-lt1024.true in
     (handed-rows (λ (r : Refused). r.number) refused_frame _ c.put_outcome.ensures
-    (ap outcome_values c.short_read.ensures
+    (ap error_values c.short_read.ensures
     ∙ short-said a.limit a.text.now a.frames.now a.marks.now small n a.row)
     (short-frames a.limit a.text.now a.frames.now a.marks.now small)
     (short-table a.limit a.text.now a.frames.now a.marks.now small n a.row)
@@ -52,7 +52,7 @@ returns-then-marks-lt1024-clause-out c =
     let n = length a.frames.now in
     let small = c.if-marks-lt1024.true in
     (handed-rows (λ (r : Refused). r.number) refused_frame _ c.put_outcome.ensures
-    (ap outcome_values c.short_read.ensures
+    (ap error_values c.short_read.ensures
     ∙ short-said a.limit a.text.now a.frames.now a.marks.now small n a.row)
     (short-frames a.limit a.text.now a.frames.now a.marks.now small)
     (short-table a.limit a.text.now a.frames.now a.marks.now small n a.row)

@@ -1,7 +1,5 @@
 -- `put_marks`: a turn writes one byte, and the last one has written all.
-use Rattle.std.proofs.Common.{◌≡◌, ◌++◌, ℕ, List, drop, refl, ap, ◌∙◌, arith}
-use native.Mathlib.Nat.{le_antisymm}
-use lib.ListN.{length-set}
+use Rattle.std.proofs.Common.{◌≡◌, ◌++◌, ℕ, List, drop, ap, ◌∙◌, arith}
 use Rattle.scan.specs.Lists.{build}
 use Rattle.scan.proofs.Fill.{build-zero, build-turn}
 use Rattle.gelmusko.proofs.cuts.put_marks.Goals as goal
@@ -12,18 +10,13 @@ all-put : (f : ℕ → ℕ) (d table : List ℕ) (k : ℕ) → table ≡ build f
 all-put f d table k e q = e ∙ ap (λ (j : ℕ). build f j ++ drop j d) q
 
 pub loop-k-init : goal.loop-k-init
-loop-k-init c = (omega arith, (refl, build-zero _ _))
+loop-k-init c = build-zero _ _
 
 pub loop-k-preserved : goal.loop-k-preserved
-loop-k-preserved c = (
-  omega (arith, c.loop-k-test.true),
-  (
-    simp length-set c.loop-k.invariant.1.0,
-    build-turn _ c.args.table.now c.loop-k.table c.loop-k.k _ c.loop-k.invariant.1.1
-        (omega (arith, c.loop-k-test.true, c.requires)) c.mark_byte.ensures,
-  ),
-)
+loop-k-preserved c =
+    build-turn _ c.args.table.now c.loop-k.table c.loop-k.k _ c.loop-k.invariant
+    (omega (arith, c.requires)) c.mark_byte.ensures
 
 pub returns : goal.returns
 returns c =
-    all-put _ _ _ c.loop-k.k c.loop-k.invariant.1.1 (le_antisymm c.loop-k.invariant.0 c.loop-k-test.false)
+    all-put _ _ _ c.loop-k.k c.loop-k.invariant (omega arith)

@@ -1,7 +1,4 @@
 -- `gelmusko_join_files`: as `join_files`, where the out-slice has room.
-use Rattle.std.proofs.Common.{[]}
-use Rattle.answers.specs.Numbers.{Refused}
-use Rattle.frames.specs.Out.{refused_frame}
 use Rattle.gelmusko.proofs.Room.{not-put}
 use Rattle.gelmusko.proofs.joins.gelmusko_join_files.Goals as goal
 

@@ -1,6 +1,6 @@
 -- `gelmusko_compose_verdict`: where the out-slice has room, the number handed on gives what the number handed in
 -- asks for.
-use Rattle.std.proofs.Common.{[], ap, ◌∙◌}
+use Rattle.std.proofs.Common.{[], ◌∙◌}
 use Rattle.frames.specs.Out.{one_frame}
 use Rattle.rule_file.specs.Exported.{one_number}
 use Rattle.gelmusko.proofs.Laws.{judged-clamped, said-clamped}

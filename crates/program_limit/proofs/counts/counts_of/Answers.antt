@@ -1,25 +1,21 @@
--- By the first dash, which is a byte of the word.
-use Rattle.std.proofs.Common.{◌≡◌, ◌<◌, ℕ, List, length, sym, ◌∙◌, arith}
-use lib.Seq.{length-take-le}
-use Rattle.scan.specs.declared.Found.{Found}
-use Rattle.scan.specs.declared.Found.TheVariants.{At}
-use Rattle.scan.specs.Lowest.{lowest}
-use Rattle.scan.proofs.Laws.{found_at}
-use Rattle.program_limit.specs.Counts.{no_dash}
+-- By the first dash.
+use Rattle.std.proofs.Common.{sym, ap, ◌∙◌, ◌+◌, ℕ, List, take, length, arith}
+use Rattle.std.proofs.lemmas.Slice.{between_to_end}
+use Rattle.program_limit.specs.Counts.{count_of, both_of, around, counts_of}
+use Rattle.program_limit.proofs.Dash.{dash-found}
 use Rattle.program_limit.proofs.counts.counts_of.Goals as goal
 
-inside : (w : List ℕ) (f : Found) (k : ℕ) → f ≡ lowest (no_dash w) (length w) → f ≡ At k → k < length w
-inside w f k e h = (found_at (no_dash w) (length w) k (sym e ∙ h)).inside
+pub returns-in_err-k : goal.returns-in_err-k
+unfolding counts_of
+returns-in_err-k c =
+    let w = c.args.word.now in
+    c.from_residual.ensures ∙ ap (around w) (sym c.in_err-k.was ∙ dash-found w _ c.first_dash.ensures)
 
-pub slice_bounds-count_of-end : goal.slice_bounds-count_of-end
-slice_bounds-count_of-end c =
-    sym (length-take-le _ _ (omega (arith, inside c.args.word.now _ _ c.first_dash.ensures c.in-At.is)))
-
-pub overflow_add-from : goal.overflow_add-from
-overflow_add-from c = omega (arith, inside c.args.word.now _ _ c.first_dash.ensures c.in-At.is)
-
-pub slice_bounds-count_of-count : goal.slice_bounds-count_of-count
-slice_bounds-count_of-count c = omega (arith, inside c.args.word.now _ _ c.first_dash.ensures c.in-At.is)
-
-pub slice_bounds-count_of-start : goal.slice_bounds-count_of-start
-slice_bounds-count_of-start c = omega (arith, inside c.args.word.now _ _ c.first_dash.ensures c.in-At.is)
+pub returns : goal.returns
+unfolding counts_of
+returns c =
+    let w = c.args.word.now in
+    let k = c.in_ok-k.k in
+    rw (c.both.ensures, c.count_of.ensures, c.count_of-2.ensures)
+    (ap (λ (x : List ℕ). both_of (count_of (take k w)) (count_of x)) (between_to_end w (k + 1) (length w) (omega arith))
+    ∙ ap (around w) (sym c.in_ok-k.was ∙ dash-found w _ c.first_dash.ensures))

@@ -1,51 +1,55 @@
 -- `access_index`: its operand is a pointer whose base is seen or unknown, or another type, or the row ends with what
 -- ended the look.
+use Rattle.std.proofs.lemmas.Result.{err_from_is_err_and}
+use Rattle.row_operands.proofs.Ended.{ended-is}
+use Rattle.std.specs.Prelude.{Ok}
 use mathlib.Core.Path.{sym, ap, ◌∙◌}
 use Rattle.rule_rows.specs.Access.{index_through, index_into}
-use Rattle.row_operands.specs.declared.Looked.TheVariants.{Seen}
 use Rattle.row_operands.proofs.NotKind.{not-pointer}
 use Rattle.row_operands.proofs.Steps.{base-into, base-through, base-unknown, base-ended}
 use Rattle.row_access.proofs.reads.access_index.Goals as goal
 
-pub returns-in-Known : goal.returns-in-Known
-returns-in-Known c =
+pub returns-in-Some : goal.returns-in-Some
+returns-in-Some c =
     let g =
     c.args in
     c.index_through.ensures
-    ∙ base-through g.frames.now g.s g.answers.now g.places.now g.here g.base
+    ∙ base-through g.ctx.now.frames.now g.ctx.now.starts g.ctx.now.answers.now g.ctx.now.places.now g.here g.base
     (λ b p x. index_through g.base g.index b p x.members x.inner)
     (λ x. index_into g.base g.index x.members x.inner)
     (sym c.look_into.ensures
-    ∙ c.in-Seen.is
-    ∙ ap Seen c.in-Pointer.is)
-    (sym c.type_at.ensures ∙ c.in-Known.is)
+    ∙ c.in_ok-t.was
+    ∙ ap Ok c.in-Pointer.is)
+    (sym c.type_at.ensures ∙ c.in-Some.is)
 
-pub returns-in-Unknown : goal.returns-in-Unknown
-returns-in-Unknown c =
+pub returns-in-None : goal.returns-in-None
+returns-in-None c =
     let g = c.args in
-    base-unknown g.frames.now g.s g.answers.now g.places.now g.here g.base
+    base-unknown g.ctx.now.frames.now g.ctx.now.starts g.ctx.now.answers.now g.ctx.now.places.now g.here g.base
     (λ b p x. index_through g.base g.index b p x.members x.inner)
     (λ x. index_into g.base g.index x.members x.inner)
     (sym c.look_into.ensures
-    ∙ c.in-Seen.is
-    ∙ ap Seen c.in-Pointer.is)
-    (sym c.type_at.ensures ∙ c.in-Unknown.is)
+    ∙ c.in_ok-t.was
+    ∙ ap Ok c.in-Pointer.is)
+    (sym c.type_at.ensures ∙ c.in-None.is)
 
 pub returns-in_default : goal.returns-in_default
 returns-in_default c =
     let g = c.args in
     c.index_into.ensures
-    ∙ base-into g.frames.now g.s g.answers.now g.places.now g.here g.base
+    ∙ base-into g.ctx.now.frames.now g.ctx.now.starts g.ctx.now.answers.now g.ctx.now.places.now g.here g.base
     (λ b p x. index_through g.base g.index b p x.members x.inner)
     (λ x. index_into g.base g.index x.members x.inner)
-    (sym c.look_into.ensures ∙ c.in-Seen.is)
+    (sym c.look_into.ensures ∙ c.in_ok-t.was)
     (not-pointer _ c.in_default.not-Pointer)
 
-pub returns-in-Ended : goal.returns-in-Ended
-returns-in-Ended c =
+pub returns-in_err-t : goal.returns-in_err-t
+returns-in_err-t c =
     let g = c.args in
-    c.ended.ensures
-    ∙ base-ended g.frames.now g.s g.answers.now g.places.now g.here g.base
+    let p = err_from_is_err_and c.from_residual.result c.from_residual.ensures.1 in
+    rw (p.1, p.2)
+    (ended-is c.in_err-t.field-0.0
+    ∙ base-ended g.ctx.now.frames.now g.ctx.now.starts g.ctx.now.answers.now g.ctx.now.places.now g.here g.base
     (λ b p x. index_through g.base g.index b p x.members x.inner)
     (λ x. index_into g.base g.index x.members x.inner)
-    (sym c.look_into.ensures ∙ c.in-Ended.is)
+    (sym c.look_into.ensures ∙ c.in_err-t.was))

@@ -1,53 +1,57 @@
 -- `cooperative_load`: its operand is a pointer whose base is seen or unknown, or another type, or the row ends with
 -- what ended the look.
+use Rattle.std.proofs.lemmas.Result.{err_from_is_err_and}
+use Rattle.row_operands.proofs.Ended.{ended-is}
+use Rattle.std.specs.Prelude.{Ok}
 use mathlib.Core.Path.{sym, ap, ◌∙◌}
 use Rattle.ir.specs.TypeMethods.{scalar_in, pointer_base}
 use Rattle.rule_rows.specs.Results.{cooperative_of, base_scalar}
-use Rattle.row_operands.specs.declared.Looked.TheVariants.{Seen}
 use Rattle.row_operands.proofs.NotKind.{not-pointer}
 use Rattle.row_operands.proofs.Steps.{base-into, base-through, base-unknown, base-ended}
 use Rattle.row_access.proofs.reads.cooperative_load.Goals as goal
 
-pub returns-in-Known : goal.returns-in-Known
-returns-in-Known c =
+pub returns-in-Some : goal.returns-in-Some
+returns-in-Some c =
     let g =
     c.args in
     rw (c.cooperative_of.ensures, c.scalar.ensures)
-    (base-through g.frames.now g.s g.answers.now g.places.now g.here g.pointer
+    (base-through g.ctx.now.frames.now g.ctx.now.starts g.ctx.now.answers.now g.ctx.now.places.now g.here g.pointer
     (λ b p x. cooperative_of g.columns g.rows g.role g.pointer (scalar_in x.inner))
     (λ x. cooperative_of g.columns g.rows g.role g.pointer (base_scalar (pointer_base x.inner)))
     (sym c.look_into.ensures
-    ∙ c.in-Seen.is
-    ∙ ap Seen c.in-Pointer.is)
-    (sym c.type_at.ensures ∙ c.in-Known.is))
+    ∙ c.in_ok-t.was
+    ∙ ap Ok c.in-Pointer.is)
+    (sym c.type_at.ensures ∙ c.in-Some.is))
 
-pub returns-in-Unknown : goal.returns-in-Unknown
-returns-in-Unknown c =
+pub returns-in-None : goal.returns-in-None
+returns-in-None c =
     let g = c.args in
-    base-unknown g.frames.now g.s g.answers.now g.places.now g.here g.pointer
+    base-unknown g.ctx.now.frames.now g.ctx.now.starts g.ctx.now.answers.now g.ctx.now.places.now g.here g.pointer
     (λ b p x. cooperative_of g.columns g.rows g.role g.pointer (scalar_in x.inner))
     (λ x. cooperative_of g.columns g.rows g.role g.pointer (base_scalar (pointer_base x.inner)))
     (sym c.look_into.ensures
-    ∙ c.in-Seen.is
-    ∙ ap Seen c.in-Pointer.is)
-    (sym c.type_at.ensures ∙ c.in-Unknown.is)
+    ∙ c.in_ok-t.was
+    ∙ ap Ok c.in-Pointer.is)
+    (sym c.type_at.ensures ∙ c.in-None.is)
 
 pub returns-in_default : goal.returns-in_default
 returns-in_default c =
     let g = c.args in
     rw (c.cooperative_of-in_default.ensures, c.base_scalar.ensures, c.pointer_base_type.ensures)
-    (base-into g.frames.now g.s g.answers.now g.places.now g.here g.pointer
+    (base-into g.ctx.now.frames.now g.ctx.now.starts g.ctx.now.answers.now g.ctx.now.places.now g.here g.pointer
     (λ b p x. cooperative_of g.columns g.rows g.role g.pointer (scalar_in x.inner))
     (λ x. cooperative_of g.columns g.rows g.role g.pointer (base_scalar (pointer_base x.inner)))
     (sym c.look_into.ensures
-    ∙ c.in-Seen.is)
+    ∙ c.in_ok-t.was)
     (not-pointer _ c.in_default.not-Pointer))
 
-pub returns-in-Ended : goal.returns-in-Ended
-returns-in-Ended c =
+pub returns-in_err-t : goal.returns-in_err-t
+returns-in_err-t c =
     let g = c.args in
-    c.ended.ensures
-    ∙ base-ended g.frames.now g.s g.answers.now g.places.now g.here g.pointer
+    let p = err_from_is_err_and c.from_residual.result c.from_residual.ensures.1 in
+    rw (p.1, p.2)
+    (ended-is c.in_err-t.field-0.0
+    ∙ base-ended g.ctx.now.frames.now g.ctx.now.starts g.ctx.now.answers.now g.ctx.now.places.now g.here g.pointer
     (λ b p x. cooperative_of g.columns g.rows g.role g.pointer (scalar_in x.inner))
     (λ x. cooperative_of g.columns g.rows g.role g.pointer (base_scalar (pointer_base x.inner)))
-    (sym c.look_into.ensures ∙ c.in-Ended.is)
+    (sym c.look_into.ensures ∙ c.in_err-t.was))

@@ -1,21 +1,25 @@
 -- `swizzle`: its operand is seen, or the row ends with what ended the look.
+use Rattle.std.proofs.lemmas.Result.{err_from_is_err_and}
+use Rattle.row_operands.proofs.Ended.{ended-is}
 use mathlib.Core.Path.{sym, ◌∙◌}
 use Rattle.rule_rows.specs.Access.{swizzle_of}
 use Rattle.row_operands.proofs.Steps.{type-seen, type-ended}
 use Rattle.row_access.proofs.reads.swizzle.Goals as goal
 
-pub returns-in-Seen : goal.returns-in-Seen
-returns-in-Seen c =
+pub returns : goal.returns
+returns c =
     let g = c.args in
     c.swizzle_of.ensures
-    ∙ type-seen g.frames.now g.s g.answers.now g.places.now g.here g.vector
+    ∙ type-seen g.ctx.now.frames.now g.ctx.now.starts g.ctx.now.answers.now g.ctx.now.places.now g.here g.vector
     (swizzle_of g.size g.vector)
-    (sym c.look_into.ensures ∙ c.in-Seen.is)
+    (sym c.look_into.ensures ∙ c.in_ok-inner.was)
 
-pub returns-in-Ended : goal.returns-in-Ended
-returns-in-Ended c =
+pub returns-in_err-inner : goal.returns-in_err-inner
+returns-in_err-inner c =
     let g = c.args in
-    c.ended.ensures
-    ∙ type-ended g.frames.now g.s g.answers.now g.places.now g.here g.vector
+    let p = err_from_is_err_and c.from_residual.result c.from_residual.ensures.1 in
+    rw (p.1, p.2)
+    (ended-is c.in_err-inner.field-0.0
+    ∙ type-ended g.ctx.now.frames.now g.ctx.now.starts g.ctx.now.answers.now g.ctx.now.places.now g.here g.vector
     (swizzle_of g.size g.vector)
-    (sym c.look_into.ensures ∙ c.in-Ended.is)
+    (sym c.look_into.ensures ∙ c.in_err-inner.was))

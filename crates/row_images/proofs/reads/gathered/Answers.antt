@@ -1,19 +1,25 @@
 -- `gathered`: its operand is seen, or the row ends with what ended the look.
+use Rattle.std.proofs.lemmas.Result.{err_from_is_err_and}
+use Rattle.row_operands.proofs.Ended.{ended-is}
 use mathlib.Core.Path.{sym, ◌∙◌}
 use Rattle.rule_rows.specs.Images.{gathered_of}
 use Rattle.row_operands.proofs.Steps.{type-seen, type-ended}
 use Rattle.row_images.proofs.reads.gathered.Goals as goal
 
-pub returns-in-Seen : goal.returns-in-Seen
-returns-in-Seen c =
+pub returns : goal.returns
+returns c =
     let g = c.args in
     c.gathered_of.ensures
-    ∙ type-seen g.frames.now g.s g.answers.now g.places.now g.here g.image (gathered_of g.image)
-    (sym c.look_into.ensures ∙ c.in-Seen.is)
+    ∙ type-seen g.ctx.now.frames.now g.ctx.now.starts g.ctx.now.answers.now g.ctx.now.places.now g.here g.image
+    (gathered_of g.image)
+    (sym c.look_into.ensures ∙ c.in_ok-inner.was)
 
-pub returns-in-Ended : goal.returns-in-Ended
-returns-in-Ended c =
+pub returns-in_err-inner : goal.returns-in_err-inner
+returns-in_err-inner c =
     let g = c.args in
-    c.ended.ensures
-    ∙ type-ended g.frames.now g.s g.answers.now g.places.now g.here g.image (gathered_of g.image)
-    (sym c.look_into.ensures ∙ c.in-Ended.is)
+    let p = err_from_is_err_and c.from_residual.result c.from_residual.ensures.1 in
+    rw (p.1, p.2)
+    (ended-is c.in_err-inner.field-0.0
+    ∙ type-ended g.ctx.now.frames.now g.ctx.now.starts g.ctx.now.answers.now g.ctx.now.places.now g.here g.image
+    (gathered_of g.image)
+    (sym c.look_into.ensures ∙ c.in_err-inner.was))

@@ -19,5 +19,7 @@ counts here image q (inr (inr e)) = ap (image_query here image) (sym e)
 pub returns-in-NumLevels : goal.returns-in-NumLevels
 returns-in-NumLevels c =
     let a = c.args in
-    c.scalar_type.ensures ∙ sym (done-run a.frames.now a.s a.answers.now a.places.now _)
-    ∙ ap (ruled a.frames.now a.s a.answers.now a.places.now) (counts a.here a.image a.query c.in-NumLevels.is)
+    c.scalar_type.ensures ∙ sym (done-run a.ctx.now.frames.now a.ctx.now.starts a.ctx.now.answers.now
+    a.ctx.now.places.now _)
+    ∙ ap (ruled a.ctx.now.frames.now a.ctx.now.starts a.ctx.now.answers.now a.ctx.now.places.now)
+    (counts a.here a.image a.query c.in-NumLevels.is)

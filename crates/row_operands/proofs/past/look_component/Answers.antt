@@ -6,4 +6,5 @@ use Rattle.row_operands.proofs.past.look_component.Goals as goal
 pub returns : goal.returns
 returns c =
     let g = c.args in
-    c.look_in.ensures ∙ few-look g.frames.now g.s g.answers.now g.places.now g.n g.n
+    c.look_in.ensures ∙ few-look g.ctx.now.frames.now g.ctx.now.starts g.ctx.now.answers.now g.ctx.now.places.now g.n
+    g.n

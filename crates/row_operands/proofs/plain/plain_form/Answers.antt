@@ -9,15 +9,15 @@ returns-in-1 c = rw (c.in-1.is, c.scalar-scalar.ensures)
 
 pub returns-in-2 : goal.returns-in-2
 unfolding plain_of type_of
-returns-in-2 c = rw (c.in-2.is, c.from_number-size.ensures, c.scalar-scalar.ensures)
+returns-in-2 c = rw (c.in-2.is, c.from-size.ensures, c.scalar-scalar.ensures)
 
 pub returns-in-3 : goal.returns-in-3
 unfolding plain_of type_of
 returns-in-3 c =
     rw (
       c.in-3.is,
-      c.from_number-rows.ensures,
-      c.from_number-columns.ensures,
+      c.from-rows.ensures,
+      c.from-columns.ensures,
       c.scalar-scalar.ensures,
     )
 
@@ -26,8 +26,8 @@ unfolding plain_of type_of
 returns-in-4 c =
     rw (
       c.in-4.is,
-      c.from_number-role.ensures,
-      c.from_number-rows-in-4.ensures,
-      c.from_number-columns-in-4.ensures,
+      c.from-role.ensures,
+      c.from-rows-in-4.ensures,
+      c.from-columns-in-4.ensures,
       c.scalar-scalar.ensures,
     )

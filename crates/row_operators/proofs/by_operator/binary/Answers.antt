@@ -34,5 +34,7 @@ as-left here left right op (inr (inr (inr (inr (inr (inr (inr (inr e)))))))) =
 pub returns-in-Add : goal.returns-in-Add
 returns-in-Add c =
     let g = c.args in
-    ap to_result c.past.ensures ∙ sym (same-run g.frames.now g.s g.answers.now g.places.now g.left)
-    ∙ ap (ruled g.frames.now g.s g.answers.now g.places.now) (as-left g.here g.left g.right g.op c.in-Add.is)
+    ap to_result c.past.ensures ∙ sym (same-run g.ctx.now.frames.now g.ctx.now.starts g.ctx.now.answers.now
+    g.ctx.now.places.now g.left)
+    ∙ ap (ruled g.ctx.now.frames.now g.ctx.now.starts g.ctx.now.answers.now g.ctx.now.places.now)
+    (as-left g.here g.left g.right g.op c.in-Add.is)

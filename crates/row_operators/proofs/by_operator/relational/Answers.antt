@@ -18,5 +18,7 @@ as-bool here argument f (inr e) = ap (λ h. relational here h argument) (sym e)
 pub returns-in-All : goal.returns-in-All
 returns-in-All c =
     let g = c.args in
-    c.scalar_type.ensures ∙ sym (done-run g.frames.now g.s g.answers.now g.places.now _)
-    ∙ ap (ruled g.frames.now g.s g.answers.now g.places.now) (as-bool g.here g.argument g.fun c.in-All.is)
+    c.scalar_type.ensures ∙ sym (done-run g.ctx.now.frames.now g.ctx.now.starts g.ctx.now.answers.now
+    g.ctx.now.places.now _)
+    ∙ ap (ruled g.ctx.now.frames.now g.ctx.now.starts g.ctx.now.answers.now g.ctx.now.places.now)
+    (as-bool g.here g.argument g.fun c.in-All.is)

@@ -4,7 +4,7 @@ use mathlib.Core.Path.{◌≡◌, sym, ap, ◌∙◌}
 use mathlib.Core.List.{List}
 use Rattle.ir.specs.declared.RowNumber.{RowNumber}
 use Rattle.ir.specs.declared.Expression.{Expression}
-use Rattle.answers.specs.declared.Answer.{Answer}
+use Rattle.answers.specs.Answer.{Answer}
 use Rattle.archive.specs.declared.Starts.{Starts}
 use Rattle.rule.specs.Answers.{Typed, Result, told}
 use Rattle.rule.specs.Rule.{done}

@@ -13,34 +13,35 @@ look_both-requires c =
     λ x y p q.
     let g = c.args in
     right-other g.op (shape_of x) (shape_of y)
-    (unshown g.frames.now g.s g.here g.answers.now g.places.now g.right y
+    (unshown g.ctx.now.frames.now g.ctx.now.starts g.here g.ctx.now.answers.now g.ctx.now.places.now g.right y
     c.past_frame-g.ensures
-    c.typed_frame-in-Known.ensures c.plain_form-in-Known.ensures
-    c.in-Unknown-plain_form.is q)
+    c.typed_frame-in-Some.ensures c.plain_form-in-Some.ensures
+    c.in-None-plain_form.is q)
 
-pub look_both-requires-in-Unknown : goal.look_both-requires-in-Unknown
-look_both-requires-in-Unknown c =
+pub look_both-requires-in-None : goal.look_both-requires-in-None
+look_both-requires-in-None c =
     λ x y p q.
     let g = c.args in
     left_other g.op (shape_of x) (shape_of y)
-    (unshown g.frames.now g.s g.here g.answers.now g.places.now g.left x
+    (unshown g.ctx.now.frames.now g.ctx.now.starts g.here g.ctx.now.answers.now g.ctx.now.places.now g.left x
     c.past_frame-f.ensures
     c.typed_frame.ensures c.plain_form.ensures
-    c.in-Unknown.is p)
+    c.in-None.is p)
 
-pub returns-in-Known-plain_form : goal.returns-in-Known-plain_form
-returns-in-Known-plain_form c =
+pub returns-in-Some-plain_form : goal.returns-in-Some-plain_form
+returns-in-Some-plain_form c =
     let g = c.args in
     c.shapes_result.ensures
-    ∙ both-seen (wgsl_of g.op) g.frames.now g.s g.here g.answers.now g.places.now g.left
+    ∙ both-seen (wgsl_of g.op) g.ctx.now.frames.now g.ctx.now.starts g.here g.ctx.now.answers.now g.ctx.now.places.now
+    g.left
     g.right
-    (shown-seen g.frames.now g.s g.here g.answers.now g.places.now g.left
+    (shown-seen g.ctx.now.frames.now g.ctx.now.starts g.here g.ctx.now.answers.now g.ctx.now.places.now g.left
     c.past_frame-f.ensures
     c.typed_frame.ensures
     c.plain_form.ensures
-    c.in-Known.is)
-    (shown-seen g.frames.now g.s g.here g.answers.now g.places.now g.right
-    c.past_frame-g.ensures c.typed_frame-in-Known.ensures
-    c.plain_form-in-Known.ensures
-    c.in-Known-plain_form.is) _
-    (λ a b u v. rw (c.shape_of-in-Known-plain_form.ensures, c.shape_of.ensures))
+    c.in-Some.is)
+    (shown-seen g.ctx.now.frames.now g.ctx.now.starts g.here g.ctx.now.answers.now g.ctx.now.places.now g.right
+    c.past_frame-g.ensures c.typed_frame-in-Some.ensures
+    c.plain_form-in-Some.ensures
+    c.in-Some-plain_form.is) _
+    (λ a b u v. rw (c.shape_of-in-Some-plain_form.ensures, c.shape_of.ensures))

@@ -8,4 +8,5 @@ returns-in-Struct c =
     let g = c.args in
     rw c.in-Struct.is
     (c.counted_parts-in-Struct.ensures
-    ∙ struct-counted g.frames.now g.s g.answers.now g.places.now g.first g.count _ _)
+    ∙ struct-counted g.ctx.now.frames.now g.ctx.now.starts g.ctx.now.answers.now g.ctx.now.places.now g.first g.count
+    _ _)

@@ -8,11 +8,13 @@ returns-then-expected-count c =
     let g = c.args in
     c.each_part.ensures
     ∙ sym
-    (counted-yes g.frames.now g.s g.answers.now g.places.now g.first g.count g.expected _
+    (counted-yes g.ctx.now.frames.now g.ctx.now.starts g.ctx.now.answers.now g.ctx.now.places.now g.first g.count
+    g.expected _
     c.if-expected-count.true)
 
 pub returns-else-expected-count : goal.returns-else-expected-count
 returns-else-expected-count c =
     let g = c.args in
-    sym (counted-no g.frames.now g.s g.answers.now g.places.now g.first g.count g.expected _
+    sym (counted-no g.ctx.now.frames.now g.ctx.now.starts g.ctx.now.answers.now g.ctx.now.places.now g.first g.count
+    g.expected _
     c.if-expected-count.false)

@@ -15,7 +15,7 @@ returns-then-f-eq10 c =
     c.without_type.ensures
     ∙ refused-is g.i
     (λ t. form_decides g.i (λ u. count_decides g.i (adds g.scalar u))
-    (form_in g.frames.now g.s (resolved t))) g.answers.now g.places.now g.n
+    (form_in g.ctx.now.frames.now g.ctx.now.starts (resolved t))) g.ctx.now.answers.now g.ctx.now.places.now g.n
     c.past_frame-f.ensures c.if-f-eq10.true
 
 pub returns-in-1 : goal.returns-in-1
@@ -23,9 +23,10 @@ returns-in-1 c =
     let g = c.args in
     let f = c.typed_frame-g.result in
     rw (c.adds_if.ensures, c.scalar_is.ensures)
-    (looked-is g.frames.now g.s g.n g.i (λ t. count_decides g.i (adds g.scalar t)) g.answers.now
-    g.places.now g.n
-    (shown-seen g.frames.now g.s g.n g.answers.now g.places.now g.n
+    (looked-is g.ctx.now.frames.now g.ctx.now.starts g.n g.i (λ t. count_decides g.i
+    (adds g.scalar t)) g.ctx.now.answers.now
+    g.ctx.now.places.now g.n
+    (shown-seen g.ctx.now.frames.now g.ctx.now.starts g.n g.ctx.now.answers.now g.ctx.now.places.now g.n
     c.past_frame-f.ensures
     c.typed_frame-g.ensures refl (plain-scalar f c.in-1.is)))
 
@@ -35,13 +36,14 @@ returns-in-2 c =
     let f = c.typed_frame-g.result in
     rw (
       c.adds_if-in-2.ensures,
-      c.number.ensures,
+      c.from.ensures,
       c.scalar_is-in-2.ensures,
-      c.from_number-size.ensures,
+      c.from-size.ensures,
     )
-    (looked-is g.frames.now g.s g.n g.i (λ t. count_decides g.i (adds g.scalar t)) g.answers.now
-    g.places.now g.n
-    (shown-seen g.frames.now g.s g.n g.answers.now g.places.now g.n
+    (looked-is g.ctx.now.frames.now g.ctx.now.starts g.n g.i (λ t. count_decides g.i
+    (adds g.scalar t)) g.ctx.now.answers.now
+    g.ctx.now.places.now g.n
+    (shown-seen g.ctx.now.frames.now g.ctx.now.starts g.n g.ctx.now.answers.now g.ctx.now.places.now g.n
     c.past_frame-f.ensures
     c.typed_frame-g.ensures refl
     (plain-vector f c.in-2.is)))

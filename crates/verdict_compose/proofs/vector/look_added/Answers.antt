@@ -5,18 +5,18 @@ use Rattle.verdict_compose.specs.Decided.{count_decides}
 use Rattle.verdict_compose.proofs.OneComponent.{looked-is}
 use Rattle.verdict_compose.proofs.vector.look_added.Goals as goal
 
-pub returns-in-Seen : goal.returns-in-Seen
-returns-in-Seen c =
+pub returns-in-Ok : goal.returns-in-Ok
+returns-in-Ok c =
     let g = c.args in
     c.count_added.ensures
-    ∙ looked-is g.frames.now g.s g.n g.i (λ t. count_decides g.i (adds g.scalar t))
-    g.answers.now g.places.now g.n
-    (sym c.look_component.ensures ∙ c.in-Seen.is)
+    ∙ looked-is g.ctx.now.frames.now g.ctx.now.starts g.n g.i (λ t. count_decides g.i (adds g.scalar t))
+    g.ctx.now.answers.now g.ctx.now.places.now g.n
+    (sym c.look_component.ensures ∙ c.in-Ok.is)
 
-pub returns-in-Ended : goal.returns-in-Ended
-returns-in-Ended c =
+pub returns-in-Err : goal.returns-in-Err
+returns-in-Err c =
     let g = c.args in
     c.by_end.ensures
-    ∙ looked-is g.frames.now g.s g.n g.i (λ t. count_decides g.i (adds g.scalar t))
-    g.answers.now g.places.now g.n
-    (sym c.look_component.ensures ∙ c.in-Ended.is)
+    ∙ looked-is g.ctx.now.frames.now g.ctx.now.starts g.n g.i (λ t. count_decides g.i (adds g.scalar t))
+    g.ctx.now.answers.now g.ctx.now.places.now g.n
+    (sym c.look_component.ensures ∙ c.in-Err.is)

@@ -1,7 +1,7 @@
 -- `vector_parts`: a component that adds leaves the rest to add; the first that does not decides; the total comes last.
 use mathlib.Core.Path.{sym, ◌∙◌}
 use native.Mathlib.Omega.{arith}
-use Prim.Native.Nat.{◌≤◌}
+use Rattle.std.proofs.lemmas.Result.{err_from_is_err_and}
 use borrow.Author.Tests.{eq-eqb, ne_eqb}
 use Rattle.rule_compose.specs.Verdict.{vector_parts}
 use Rattle.rule_rows.specs.OverBuffer.{answer_in}
@@ -15,54 +15,59 @@ loop-i-preserved c =
     let g = c.args in
     let l = c.loop-i in
     let h = c.loop-i-test.true in
-    let small : c.in-Adds.m ≤ 4 =
-    added-small g.frames.now g.s g.scalar l.i
-    (answer_in g.answers.now g.places.now c.component_at-row.result) _
-    (sym c.added_by.ensures ∙ c.in-Adds.is) in
+    let small =
+    added-small g.ctx.now.frames.now g.ctx.now.starts g.scalar l.i
+    (answer_in g.ctx.now.answers.now g.ctx.now.places.now c.component_at-row.result) _
+    (sym c.added_by.ensures ∙ c.in_ok-total.was) in
     record {
-      few = omega (arith, h);
       small = omega (arith, l.invariant.small, small);
       same = l.invariant.same
-          ∙ adds_on g.frames.now g.s g.answers.now g.places.now g.first g.count
-          (vector_parts g.size g.scalar) (added_by g.frames.now g.s g.scalar)
-          (vector-step g.frames.now g.s g.answers.now g.places.now g.size g.scalar) l.i
+          ∙ adds_on g.ctx.now.frames.now g.ctx.now.starts g.ctx.now.answers.now g.ctx.now.places.now g.first g.count
+          (vector_parts g.size g.scalar) (added_by g.ctx.now.frames.now g.ctx.now.starts g.scalar)
+          (vector-step g.ctx.now.frames.now g.ctx.now.starts g.ctx.now.answers.now g.ctx.now.places.now g.size
+          g.scalar) l.i
           l.total h _
-          (read g.frames.now g.s g.answers.now g.places.now
-          (added_by g.frames.now g.s g.scalar l.i)
+          (read g.ctx.now.frames.now g.ctx.now.starts g.ctx.now.answers.now g.ctx.now.places.now
+          (added_by g.ctx.now.frames.now g.ctx.now.starts g.scalar l.i)
           c.component_at-row.ensures
           c.added_by.ensures
-          c.in-Adds.is);
+          c.in_ok-total.was);
     }
 
-pub returns-in-Ends : goal.returns-in-Ends
-returns-in-Ends c =
+pub returns-in_err-total : goal.returns-in_err-total
+returns-in_err-total c =
     let g = c.args in
     let l = c.loop-i in
     let h = c.loop-i-test.true in
-    sym (l.invariant.same
-    ∙ ends g.frames.now g.s g.answers.now g.places.now g.first g.count
-    (vector_parts g.size g.scalar) (added_by g.frames.now g.s g.scalar)
-    (vector-step g.frames.now g.s g.answers.now g.places.now g.size g.scalar) l.i l.total h _
-    (read g.frames.now g.s g.answers.now g.places.now
-    (added_by g.frames.now g.s g.scalar l.i)
+    let p = err_from_is_err_and c.from_residual.result c.from_residual.ensures.1 in
+    rw (p.1, p.2)
+    (sym (l.invariant.same
+    ∙ ends g.ctx.now.frames.now g.ctx.now.starts g.ctx.now.answers.now g.ctx.now.places.now g.first g.count
+    (vector_parts g.size g.scalar) (added_by g.ctx.now.frames.now g.ctx.now.starts g.scalar)
+    (vector-step g.ctx.now.frames.now g.ctx.now.starts g.ctx.now.answers.now g.ctx.now.places.now g.size g.scalar) l.i
+    l.total h _
+    (read g.ctx.now.frames.now g.ctx.now.starts g.ctx.now.answers.now g.ctx.now.places.now
+    (added_by g.ctx.now.frames.now g.ctx.now.starts g.scalar l.i)
     c.component_at-row.ensures
     c.added_by.ensures
-    c.in-Ends.is))
+    c.in_err-total.was)))
 
 pub returns-then-expected-total : goal.returns-then-expected-total
 returns-then-expected-total c =
     let g = c.args in
     let l = c.loop-i in
     let e =
-    added-end g.frames.now g.s g.answers.now g.places.now g.first g.count g.size g.scalar
+    added-end g.ctx.now.frames.now g.ctx.now.starts g.ctx.now.answers.now g.ctx.now.places.now g.first g.count g.size
+    g.scalar
     l.i l.total c.loop-i-test.false in
-    rw (l.invariant.same, e, ← c.number-expected.ensures, eq-eqb _ _ c.if-expected-total.true)
+    rw (l.invariant.same, e, ← c.from-expected.ensures, eq-eqb _ _ c.if-expected-total.true)
 
 pub returns-else-expected-total : goal.returns-else-expected-total
 returns-else-expected-total c =
     let g = c.args in
     let l = c.loop-i in
     let e =
-    added-end g.frames.now g.s g.answers.now g.places.now g.first g.count g.size g.scalar
+    added-end g.ctx.now.frames.now g.ctx.now.starts g.ctx.now.answers.now g.ctx.now.places.now g.first g.count g.size
+    g.scalar
     l.i l.total c.loop-i-test.false in
-    rw (l.invariant.same, e, ← c.number-expected.ensures, ne_eqb _ _ c.if-expected-total.false)
+    rw (l.invariant.same, e, ← c.from-expected.ensures, ne_eqb _ _ c.if-expected-total.false)
