@@ -1,7 +1,7 @@
 // Reading a stream into a buffer, what programs do with one and print, and the numbers in a line of a file of cases.
 ghost use Rattle.std.specs.Fn.{FnOnceReturnsAt, FnOnceReturnsAtMut};
 ghost use Rattle.std.specs.Prelude.{◌≡◌, ◌+◌, ◌*◌, ◌%◌, ◌<◌, ◌≤◌, List, ℕ, Option, IfOk, OnOk, OnErr, IfSome, fold};
-ghost use Rattle.std.specs.Prelude.{length};
+ghost use Rattle.std.specs.Prelude.{length, replicate};
 
 use answers::MAX_TEXT_BYTES;
 use std::io;
@@ -52,6 +52,8 @@ pub fn print_lines<const N: usize, R: Print, F: FnOnce(&mut [u8]) -> Option<usiz
     requires callable { F.IsAlwaysCallable write }
     requires within { (old : List ℕ) (r : Option ℕ) (new : List ℕ)
         → FnOnceReturnsAtMut F.FnOnce write old r new → IfSome r (λ n. n ≤ length new) }
+    ensures { OnOk result ((r : Option ℕ) × (new : List ℕ)
+        × FnOnceReturnsAtMut F.FnOnce write (replicate N 0) r new) }
 {
     let mut lines = [0u8; N];
     if let Some(n) = write(&mut lines) {
