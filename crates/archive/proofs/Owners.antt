@@ -37,6 +37,19 @@ module _ (fr : List ℕ) (from to : ℕ) (owner : Owner) where
   pub inside : (k : ℕ) → from ≤ k → k < to → early_in fr (Parts from to owner) k ≡ is_early owner (frame_at fr k)
   inside k l m = rw (le-leb from k l, lt-ltb k to m)
 
+  -- none before the range
+  pub none_before : lowest (early_in fr (Parts from to owner)) from ≡ None
+  none_before = lowest-all early from (λ k l. outside k (inl l))
+
+  -- none up to the end of the range: none at all
+  pub none_after : (k n : ℕ) → lowest (early_in fr (Parts from to owner)) k ≡ None → to ≤ k
+      → None ≡ lowest (early_in fr (Parts from to owner)) n
+  none_after k n none l = sym (lowest-all early n (λ j m. go j (dec_lt j k)))
+    where
+      go : (j : ℕ) → Dec (j < k) → early j ≡ true
+      go j (yes lt) = none-all early k j none lt
+      go j (no nlt) = outside j (inr (omega arith))
+
   -- each is early up to m: each frame below m passes
   passed : (m : ℕ) → m ≤ to → ((k : ℕ) → from ≤ k → k < m → is_early owner (frame_at fr k) ≡ true) → (k : ℕ) → k < m
       → early k ≡ true

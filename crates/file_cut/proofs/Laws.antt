@@ -10,6 +10,7 @@ use lib.ListN.{length, take, drop, length-append, length-drop, take-append-drop}
 use lib.Seq.{take_at}
 use Rattle.frames.specs.declared.Frame.{Frame}
 use Rattle.frames.specs.Bytes.{frame_at, frame_count, put_frame}
+use Rattle.frames.proofs.Put.{put-length}
 use Rattle.archive.specs.Starts.{starts_of, row_count}
 use Rattle.archive.proofs.Ranks.{begins}
 use Rattle.rule.specs.Things.{listed}
@@ -112,3 +113,8 @@ pub all-pushed : (marks : List Bool) (fr : List ℕ) {k n m : ℕ} {b : List ℕ
     b
     → k ≡ n → n ≡ row_count (starts_of fr) → Pushed (cut_frames marks fr) m b
 all-pushed marks fr p e d = rw (← d, ← e) p
+
+-- a frame put or not, the buffer is as long as it was
+pub put-if-length : (x : Bool) (b : List ℕ) (n : ℕ) (f : Frame) → length (cond x (put_frame b n f) b) ≡ length b
+put-if-length true b n f = put-length b n f
+put-if-length false b n f = refl

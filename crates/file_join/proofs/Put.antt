@@ -66,6 +66,11 @@ pub put-all : {h : ℕ → Frame} {from to past : ℕ} {b x : List ℕ} {k : ℕ
     → x ≡ put_all b (from + past) (listed (λ (i : ℕ). h (from + i)) (to - from))
 put-all w l = rw (← le_antisymm w.few l) w.put
 
+-- the buffer is as long as it was
+pub put-long : {h : ℕ → Frame} {from to past : ℕ} {b x : List ℕ} {k : ℕ} → PutTo h from to past b x k
+    → length x ≡ length b
+put-long {b = b} w = ap length w.put ∙ all-length b _ _
+
 -- PART BY PART
 module _ (a b : ℕ → Frame) (p q : ℕ → ℕ) (p0 : p 0 ≡ 0) (q0 : q 0 ≡ 0) (rise-p : (i : ℕ) → p i ≤ p (suc i))
     (rise-q : (i : ℕ) → q i ≤ q (suc i)) where

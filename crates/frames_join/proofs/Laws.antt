@@ -4,8 +4,9 @@ use native.Mathlib.Omega.{arith}
 use mathlib.Core.Path.{◌≡◌, refl, sym, ap, ◌∙◌, subst}
 use mathlib.Core.List.{List, [], ◌∷◌}
 use Rattle.frames.specs.declared.Frame.{Frame}
+use Rattle.frames.specs.Bytes.{half, word}
 use Rattle.law_moved.specs.Moves.{Moves}
-use Rattle.law_moved.specs.Frames.{Spot, moved_at, moved_in}
+use Rattle.law_moved.specs.Frames.{Counted, Spot, two, four, move_of, with_half, with_word, moved_at, moved_in}
 use Rattle.law_moved.specs.Frames.{numbers_of}
 use Rattle.law_moved.specs.Frames.{moved_frame}
 use Rattle.law_moved.proofs.Written.{Fits, AllFit}
@@ -22,6 +23,30 @@ pub number-moved : (move : ℕ → ℕ) (w limit : ℕ) {old n r : ℕ} → n �
 number-moved move w limit {old} en past er l = let p = past old in omega (arith, er (omega arith))
 
 module _ (m : Moves) where
+  -- a number of two bytes moved past w, as `past` of src/moved.rt gives it, and put back into the frame
+  pub two-moved : (f : Frame) (w : ℕ) {x : Spot} {c : Counted} {i : ℕ} → x ≡ two c i → {n : ℕ} → n ≡ half f i
+      → ((y : ℕ) → move_of m c y ≡ y + w)
+      → {r : ℕ} → (n + w < 65536 → r ≡ n + w)
+      → {g : Frame} → g ≡ with_half f i r
+      → Fits m f x
+      → g ≡ moved_at m x f
+  two-moved f w {c = c} {i = i} ex {n} en past er eg fits =
+      let l : move_of m c (half f i) < 65536 = subst (Fits m f) ex fits in
+      eg ∙ ap (with_half f i) (number-moved (move_of m c) w 65536 en past er l)
+      ∙ ap (λ (y : Spot). moved_at m y f) (sym ex)
+
+  -- and of four
+  pub four-moved : (f : Frame) (w : ℕ) {x : Spot} {c : Counted} {i : ℕ} → x ≡ four c i → {n : ℕ} → n ≡ word f i
+      → ((y : ℕ) → move_of m c y ≡ y + w)
+      → {r : ℕ} → (n + w < 4294967296 → r ≡ n + w)
+      → {g : Frame} → g ≡ with_word f i r
+      → Fits m f x
+      → g ≡ moved_at m x f
+  four-moved f w {c = c} {i = i} ex {n} en past er eg fits =
+      let l : move_of m c (word f i) < 4294967296 = subst (Fits m f) ex fits in
+      eg ∙ ap (with_word f i) (number-moved (move_of m c) w 4294967296 en past er l)
+      ∙ ap (λ (y : Spot). moved_at m y f) (sym ex)
+
   -- one number, then the others
   in-turn : (x : Spot) (l : List Spot) (f g : Frame) {r : Frame} → (Fits m f x → g ≡ moved_at m x f)
       → (AllFit m l g → r ≡ moved_in m l g)

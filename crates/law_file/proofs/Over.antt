@@ -1,7 +1,9 @@
 -- What follows on the frames of an accepted file: the part of the frame buffer that is lent on is the text's frames.
 -- From the laws of reading a file.
-use Rattle.std.specs.Prelude.{ℕ, Ok, Err}
+use Rattle.std.specs.Prelude.{ℕ, Ok, Err, Some, None}
+use Rattle.std.specs.Result.{result_ok}
 use Prim.Native.Nat.{ℕ, ◌*◌}
+use native.Mathlib.Omega.{arith}
 use mathlib.Core.Path.{◌≡◌, refl, sym, ap, ◌∙◌}
 use mathlib.Core.List.{List}
 use lib.ListN.{length, take}
@@ -15,6 +17,20 @@ use Rattle.archive.specs.declared.Starts.{Starts}
 use Rattle.archive.specs.Starts.{starts_of}
 use Rattle.rule_file.specs.File.{over_file, read_file, frames_after}
 use Rattle.law_file.proofs.Laws.{accepted-when}
+
+never : {X : Type 0} → ◌≡◌ {A = ℕ} 0 1 → X
+never z = absurd (omega arith)
+
+-- an outcome that has a number of frames is accepted with it
+pub accepted-of : (o : Outcome) (n : ℕ) → result_ok o ≡ Some n → o ≡ Ok n
+accepted-of (Ok m) n e = let q : m ≡ n = cc in ap Ok q
+accepted-of (Err x) n e = never (cc)
+
+-- one that has none is handed on: what is given of it is what follows on the frames of a file
+pub refused_over : {A : Type 0} (f : Outcome → A) (g : List ℕ → A) (t : List ℕ) (o : Outcome) → result_ok o ≡ None
+    → f o ≡ over_file (λ (x : FileError). f (Err x)) g t o
+refused_over f g t (Ok m) e = never (cc)
+refused_over f g t (Err x) e = refl
 
 -- what is said of an outcome follows from it, whatever says it
 pub with-said : {A S B : Type 0} (said : A → S) {o q : A} → o ≡ q → B → (o ≡ q) × ((said o ≡ said q) × B)

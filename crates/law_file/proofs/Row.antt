@@ -350,3 +350,7 @@ front pass fr an m at b ea e =
     let n : length (frames_bytes (outputs pass (see fr) m))
     ≡ 16 * at = omega (arith, bytes-length (outputs pass (see fr) m), ea) in
     ap (take (16 * at)) e ∙ take_at (frames_bytes (outputs pass (see fr) m)) b (16 * at) n
+
+-- a buffer whose front is made anew is as long as it was
+pub long-as-was : (l an b : List ℕ) (i : ℕ) → an ≡ l ++ drop i b → length l ≡ i → i ≤ length b → length an ≡ length b
+long-as-was l an b i e n h = ap length e ∙ length-append l (drop i b) ∙ omega (arith, n, length-drop i b, h)

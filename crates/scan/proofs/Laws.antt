@@ -3,8 +3,8 @@ use Rattle.std.specs.Prelude.{ℕ, Option, Some, None}
 use mathlib.Core.Path.{◌≡◌, refl, sym, ap, ◌∙◌}
 use mathlib.Core.Bool.{Bool, true, false, cond, ◌&&◌}
 use mathlib.Core.Logic.{⊎_elim}
-use Prim.Native.Nat.{ℕ, zero, suc, ◌+◌, ◌<◌}
-use native.Mathlib.Nat.{le_of_suc-le-suc, eq-or-lt_of_le}
+use Prim.Native.Nat.{ℕ, zero, suc, ◌+◌, ◌≤◌, ◌<◌}
+use native.Mathlib.Nat.{le_of_suc-le-suc, eq-or-lt_of_le, le_antisymm}
 use native.Mathlib.Numerals.{add-one}
 use native.Mathlib.Omega.{arith}
 use lib.Dec.{leb}
@@ -44,6 +44,10 @@ module _ (ok : ℕ → Bool) where
   lowest-hit i (suc n) l none is f =
       ⊎_elim (λ e. rw (← e, none, ← is, f)) (λ lt. rw (← lowest-hit i n lt none is f))
       (eq-or-lt_of_le (le_of_suc-le-suc l))
+
+  -- at the end none was found
+  pub lowest-none : (i n : ℕ) → i ≤ n → n ≤ i → lowest ok i ≡ None → None ≡ lowest ok n
+  lowest-none i n l m none = rw (← le_antisymm l m, none)
 
   -- all pass: none is found
   pub lowest-all : (n : ℕ) → ((k : ℕ) → k < n → ok k ≡ true) → lowest ok n ≡ None

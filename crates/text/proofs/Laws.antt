@@ -16,7 +16,7 @@ use Rattle.scan.specs.Lowest.{lowest}
 use Rattle.scan.proofs.Laws.{and_second, by-test, LowestAt, found_at, at-found, none-all, lowest-all}
 use Rattle.scan.proofs.Fill.{length-build, get_d-build}
 use Rattle.answers.specs.Outcome.{Outcome}
-use Rattle.answers.specs.declared.FileError.TheVariants.{Long, Torn, Short}
+use Rattle.answers.specs.declared.FileError.TheVariants.{Long, Torn, Short, Order, Field, Index}
 use Rattle.answers.specs.Limit.{max_frames}
 use Rattle.text.specs.declared.AnswerRoom.{AnswerRoom}
 use Rattle.text.specs.declared.AnswerRoom.TheVariants.{NotLent, Lent}
@@ -257,10 +257,15 @@ answers-by-frame t n k l =
     rw (rw z at (decoded-at t n k 0 l (omega arith)), decoded-at t n k 1 l (omega arith))
 
 -- ---- the frame buffer after a reading
--- it is as it was unless the text was accepted
+-- it is as it was unless the text was accepted: case by case, so that an edit of one case is refused by that case
 pub unchanged : (t fr : List ℕ) (r : Outcome) → ((n : ℕ) → r ≡ Ok n → ⊥) → frames_read r t fr ≡ fr
 unchanged t fr (Ok n) h = absurd (h n refl)
-unchanged t fr (Err x) h = refl
+unchanged t fr (Err (Long m)) h = refl
+unchanged t fr (Err (Torn k)) h = refl
+unchanged t fr (Err Short) h = refl
+unchanged t fr (Err (Order k)) h = refl
+unchanged t fr (Err (Field k)) h = refl
+unchanged t fr (Err (Index k)) h = refl
 
 -- where it was accepted: fr before, last after
 module _ (t fr last : List ℕ) (n : ℕ) (r : Outcome) (el : last ≡ frames_read r t fr) (er : r ≡ Ok n) where

@@ -56,7 +56,11 @@ module _ (f : ℕ → ℕ) (d d₀ : List ℕ) (i : ℕ) (e : d ≡ build f i ++
       ∙ drop-append-add (build f i) (drop i d₀) m
       ∙ drop-drop m i d₀)
 
-  -- where an inner loop ends, m bytes on
+  -- where an inner loop begins
+  pub begun : d ≡ build f (i + 0) ++ drop (i + 0) d
+  begun = let z : i + 0 ≡ i = omega arith in rw z (e ∙ ap (λ l. build f i ++ l) (sym (rw z at (past 0))))
+
+  -- where it ends, m bytes on
   pub ended : (d' : List ℕ) (m j : ℕ) → j ≡ m → d' ≡ build f (i + j) ++ drop (i + j) d → d' ≡ build f (i + m)
       ++ drop (i + m) d₀
   ended d' m j z h = (rw z at h) ∙ ap (λ l. build f (i + m) ++ l) (past m)

@@ -4,7 +4,7 @@ use native.Mathlib.Omega.{arith}
 use mathlib.Core.Path.{◌≡◌, refl, sym, ap, ◌∙◌}
 use mathlib.Core.List.{List, [], ◌∷◌, ◌++◌, append_assoc, append-nil}
 use lib.ListN.{length, take, drop, length-append, length-drop}
-use lib.Seq.{take_at}
+use lib.Seq.{take_at, drop-length}
 use borrow.Author.Tests.{lt-ltb}
 use Rattle.scan.specs.Lists.{build}
 use Rattle.scan.proofs.Fill.{length-build, build-same}
@@ -19,6 +19,12 @@ build-on f i zero = let z : i + 0 ≡ i = omega arith in rw z (sym (append-nil (
 build-on f i (suc n) =
     let z : i + suc n ≡ suc (i + n) = omega arith in
     rw (z, build-on f i n) (append_assoc (build f i) (build (λ (j : ℕ). f (i + j)) n) (f (i + n) ∷ []))
+
+-- a buffer of sixteen bytes that is full
+pub line-full : (g : ℕ → ℕ) (l d : List ℕ) (j : ℕ) → j ≡ 16 → length l ≡ 16 → d ≡ build g j ++ drop j l → d ≡ build g 16
+line-full g l d j z n e =
+    let f : drop 16 l ≡ [] = ap (λ (i : ℕ). drop i l) (sym n) ∙ drop-length l in
+    (rw z at e) ∙ ap (λ (r : List ℕ). build g 16 ++ r) f ∙ append-nil (build g 16)
 
 sixteen : (g : ℕ → ℕ) → build g 16 ≡ bytes_of (framed g)
 unfolding build
