@@ -43,7 +43,9 @@ pub fn is_struct(frames: &[u8], s: Starts, t: TypeResolution) -> bool
     }
 }
 
-#[tactic(auto, using(rule_types::proofs::Derived::types_equal))]
+// Whether two forms are equal. A test of the bytes of their frames is proved too, none of them left out
+// (must-fail/byte_left_out.edit).
+#[tactic(auto, using(rule_types::proofs::Derived::types_equal), unfolding(rule_types::specs::Canonical::equal_types))]
 fn to_right(t: TypeInner, right: Option<TypeInner>) -> Option<bool>
     ensures { result ≡ found (by_forms (Some t) right) }
 {
