@@ -10,26 +10,30 @@ use frames::Frame;
 use frames_numbers::{Counted, Numbers, Spot, row_numbers, with_b2, with_b4, with_b8, with_b12};
 
 // How many of the first k rows are marked: row k's number in the cut.
-fn rank(marks: &[bool], k: usize) -> usize
+fn rank(marks: &[bool], k: u32) -> u32
     requires { k ≤ length marks.now }
     ensures { result ≡ rank marks.now k }
 {
-    marks[..k].iter().filter(|marked| **marked).count()
+    let mut n = 0;
+    for marked in &marks[..k as usize] {
+        n += u32::from(*marked);
+    }
+    n
 }
 
 // What becomes of a row's number: 0 for a row without a mark.
-fn row_number(marks: &[bool], k: usize) -> usize
+fn row_number(marks: &[bool], k: u32) -> u32
     ensures { result ≡ cut_row marks.now k }
 {
-    if k < marks.len() {
-        if marks[k] { rank(marks, k) } else { 0 }
+    if (k as usize) < marks.len() {
+        if marks[k as usize] { rank(marks, k) } else { 0 }
     } else {
         0
     }
 }
 
 // What becomes of a number: never a higher one.
-fn cut_number(marks: &[bool], counted: Counted, n: usize) -> usize
+fn cut_number(marks: &[bool], counted: Counted, n: u32) -> u32
     ensures moved { result ≡ move_of (cut_moves marks.now) (counted_of counted) n }
     ensures lower { result ≤ n }
 {
@@ -52,10 +56,10 @@ fn cut_spot(marks: &[bool], spot: Spot, f: Frame) -> Frame
     ensures { result ≡ moved_at (cut_moves marks.now) (spot_of spot) f }
 {
     match spot {
-        Spot::B2(counted) => with_b2(f, cut_number(marks, counted, f.named() as usize) as u16),
-        Spot::B4(counted) => with_b4(f, cut_number(marks, counted, f.count() as usize) as u16),
-        Spot::B8(counted) => with_b8(f, cut_number(marks, counted, f.third() as usize) as u32),
-        Spot::B12(counted) => with_b12(f, cut_number(marks, counted, f.last() as usize) as u32),
+        Spot::B2(counted) => with_b2(f, cut_number(marks, counted, u32::from(f.named())) as u16),
+        Spot::B4(counted) => with_b4(f, cut_number(marks, counted, u32::from(f.count())) as u16),
+        Spot::B8(counted) => with_b8(f, cut_number(marks, counted, f.third())),
+        Spot::B12(counted) => with_b12(f, cut_number(marks, counted, f.last())),
     }
 }
 
