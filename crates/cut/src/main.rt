@@ -18,7 +18,7 @@ use frames_answers::write::{outcome_frame, refused};
 use ir::RowNumber;
 use law_cut::CutText;
 use program_limit::arguments::{Cutting, asked_cutting};
-use program_limit::input::run_on_input;
+use program_limit::input::read_full;
 use std::io;
 
 fn print_frame(rt: &impl Print, frame: Frame) -> io::Result<()> {
@@ -45,7 +45,9 @@ fn print_cut(rt: &impl Print, text: &[u8], limit: u32, row: RowNumber) -> io::Re
 
 fn main(rt: HostRuntime) -> io::Result<()> {
     if let Some(Cutting { row, limit }) = asked_cutting(&rt)? {
-        run_on_input(&rt, |text| print_cut(&rt, text, limit, RowNumber(row)))?;
+        let mut text = [0u8; MAX_TEXT_BYTES + 1];
+        let n = read_full(&mut rt.reader(), &mut text)?;
+        print_cut(&rt, &text[..n], limit, RowNumber(row))?;
     }
     Ok(())
 }

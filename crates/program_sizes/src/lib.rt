@@ -6,14 +6,19 @@
 // room for any file's (`sized-fits`, `ranged-fits`).
 #![tactic(auto)]
 
+use answers::MAX_TEXT_BYTES;
 use explain_file::{MAX_SIZED_BYTES, ranges_text, sizes_text};
 use program_limit::arguments::{Listing, asked_listing};
-use program_limit::input::{print_lines, run_on_input};
+use program_limit::input::read_full;
 use std::io;
 use std::rt::Env;
 
 fn list_sizes(rt: &impl Print, text: &[u8], limit: u32) -> io::Result<()> {
-    print_lines::<MAX_SIZED_BYTES, _, _>(rt, |lines| sizes_text(text, limit, lines))
+    let mut lines = [0u8; MAX_SIZED_BYTES];
+    if let Some(n) = sizes_text(text, limit, &mut lines) {
+        rt.write_all(&lines[..n])?;
+    }
+    Ok(())
 }
 
 fn list_ranges(
@@ -23,20 +28,24 @@ fn list_ranges(
     least: &[u32],
     greatest: &[u32],
 ) -> io::Result<()> {
-    print_lines::<MAX_SIZED_BYTES, _, _>(rt, |lines| {
-        ranges_text(text, limit, least, greatest, lines)
-    })
+    let mut lines = [0u8; MAX_SIZED_BYTES];
+    if let Some(n) = ranges_text(text, limit, least, greatest, &mut lines) {
+        rt.write_all(&lines[..n])?;
+    }
+    Ok(())
 }
 
 // The whole program.
 pub fn list_file<R: Env + Input + Print + Eprint>(rt: &R) -> io::Result<()> {
     let mut least = [0u32; 1024];
     let mut greatest = [0u32; 1024];
-    match asked_listing(rt, &mut least, &mut greatest)? {
-        Some(Listing::Sizes(limit)) => run_on_input(rt, |text| list_sizes(rt, text, limit)),
-        Some(Listing::Ranges(limit)) => {
-            run_on_input(rt, |text| list_ranges(rt, text, limit, &least, &greatest))
+    if let Some(listing) = asked_listing(rt, &mut least, &mut greatest)? {
+        let mut text = [0u8; MAX_TEXT_BYTES + 1];
+        let n = read_full(&mut rt.reader(), &mut text)?;
+        match listing {
+            Listing::Sizes(limit) => list_sizes(rt, &text[..n], limit)?,
+            Listing::Ranges(limit) => list_ranges(rt, &text[..n], limit, &least, &greatest)?,
         }
-        None => Ok(()),
     }
+    Ok(())
 }

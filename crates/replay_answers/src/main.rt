@@ -13,7 +13,7 @@ use file_lines::type_text;
 use file_read::same_type;
 use frames::frame_at;
 use frames_answers::write::outcome_frame;
-use program_limit::input::{number_of, print_lines, read_full};
+use program_limit::input::{number_of, read_full};
 use rule_rows::Pass;
 use std::fs::File;
 use std::io;
@@ -23,7 +23,11 @@ use text_decode::read_text;
 
 // Prints what typing a text by the first pass writes; the buffer has room for any.
 fn print_types(rt: &impl Print, text: &[u8]) -> io::Result<()> {
-    print_lines::<MAX_LINE_BYTES, _, _>(rt, |lines| type_text(text, MAX_LIMIT, Pass::First, lines))
+    let mut lines = [0u8; MAX_LINE_BYTES];
+    if let Some(n) = type_text(text, MAX_LIMIT, Pass::First, &mut lines) {
+        rt.write_all(&lines[..n])?;
+    }
+    Ok(())
 }
 
 fn print_sameness(rt: &impl Print, same: Sameness) -> io::Result<()> {

@@ -14,7 +14,7 @@ ghost use Rattle.std.specs.Prelude.{◌≤◌, length};
 use answers::{MAX_FRAME_BYTES, MAX_LIMIT, MAX_LINE_BYTES, MAX_TEXT_BYTES};
 use file_lines::type_text;
 use frames::{Frame, put_frame};
-use program_limit::input::{number_of, print_lines, read_full};
+use program_limit::input::{number_of, read_full};
 use rule_rows::Pass;
 use std::fs::File;
 use std::io;
@@ -141,7 +141,11 @@ fn print_table(rt: &impl Print, text: &[u8], rows: u8) -> io::Result<()>
 
 // Prints the lines of a worked file by a pass.
 fn print_types(rt: &impl Print, text: &[u8], pass: Pass) -> io::Result<()> {
-    print_lines::<MAX_LINE_BYTES, _, _>(rt, |lines| type_text(text, MAX_LIMIT, pass, lines))
+    let mut lines = [0u8; MAX_LINE_BYTES];
+    if let Some(n) = type_text(text, MAX_LIMIT, pass, &mut lines) {
+        rt.write_all(&lines[..n])?;
+    }
+    Ok(())
 }
 
 fn print_worked(rt: &impl Print, text: &[u8]) -> io::Result<()> {

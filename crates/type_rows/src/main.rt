@@ -4,22 +4,28 @@
 // byte over the longest file; its buffer for lines has room for any file's.
 #![tactic(auto)]
 
-use answers::MAX_LINE_BYTES;
+use answers::{MAX_LINE_BYTES, MAX_TEXT_BYTES};
 use file_lines::type_text;
 use program_limit::Asked;
 use program_limit::arguments::asked;
-use program_limit::input::{print_lines, run_on_input};
+use program_limit::input::read_full;
 use rule_rows::Pass;
 use std::io;
 
 fn print_types(rt: &impl Print, text: &[u8], limit: u32, pass: Pass) -> io::Result<()> {
-    print_lines::<MAX_LINE_BYTES, _, _>(rt, |lines| type_text(text, limit, pass, lines))
+    let mut lines = [0u8; MAX_LINE_BYTES];
+    if let Some(n) = type_text(text, limit, pass, &mut lines) {
+        rt.write_all(&lines[..n])?;
+    }
+    Ok(())
 }
 
 fn main(rt: HostRuntime) -> io::Result<()> {
     if let Some(Asked { limit, wgsl }) = asked(&rt)? {
         let pass = if wgsl { Pass::Second } else { Pass::First };
-        run_on_input(&rt, |text| print_types(&rt, text, limit, pass))?;
+        let mut text = [0u8; MAX_TEXT_BYTES + 1];
+        let n = read_full(&mut rt.reader(), &mut text)?;
+        print_types(&rt, &text[..n], limit, pass)?;
     }
     Ok(())
 }

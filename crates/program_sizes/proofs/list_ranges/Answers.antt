@@ -1,6 +1,7 @@
--- The lines are within their buffer, where no table is too short.
-use Rattle.std.specs.Prelude.{ℕ, List, Bool, true, false, cond, ◌≡◌, ◌≤◌, length, Option, Some, None, IfSome}
-use Rattle.std.proofs.Common.{rules, refl, sym, ◌∙◌}
+-- What is lent to be written is a part of the buffer: the lines are within it, where no table is too short.
+use Rattle.std.proofs.Common.{◌≡◌, ◌≤◌, sym, ◌∙◌, ℕ, Bool, true, false, cond, List, length, arith}
+use lib.Seq.{length-take-le}
+use Rattle.std.specs.Prelude.{Option, Some, None}
 use Rattle.rule_file.specs.Printed.{printed, printed_after}
 use Rattle.rule_ranges.specs.Ranges.{counts_of}
 use Rattle.rule_file_sizes.specs.Ranges.{tables_short}
@@ -8,17 +9,27 @@ use Rattle.rule_explain.specs.Sized.{ranged}
 use Rattle.law_file.proofs.Printed.{bytes-within}
 use Rattle.program_sizes.proofs.list_ranges.Goals as goal
 
-within : (b : Bool) (l o last : List ℕ) (r : Option ℕ) → r ≡ cond b None (printed l (length o))
-    → last ≡ cond b o (printed_after l o) → IfSome r (λ n. n ≤ length last)
-within b l o last None e q = tt
-within true l o last (Some n) e q = absurd (search rules)
-within false l o last (Some n) e q = bytes-within l o last (Some n) n e q refl
+-- lines are within their buffer, where no table is too short
+or_short : (b : Bool) (l o last : List ℕ) (r : Option ℕ) (n : ℕ) → r ≡ cond b None (printed l (length o))
+    → last ≡ cond b o (printed_after l o) → r ≡ Some n → n ≤ length last
+or_short true l o last r n e q h =
+    let z : ◌≡◌ {A = Option ℕ} None (Some n) = sym e ∙ h in
+    let w : ◌≡◌ {A = ℕ} 0 1 = cc in absurd (omega arith)
+or_short false l o last r n e q h = bytes-within l o last r n e q h
 
-pub print_lines-requires-clause-within : goal.print_lines-requires-clause-within
-print_lines-requires-clause-within g c = λ old r new q.
-    let m = q.met in
+pub slice_bounds-lines-end : goal.slice_bounds-lines-end
+slice_bounds-lines-end g c =
+    let t = c.ranges_text in
     let a = c.args in
-    rw (← q.leaves)
-    (within (tables_short a.least.now a.greatest.now)
-    (ranged a.limit (counts_of a.least.now) (counts_of a.greatest.now) a.text.now) q.shown.now q.left.now r
-    (search rules) (search rules))
+    or_short (tables_short a.least.now a.greatest.now)
+    (ranged a.limit (counts_of a.least.now) (counts_of a.greatest.now) a.text.now) _ _ _ _ t.ensures.outcome
+    t.ensures.out c.in-Some.is
+
+pub slice_bounds-write_all-end : goal.slice_bounds-write_all-end
+slice_bounds-write_all-end g c =
+    let t = c.ranges_text in
+    let a = c.args in
+    sym (length-take-le _ _
+    (or_short (tables_short a.least.now a.greatest.now)
+    (ranged a.limit (counts_of a.least.now) (counts_of a.greatest.now) a.text.now) _ _ _ _ t.ensures.outcome
+    t.ensures.out c.in-Some.is))

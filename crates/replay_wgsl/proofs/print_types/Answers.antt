@@ -1,18 +1,14 @@
--- The lines are within their buffer.
-use Rattle.std.specs.Prelude.{ℕ, List, ◌≡◌, ◌≤◌, length, Option, Some, None, IfSome}
-use Rattle.std.proofs.Common.{rules, refl}
-use Rattle.rule_file.specs.Printed.{printed, printed_after}
-use Rattle.rule_file.specs.Typing.{typed_text}
+-- What is lent to be written is a part of the buffer: the lines are within it.
+use Rattle.std.proofs.Common.{sym}
+use lib.Seq.{length-take-le}
 use Rattle.law_file.proofs.Printed.{bytes-within}
 use Rattle.replay_wgsl.proofs.print_types.Goals as goal
 
-within : (l o last : List ℕ) (r : Option ℕ) → r ≡ printed l (length o) → last ≡ printed_after l o
-    → IfSome r (λ n. n ≤ length last)
-within l o last None e q = tt
-within l o last (Some n) e q = bytes-within l o last (Some n) n e q refl
+pub slice_bounds-lines-end : goal.slice_bounds-lines-end
+slice_bounds-lines-end g c =
+    let t = c.type_text in bytes-within _ _ _ _ _ t.ensures.outcome t.ensures.out c.in-Some.is
 
-pub print_lines-requires-clause-within : goal.print_lines-requires-clause-within
-print_lines-requires-clause-within g c = λ old r new q.
-    let m = q.met in
-    rw (← q.leaves) (within (typed_text c.args.pass 1024 c.args.text.now) q.shown.now q.left.now r (search rules)
-    (search rules))
+pub slice_bounds-write_all-end : goal.slice_bounds-write_all-end
+slice_bounds-write_all-end g c =
+    let t = c.type_text in
+    sym (length-take-le _ _ (bytes-within _ _ _ _ _ t.ensures.outcome t.ensures.out c.in-Some.is))
